@@ -1,0 +1,4 @@
+-- What every format shares.
+pub mod Refusals
+pub mod Sizes
+pub mod Lowest

@@ -1,0 +1,87 @@
+// What every format shares: refusals, total access to bytes, and the test of sizes.
+ghost use mathlib.Core.Path.{_≡_};
+ghost use Prim.Native.Nat.{ℕ};
+ghost use lib.ListN.{getD, set};
+ghost use Rattle.base.specs.Refusals.{refusalAt};
+ghost use Rattle.base.specs.Sizes.{countOut, sizesOut};
+
+// The largest number of input lines and of wires. The sheet names both with its other limits.
+pub const MAX_INPUTS: u8 = 4;
+
+pub const MAX_WIRES: u8 = 4;
+
+// A refusal: document 01's number, and the place that it names.
+pub struct Refusal {
+    pub number: u8,
+    pub place: usize,
+}
+
+impl Refusal {
+    pub const CUT_SHORT: u8 = 1;
+
+    pub const UNKNOWN: u8 = 2;
+
+    pub const OUT_OF_RANGE: u8 = 3;
+
+    pub const TRAILING: u8 = 4;
+
+    pub const OUT_OF_TURN: u8 = 5;
+
+    pub const NO_SIGNAL: u8 = 6;
+
+    pub const REPEATED: u8 = 7;
+
+    pub const TOO_MANY: u8 = 8;
+
+    pub const MISSING_ROW: u8 = 9;
+
+    pub const EMPTY: u8 = 10;
+
+    pub const NOT_ASCENDING: u8 = 11;
+
+    pub const SHORT_BUFFER: u8 = 12;
+
+    pub const SIZES_DIFFER: u8 = 13;
+
+    pub const TOO_LONG: u8 = 14;
+
+    pub fn at(number: u8, place: usize) -> Self
+        ensures { λ r. ⌜ r ≡ refusalAt number place ⌝ }
+    {
+        Refusal { number, place }
+    }
+}
+
+// The byte at a place, or 0 past the end.
+pub fn byte_at(s: &[u8], at: usize) -> u8
+    ensures { λ r. ⌜ r ≡ getD (now (s .entry)) at 0 ⌝ }
+{
+    if at < s.len() { s[at] } else { 0 }
+}
+
+// Puts a byte at a place; past the end it changes nothing.
+pub fn put(s: &mut [u8], at: usize, b: u8)
+    ensures { λ _. ⌜ now (s .exit) ≡ set (now (s .entry)) at b ⌝ }
+{
+    if at < s.len() {
+        s[at] = b;
+    }
+}
+
+// A count outside 1 to most.
+fn count_out(x: u8, most: u8) -> bool
+    ensures { λ r. ⌜ r ≡ countOut x most ⌝ }
+{
+    if x == 0 { true } else { most < x }
+}
+
+// n or m outside its range.
+pub fn sizes_out(n: u8, m: u8) -> bool
+    ensures { λ r. ⌜ r ≡ sizesOut n m ⌝ }
+{
+    if count_out(n, MAX_INPUTS) {
+        true
+    } else {
+        count_out(m, MAX_WIRES)
+    }
+}
