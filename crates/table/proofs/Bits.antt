@@ -1,0 +1,189 @@
+-- Laws of bits, and of tests and sums over the numbers below a bound.
+use Prim.Native.Nat.{ℕ, zero, suc, _+_, _*_, _^_, _/_, _%_, _-_, _<_, _≤_}
+use mathlib.Core.Path.{_≡_, refl, sym, ap, subst, _∙_}
+use mathlib.Core.Logic.{_⊎_, inl, inr, ⊎-elim}
+use mathlib.Core.Bool.{Bool, true, false, not, _&&_, _||_}
+use mathlib.Core.List.{List, [], _∷_, _++_}
+use native.Mathlib.Omega.{arith}
+use native.Mathlib.Nat.{not-suc-le-zero, le-of-suc-le-suc, mod-lt, mod-eq-of-lt, mul-le-mul-right, add-mul-div-right, add-mul-mod-self-right, mod-add-div', div-lt-iff-lt-mul, le-dest, add-comm, pow-suc, div-eq-of-lt, lt-of-lt-of-le}
+use lib.Dec.{T, eqb}
+use lib.Bits.{bitAnd, and-shr, and-mod}
+use lib.Pow.{pow-pos, pow-add, pow-mono, high, shr-shr}
+use lib.ListN.{length, getD, List·getD-append, length-append}
+use lib.Seq.{getD-at}
+use Rattle.base.proofs.Tests.{and-intro, and-left, and-right, or-left, or-right, or-cases, below-suc}
+use Rattle.table.specs.Bits.{bit, all, any, sum, ofBits, row}
+
+-- every number below k
+pub all-at : (k : ℕ) (f : ℕ → Bool) → T (all k f) → (i : ℕ) → i < k → T (f i)
+unfolding all
+all-at zero f t i h = absurd (not-suc-le-zero h)
+all-at (suc k) f t i h =
+    ⊎-elim (λ (e : i ≡ k). rw e (and-right (all k f) (f k) t)) (λ l. all-at k f (and-left (all k f) (f k) t) i l) (below-suc h)
+
+pub all-intro : (k : ℕ) (f : ℕ → Bool) → ((i : ℕ) → i < k → T (f i)) → T (all k f)
+unfolding all
+all-intro zero f h = tt
+all-intro (suc k) f h = and-intro (all k f) (f k) (all-intro k f (λ i l. h i (omega arith))) (h k (omega arith))
+
+pub any-intro : (k : ℕ) (f : ℕ → Bool) (i : ℕ) → i < k → T (f i) → T (any k f)
+unfolding any
+any-intro zero f i h t = absurd (not-suc-le-zero h)
+any-intro (suc k) f i h t =
+    ⊎-elim (λ (e : i ≡ k). or-right (any k f) (f k) (rw e at t)) (λ l. or-left (any k f) (f k) (any-intro k f i l t)) (below-suc h)
+
+pub any-at : (k : ℕ) (f : ℕ → Bool) → T (any k f) → (i : ℕ) × (i < k) × T (f i)
+unfolding any
+any-at zero f t = absurd t
+any-at (suc k) f t =
+    ⊎-elim (λ l. let r = any-at k f l in (r .0, omega arith, r .2)) (λ r. (k, omega arith, r)) (or-cases (any k f) (f k) t)
+
+-- sums
+pub sum-cong : (k : ℕ) (f g : ℕ → ℕ) → ((i : ℕ) → i < k → f i ≡ g i) → sum k f ≡ sum k g
+unfolding sum
+sum-cong zero f g h = refl
+sum-cong (suc k) f g h = cc (sum-cong k f g (λ i l. h i (omega arith)), h k (omega arith))
+
+pub sum-le : (k : ℕ) (f g : ℕ → ℕ) → ((i : ℕ) → i < k → f i ≤ g i) → sum k f ≤ sum k g
+unfolding sum
+sum-le zero f g h = omega arith
+sum-le (suc k) f g h = omega (arith, sum-le k f g (λ i l. h i (omega arith)), h k (omega arith))
+
+pub sum-lt : (k : ℕ) (f g : ℕ → ℕ) → ((i : ℕ) → i < k → f i ≤ g i) → (i : ℕ) → i < k → f i < g i → sum k f < sum k g
+unfolding sum
+sum-lt zero f g h i l s = absurd (not-suc-le-zero l)
+sum-lt (suc k) f g h i l s =
+    ⊎-elim
+    (λ (e : i ≡ k). let s′ : f k < g k = rw e at s in omega (arith, sum-le k f g (λ i l. h i (omega arith))))
+    (λ b. omega (arith, sum-lt k f g (λ i l. h i (omega arith)) i b s, h k (omega arith)))
+    (below-suc l)
+
+pub sum-bound : (k c : ℕ) (f : ℕ → ℕ) → ((i : ℕ) → i < k → f i ≤ c) → sum k f ≤ k * c
+unfolding sum
+sum-bound zero c f h = omega arith
+sum-bound (suc k) c f h = omega (arith, sum-bound k c f (λ i l. h i (omega arith)), h k (omega arith))
+
+-- bits
+pub bit-lt : (w v : ℕ) → bit w v < 2
+unfolding bit
+bit-lt w v = omega arith
+
+-- a bit below k does not see what stands from bit k up
+pub bit-low : (x c : ℕ) {j k : ℕ} → j < k → bit (x + c * 2 ^ k) j ≡ bit x j
+unfolding bit
+bit-low x c {j} {k} h = go (le-dest h .0) (le-dest h .1)
+  where
+    go : (d : ℕ) → suc j + d ≡ k → (x + c * 2 ^ k) / 2 ^ j % 2 ≡ x / 2 ^ j % 2
+    go d r =
+        let e : 2 ^ k ≡ 2 ^ d * 2 * 2 ^ j = rw (← r, pow-add, pow-suc) (omega arith) in
+        let e′ : c * 2 ^ k ≡ c * 2 ^ d * 2 * 2 ^ j = rw e (omega arith) in
+        rw (e′, add-mul-div-right x (c * 2 ^ d * 2) (pow-pos j), add-mul-mod-self-right)
+
+-- bit k of a number below 2 ^ k with b put on top
+pub bit-top : {x b : ℕ} (k : ℕ) → x < 2 ^ k → b < 2 → bit (x + b * 2 ^ k) k ≡ b
+unfolding bit
+bit-top {x} {b} k h l = rw (add-comm x (b * 2 ^ k), high b k h, mod-eq-of-lt l)
+
+pub bit-mod : (x : ℕ) {j k : ℕ} → j < k → bit (x % 2 ^ k) j ≡ bit x j
+bit-mod x {j} {k} h = sym (bit-low (x % 2 ^ k) (x / 2 ^ k) h) ∙ ap (λ y. bit y j) (mod-add-div' x (2 ^ k))
+
+pub bit-div : (x k j : ℕ) → bit (x / 2 ^ k) j ≡ bit x (k + j)
+unfolding bit
+bit-div x k j = rw shr-shr
+
+module _ (f : ℕ → ℕ) where
+  pub ofBits-lt : (k : ℕ) → ((i : ℕ) → i < k → f i < 2) → ofBits k f < 2 ^ k
+  unfolding ofBits sum
+  ofBits-lt zero h = omega arith
+  ofBits-lt (suc k) h =
+      omega (arith, ofBits-lt k (λ i l. h i (omega arith)), mul-le-mul-right (2 ^ k) (le-of-suc-le-suc (h k (omega arith))))
+
+  pub bit-ofBits : (k : ℕ) → ((i : ℕ) → i < k → f i < 2) → (j : ℕ) → j < k → bit (ofBits k f) j ≡ f j
+  unfolding ofBits sum
+  bit-ofBits zero h j l = absurd (not-suc-le-zero l)
+  bit-ofBits (suc k) h j l =
+      let h′ : (i : ℕ) → i < k → f i < 2 = λ i b. h i (omega arith) in
+      ⊎-elim
+      (λ (e : j ≡ k). rw e (bit-top k (ofBits-lt k h′) (h k (omega arith))))
+      (λ b. bit-low (ofBits k f) (f k) b ∙ bit-ofBits k h′ j b)
+      (below-suc l)
+
+bit-quot : (x k : ℕ) → x / 2 ^ k < 2 → bit x k ≡ x / 2 ^ k
+unfolding bit
+bit-quot x k q = mod-eq-of-lt q
+
+pub ofBits-bit : (k x : ℕ) → x < 2 ^ k → ofBits k (bit x) ≡ x
+unfolding ofBits sum
+ofBits-bit zero x h = omega arith
+ofBits-bit (suc k) x h =
+    let q : x / 2 ^ k < 2 = div-lt-iff-lt-mul (pow-pos k) .1 (omega arith) in
+    let low : ofBits k (bit x) ≡ x % 2 ^ k =
+    sum-cong k (λ i. bit x i * 2 ^ i) (λ i. bit (x % 2 ^ k) i * 2 ^ i) (λ i l. ap (λ b. b * 2 ^ i) (sym (bit-mod x l)))
+    ∙ ofBits-bit k (x % 2 ^ k) (mod-lt x (pow-pos k)) in
+    let top : bit x k ≡ x / 2 ^ k = bit-quot x k q in
+    rw top (ap (λ y. y + x / 2 ^ k * 2 ^ k) low ∙ mod-add-div' x (2 ^ k))
+
+-- numbers below 2 ^ k are equal by their bits
+pub bit-ext : (k x y : ℕ) → x < 2 ^ k → y < 2 ^ k → ((i : ℕ) → i < k → bit x i ≡ bit y i) → x ≡ y
+unfolding ofBits
+bit-ext k x y hx hy h =
+    sym (ofBits-bit k x hx) ∙ sum-cong k (λ i. bit x i * 2 ^ i) (λ i. bit y i * 2 ^ i) (λ i l. ap (λ b. b * 2 ^ i) (h i l)) ∙ ofBits-bit k y hy
+
+-- the entries of a row
+pub row-length : (k : ℕ) (f : ℕ → ℕ) → length (row k f) ≡ k
+unfolding row
+row-length zero f = refl
+row-length (suc k) f = length-append (row k f) (f k ∷ []) ∙ omega (arith, row-length k f)
+
+pub row-at : (k : ℕ) (f : ℕ → ℕ) (i : ℕ) → i < k → getD (row k f) i 0 ≡ f i
+unfolding row
+row-at zero f i h = absurd (not-suc-le-zero h)
+row-at (suc k) f i h =
+    ⊎-elim
+    (λ (e : i ≡ k). rw e (getD-at (row k f) (f k) [] 0 k (row-length k f)))
+    (λ l. List·getD-append (row k f) (f k ∷ []) 0 i (rw row-length l) ∙ row-at k f i l)
+    (below-suc h)
+
+pub bit-cases : (x i : ℕ) → (bit x i ≡ 0) ⊎ (bit x i ≡ 1)
+bit-cases x i = go (bit x i) (bit-lt x i)
+  where
+    go : (y : ℕ) → y < 2 → (y ≡ 0) ⊎ (y ≡ 1)
+    go zero h = inl refl
+    go (suc zero) h = inr refl
+    go (suc (suc y)) h = absurd (omega arith)
+
+pub bit-zero : (t : ℕ) → t < 2 → bit t 0 ≡ t
+unfolding bit
+bit-zero t h = omega arith
+
+pub bit-and : (a b v : ℕ) → bit (bitAnd a b) v ≡ bitAnd (bit a v) (bit b v)
+unfolding bit
+bit-and a b v = ap (λ x. x % 2) (and-shr a b v) ∙ and-mod (a / 2 ^ v) (b / 2 ^ v) 1
+
+pub test-and : (a b v : ℕ) → eqb (bit (bitAnd a b) v) 1 ≡ eqb (bit a v) 1 && eqb (bit b v) 1
+test-and a b v = ap (λ x. eqb x 1) (bit-and a b v) ∙ go (bit a v) (bit b v) (bit-cases a v) (bit-cases b v)
+  where
+    go : (x y : ℕ) → (x ≡ 0) ⊎ (x ≡ 1) → (y ≡ 0) ⊎ (y ≡ 1) → eqb (bitAnd x y) 1 ≡ eqb x 1 && eqb y 1
+    go x y (inl e) (inl d) = rw e
+    go x y (inl e) (inr d) = rw e
+    go x y (inr e) (inl d) = rw (e, d)
+    go x y (inr e) (inr d) = rw (e, d)
+
+pub bit-past : (x k v : ℕ) → x < 2 ^ k → k ≤ v → bit x v ≡ 0
+unfolding bit
+bit-past x k v h l = ap (λ y. y % 2) (div-eq-of-lt (lt-of-lt-of-le h (pow-mono l)))
+
+pub all-cong : (k : ℕ) (f g : ℕ → Bool) → ((i : ℕ) → i < k → f i ≡ g i) → all k f ≡ all k g
+unfolding all
+all-cong zero f g h = refl
+all-cong (suc k) f g h = cc (all-cong k f g (λ i l. h i (omega arith)), h k (omega arith))
+
+pub any-cong : (k : ℕ) (f g : ℕ → Bool) → ((i : ℕ) → i < k → f i ≡ g i) → any k f ≡ any k g
+unfolding any
+any-cong zero f g h = refl
+any-cong (suc k) f g h = cc (any-cong k f g (λ i l. h i (omega arith)), h k (omega arith))
+
+pub row-cong : (k : ℕ) (f g : ℕ → ℕ) → ((i : ℕ) → i < k → f i ≡ g i) → row k f ≡ row k g
+unfolding row
+row-cong zero f g h = refl
+row-cong (suc k) f g h = cc (row-cong k f g (λ i l. h i (omega arith)), h k (omega arith))

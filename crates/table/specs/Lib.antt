@@ -1,0 +1,6 @@
+-- Truth tables: bits, cells, decision trees, and the pick.
+pub mod Bits
+pub mod Cells
+pub mod Tree
+pub mod Pick
+pub mod Blocks

@@ -1,0 +1,49 @@
+-- Document 01, "Search": "The pick of a wire in a relation: among all tables whose every bit occurs in the projection on that wire,
+-- the one of fewest cells, then the smallest number." (The minimum of an incompletely specified function.)
+use Prim.Native.Nat.{ℕ, zero, suc, _+_, _*_, _^_}
+use mathlib.Core.Bool.{Bool, cond}
+use mathlib.Core.Option.{Option, none, some}
+use lib.Dec.{ltb, eqb}
+use Rattle.table.specs.Bits.{bit, all}
+use Rattle.table.specs.Cells.{cells}
+
+-- which bits occur on a pattern: the projection of a relation on a wire
+abbrev pub Proj : Type 0
+Proj = ℕ → ℕ → Bool
+
+-- every bit of the table occurs
+unfoldable pub suits : ℕ → Proj → ℕ → Bool
+suits n P t = all (2 ^ n) (λ p. P p (bit t p))
+
+-- the number of least key among those below k that pass the test; of equals the smallest
+module _ (key : ℕ → ℕ) (fit : ℕ → Bool) where
+  unfoldable pub nearer : Option ℕ → ℕ → Option ℕ
+  nearer none t = some t
+  nearer (some s) t = cond (ltb (key t) (key s)) (some t) (some s)
+
+  unfoldable pub least : ℕ → Option ℕ
+  least zero = none
+  least (suc t) = let r = least t in cond (fit t) (nearer r t) r
+
+unfoldable pub orZero : Option ℕ → ℕ
+orZero none = zero
+orZero (some t) = t
+
+-- among all tables of n inputs that suit the projection
+unfoldable pub leastOf : (ℕ → ℕ) → ℕ → Proj → Option ℕ
+leastOf key n P = least key (suits n P) (2 ^ (2 ^ n))
+
+-- the projection that two masks tell: 0 may stand on the patterns of zeros, 1 on those of ones
+unfoldable pub masked : ℕ → ℕ → Proj
+masked zeros ones p b = eqb (bit (cond (eqb b 0) zeros ones) p) 1
+
+-- the pick between two masks
+unfoldable pub pickOf : ℕ → ℕ → ℕ → ℕ
+pickOf n zeros ones = orZero (leastOf (cells n) n (masked zeros ones))
+
+-- a table and its cells as one number, whose order is "fewest cells, then the smallest number"
+abbrev pub tableSpace : ℕ
+tableSpace = 65536
+
+unfoldable pub rank : ℕ → ℕ → ℕ
+rank n t = cells n t * tableSpace + t

@@ -1,0 +1,2 @@
+// Truth tables of one wire: their cells, and the table of fewest cells between two masks.
+pub mod cell_counts; // the cells of a table
