@@ -47,14 +47,14 @@ pub record Lex (key : ℕ → ℕ) (s t : ℕ) : Type 0 where
   pub fewer : key s ≤ key t
   pub smaller : key t ≤ key s → s ≤ t
 
-lex-refl : (key : ℕ → ℕ) (s : ℕ) → Lex key s s
+pub lex-refl : (key : ℕ → ℕ) (s : ℕ) → Lex key s s
 lex-refl key s = record { fewer = le-refl (key s); smaller = λ _. le-refl s }
 
 lex-trans : (key : ℕ → ℕ) (s t u : ℕ) → Lex key s t → Lex key t u → Lex key s u
 lex-trans key s t u a b =
     record { fewer = omega (arith, a .fewer, b .fewer); smaller = λ h. omega (arith, a .smaller (omega (arith, b .fewer)), b .smaller (omega (arith, a .fewer))) }
 
-closer-left : (key : ℕ → ℕ) (s t : ℕ) → Lex key (closer key s t) s
+pub closer-left : (key : ℕ → ℕ) (s t : ℕ) → Lex key (closer key s t) s
 unfolding closer
 closer-left key s t =
     cond-has (λ x. Lex key x s) (ltb (key s) (key t)) (λ _. lex-refl key s)
@@ -66,7 +66,7 @@ closer-left key s t =
     least (inl h) a b = let e : min s t ≡ s = omega (arith, ltb→lt s t h) in rw e (lex-refl key s)
     least (inr h) a b = let e : min s t ≡ t = omega (arith, nltb→le s t h) in rw e (record { fewer = a; smaller = λ _. nltb→le s t h })
 
-closer-right : (key : ℕ → ℕ) (s t : ℕ) → Lex key (closer key s t) t
+pub closer-right : (key : ℕ → ℕ) (s t : ℕ) → Lex key (closer key s t) t
 unfolding closer
 closer-right key s t =
     cond-has (λ x. Lex key x t) (ltb (key s) (key t)) (λ b. let b′ = ltb→lt (key s) (key t) b in record { fewer = omega arith; smaller = λ h. absurd (omega arith) })
@@ -78,7 +78,7 @@ closer-right key s t =
     least (inl h) a b = let l = ltb→lt s t h in let e : min s t ≡ s = omega arith in rw e (record { fewer = b; smaller = λ _. omega arith })
     least (inr h) a b = let e : min s t ≡ t = omega (arith, nltb→le s t h) in rw e (lex-refl key t)
 
-closer-one : (key : ℕ → ℕ) (s t : ℕ) → (closer key s t ≡ s) ⊎ (closer key s t ≡ t)
+pub closer-one : (key : ℕ → ℕ) (s t : ℕ) → (closer key s t ≡ s) ⊎ (closer key s t ≡ t)
 unfolding closer
 closer-one key s t =
     cond-has (λ x. (x ≡ s) ⊎ (x ≡ t)) (ltb (key s) (key t)) (λ _. inl refl)
@@ -97,15 +97,15 @@ IsBest r P (some t) = Best r P t
 
 -- halves of a joined table
 module _ (r h l : ℕ) (lh : h < 2 ^ (2 ^ r)) (ll : l < 2 ^ (2 ^ r)) where
-  join-low : low r (join r h l) ≡ l
+  pub join-low : low r (join r h l) ≡ l
   unfolding low join
   join-low = digits-mod h ll
 
-  join-high : high r (join r h l) ≡ h
+  pub join-high : high r (join r h l) ≡ h
   unfolding high join
   join-high = digits-div h ll
 
-  join-lt : join r h l < 2 ^ (2 ^ suc r)
+  pub join-lt : join r h l < 2 ^ (2 ^ suc r)
   unfolding join
   join-lt = rw (two-pow-succ r, pow-add) (digits-lt lh ll)
 
@@ -143,14 +143,14 @@ module _ (r : ℕ) (P : Proj) (t : ℕ) where
       rw (high-bit r t (p - 2 ^ r), e) at (all-at (2 ^ r) (λ p. P (p + 1 * 2 ^ r) (bit (high r t) p)) b (p - 2 ^ r) (omega arith)))
       (decide (ltb p (2 ^ r))))
 
-suits-common : (r : ℕ) (P : Proj) (t : ℕ) → T (suits r P t) → T (suits r (upper r P) t) → T (suits r (common r P) t)
+pub suits-common : (r : ℕ) (P : Proj) (t : ℕ) → T (suits r P t) → T (suits r (upper r P) t) → T (suits r (common r P) t)
 unfolding suits upper common
 suits-common r P t a b =
     all-intro (2 ^ r) (λ p. P p (bit t p) && P (p + 1 * 2 ^ r) (bit t p))
     (λ p l. and-intro (P p (bit t p)) (P (p + 1 * 2 ^ r) (bit t p)) (all-at (2 ^ r) (λ p. P p (bit t p)) a p l)
     (all-at (2 ^ r) (λ p. P (p + 1 * 2 ^ r) (bit t p)) b p l))
 
-common-suits : (r : ℕ) (P : Proj) (t : ℕ) → T (suits r (common r P) t) → T (suits r P t) × T (suits r (upper r P) t)
+pub common-suits : (r : ℕ) (P : Proj) (t : ℕ) → T (suits r (common r P) t) → T (suits r P t) × T (suits r (upper r P) t)
 unfolding suits upper common
 common-suits r P t s =
     let f : (p : ℕ) → p < 2 ^ r → T (P p (bit t p) && P (p + 1 * 2 ^ r) (bit t p)) = all-at (2 ^ r) (λ p. P p (bit t p) && P (p + 1 * 2 ^ r) (bit t p)) s in (
@@ -163,7 +163,7 @@ module _ (r : ℕ) (P : Proj) where
   join-suits h l lh ll a b = suits-both r P (join r h l) (rw (join-low r h l lh ll) b) (rw (join-high r h l lh ll) a)
 
   -- the common half against tables of equal halves
-  same-first : (c : ℕ) → Best r (common r P) c → (s : ℕ) → s < 2 ^ (2 ^ suc r) → T (suits (suc r) P s) → low r s ≡ high r s → Lex (cells (suc r)) (join r c c) s
+  pub same-first : (c : ℕ) → Best r (common r P) c → (s : ℕ) → s < 2 ^ (2 ^ suc r) → T (suits (suc r) P s) → low r s ≡ high r s → Lex (cells (suc r)) (join r c c) s
   same-first c b s ls ss e =
       let lc = b .inside in
       let d = b .first (low r s) (low-lt r s) (suits-common r P (low r s) (suits-low r P s ss) (rw e (suits-high r P s ss))) in
@@ -178,7 +178,7 @@ module _ (r : ℕ) (P : Proj) where
       }
 
   -- two halves against tables of different halves
-  apart-first : (h l : ℕ) → Best r (upper r P) h → Best r P l → (s : ℕ) → s < 2 ^ (2 ^ suc r) → T (suits (suc r) P s) → (low r s ≡ high r s → ⊥)
+  pub apart-first : (h l : ℕ) → Best r (upper r P) h → Best r P l → (s : ℕ) → s < 2 ^ (2 ^ suc r) → T (suits (suc r) P s) → (low r s ≡ high r s → ⊥)
       → Lex (cells (suc r)) (join r h l) s
   apart-first h l bh bl s ls ss e =
       let dl = bl .first (low r s) (low-lt r s) (suits-low r P s ss) in
@@ -209,7 +209,7 @@ module _ (r : ℕ) (P : Proj) where
             (decide (eqb (low r s) (high r s)));
       }
 
-  step : (c h l : Option ℕ) → IsBest r (common r P) c → IsBest r (upper r P) h → IsBest r P l → IsBest (suc r) P (closest (cells (suc r)) (joins r c c) (joins r h l))
+  pub step : (c h l : Option ℕ) → IsBest r (common r P) c → IsBest r (upper r P) h → IsBest r P l → IsBest (suc r) P (closest (cells (suc r)) (joins r c c) (joins r h l))
   unfolding closest joins
   step none none l bc bh bl = λ s ls ss. bh (high r s) (high-lt r s ls) (suits-high r P s ss)
   step none (some h) none bc bh bl = λ s ls ss. bl (low r s) (low-lt r s) (suits-low r P s ss)
@@ -254,7 +254,7 @@ single P =
     (λ g s ls ss. ⊎-elim (λ e. no s ls ss e) (λ e. T-not (P 0 1) g (rw e at (suits-zero P s ls ss))) (two s ls)))
 
 -- the least table of all is the best
-least-best : (r : ℕ) (P : Proj) → IsBest r P (leastOf (cells r) r P)
+pub least-best : (r : ℕ) (P : Proj) → IsBest r P (leastOf (cells r) r P)
 unfolding leastOf
 least-best r P = go (least (cells r) (suits r P) (2 ^ (2 ^ r))) (least-is (cells r) (suits r P) (2 ^ (2 ^ r)))
   where
@@ -263,7 +263,7 @@ least-best r P = go (least (cells r) (suits r P) (2 ^ (2 ^ r))) (least-is (cells
     go (some t) h = record { inside = h .0; suited = h .1; first = λ s ls ss. record { fewer = h .2 s ls ss; smaller = h .3 s ls ss } }
 
 -- there is one best only
-best-only : (r : ℕ) (P : Proj) (o q : Option ℕ) → IsBest r P o → IsBest r P q → o ≡ q
+pub best-only : (r : ℕ) (P : Proj) (o q : Option ℕ) → IsBest r P o → IsBest r P q → o ≡ q
 best-only r P none none a b = refl
 best-only r P none (some t) a b = absurd (a t (b .inside) (b .suited))
 best-only r P (some s) none a b = absurd (b s (a .inside) (a .suited))

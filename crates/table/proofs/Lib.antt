@@ -4,3 +4,6 @@ pub mod Trees
 pub mod Least
 pub mod Halving
 pub mod Count
+pub mod Ranks
+pub mod Masks
+pub mod Entries

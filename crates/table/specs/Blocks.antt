@@ -1,9 +1,10 @@
 -- The picks of all pairs of masks of two inputs, as one table of 256 entries.
-use Prim.Native.Nat.{ℕ, _+_, _*_, _<_}
+use Prim.Native.Nat.{ℕ, _+_, _*_, _^_, _<_, _≤_}
 use mathlib.Core.Path.{_≡_}
 use mathlib.Core.List.{List}
 use mathlib.Core.Option.{Option, none, some}
 use lib.ListN.{getD}
+use Rattle.table.specs.Bits.{bit}
 use Rattle.table.specs.Cells.{cells}
 use Rattle.table.specs.Pick.{leastOf, masked}
 
@@ -22,3 +23,12 @@ blockOf zeros ones = entryOf (leastOf (cells 2) 2 (masked zeros ones))
 -- the entry of two masks stands at zeros * 16 + ones
 pub record Blocks (e : List ℕ) : Type 0 where
   pub entry : (zeros ones : ℕ) → zeros < 16 → ones < 16 → getD e (zeros * 16 + ones) 0 ≡ blockOf zeros ones
+
+-- a number shows the least table of n inputs: its cells times w, and the table; where none suits, at least as much as noTable cells
+abbrev pub Shown : ℕ → ℕ → Option ℕ → ℕ → Type 0
+Shown n w none x = noTable * w ≤ x
+Shown n w (some t) x = x ≡ cells n t * w + t
+
+-- each of the patterns has 0 or 1
+abbrev pub Covered : ℕ → ℕ → ℕ → Type 0
+Covered n zeros ones = (p : ℕ) → p < 2 ^ n → 1 ≤ bit zeros p + bit ones p

@@ -1,0 +1,37 @@
+-- Sets of values and of patterns as numbers, which the code computes with. Sixteen values and sixteen patterns are the most there are.
+use Prim.Native.Nat.{ℕ, _^_}
+use mathlib.Core.Bool.{Bool, cond}
+use mathlib.Core.List.{List}
+use lib.Bits.{bitAnd}
+use lib.Dec.{eqb, ltb}
+use lib.ListN.{getD, set}
+use Rattle.table.specs.Bits.{bit, ofBits, row}
+use Rattle.relation.specs.Tests.{ofSets, occurs, isOne}
+
+-- value v is in the set: "bit v is value v"
+unfoldable pub member : ℕ → ℕ → Bool
+member w v = eqb (bit w v) 1
+
+-- the values of four wires that have wire j at b
+unfoldable pub columnOf : ℕ → ℕ → ℕ
+columnOf j b = ofBits 16 (λ v. isOne (eqb (bit v j) b))
+
+-- the values of w that have wire j at b
+unfoldable pub withBit : ℕ → ℕ → ℕ → ℕ
+withBit w j b = bitAnd w (columnOf j b)
+
+-- the patterns on which some value has wire j at b: bit p is pattern p
+unfoldable pub maskOf : List ℕ → ℕ → ℕ → ℕ
+maskOf sets j b = ofBits 16 (λ p. isOne (occurs 4 (ofSets sets p) j b))
+
+-- the sets once wire j is b on pattern p
+unfoldable pub narrowed : List ℕ → ℕ → ℕ → ℕ → List ℕ
+narrowed sets p j b = set sets p (withBit (getD sets p 0) j b)
+
+-- the sets less the values that disagree with table t of wire j
+unfoldable pub agreed : List ℕ → ℕ → ℕ → List ℕ
+agreed sets j t = row 16 (λ p. withBit (getD sets p 0) j (bit t p))
+
+-- the sets with those past the last pattern emptied
+unfoldable pub cleared : ℕ → List ℕ → List ℕ
+cleared n sets = row 16 (λ p. cond (ltb p (2 ^ n)) (getD sets p 0) 0)

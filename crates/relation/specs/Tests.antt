@@ -1,0 +1,67 @@
+-- The tests and operations on relations that document 01's "Search" names. Each decides or makes what source 001 defines (proofs/).
+use Prim.Native.Nat.{ℕ, zero, suc, _^_}
+use mathlib.Core.Bool.{Bool, true, false, not, _&&_, _||_}
+use mathlib.Core.List.{List}
+use lib.Dec.{eqb}
+use lib.ListN.{getD}
+use Rattle.base.specs.Lowest.{lowest}
+use Rattle.table.specs.Bits.{bit, all, any, sum}
+use Rattle.table.specs.Pick.{Proj, suits}
+use Rattle.relation.specs.Source.{Rel, Tables, value}
+
+-- the relation of a list of sets, one number for each pattern: "bit v is value v"
+unfoldable pub ofSets : List ℕ → Rel
+ofSets sets p v = eqb (bit (getD sets p 0) v) 1
+
+-- the tables of a list, in the order of the wires; 0 past its end
+abbrev pub wires : List ℕ → Tables
+wires ts j = getD ts j 0
+
+-- "the part with that wire 0, then the part with it 1": wire j is b on pattern p
+unfoldable pub keep : Rel → ℕ → ℕ → ℕ → Rel
+keep R p j b q v = R q v && (not (eqb q p) || eqb (bit v j) b)
+
+-- "then drop the values that disagree" with table t of wire j
+unfoldable pub agree : Rel → ℕ → ℕ → Rel
+agree R j t p v = R p v && eqb (bit v j) (bit t p)
+
+-- bit b of wire j occurs among the m-bit values of the set S
+unfoldable pub occurs : ℕ → (ℕ → Bool) → ℕ → ℕ → Bool
+occurs m S j b = any (2 ^ m) (λ v. S v && eqb (bit v j) b)
+
+-- the projection on wire j
+abbrev pub projection : ℕ → Rel → ℕ → Proj
+projection m R j p b = occurs m (R p) j b
+
+-- "every bit occurs in the projection on that wire"
+unfoldable pub fits : ℕ → ℕ → Rel → ℕ → ℕ → Bool
+fits n m R j t = suits n (projection m R j) t
+
+-- wire j "has both 0 and 1" in S
+unfoldable pub free : ℕ → (ℕ → Bool) → ℕ → Bool
+free m S j = occurs m S j 0 && occurs m S j 1
+
+-- "the lowest wire that has both 0 and 1 there"
+unfoldable pub freeWire : ℕ → (ℕ → Bool) → ℕ
+freeWire m S = lowest m (free m S)
+
+-- the tables' value is allowed on every pattern
+unfoldable pub compatible : ℕ → ℕ → Rel → Tables → Bool
+compatible n m R X = all (2 ^ n) (λ p. R p (value m X p))
+
+-- "the lowest pattern in conflict"; 2 ^ n where there is none
+unfoldable pub conflict : ℕ → ℕ → Rel → Tables → ℕ
+conflict n m R X = lowest (2 ^ n) (λ p. not (R p (value m X p)))
+
+-- "place: the lowest p" whose set is empty; 2 ^ n where there is none
+unfoldable pub emptyPattern : ℕ → ℕ → Rel → ℕ
+emptyPattern n m R = lowest (2 ^ n) (λ p. not (any (2 ^ m) (R p)))
+
+-- a test as a number
+unfoldable pub isOne : Bool → ℕ
+isOne true = 1
+isOne false = 0
+
+-- the number of "open pairs of pattern and wire"
+unfoldable pub openPairs : ℕ → ℕ → Rel → ℕ
+openPairs n m R = sum (2 ^ n) (λ p. sum m (λ j. isOne (free m (R p) j)))

@@ -1,0 +1,94 @@
+// The sets of all sixteen patterns (input vertices) together.
+ghost use mathlib.Core.Path.{_≡_};
+ghost use Prim.Native.Nat.{_<_, _≤_, _^_};
+ghost use Rattle.table.specs.Bits.{bit};
+ghost use Rattle.relation.specs.Source.{value};
+ghost use Rattle.relation.specs.Tests.{wires};
+ghost use Rattle.relation.specs.Masks.{maskOf, narrowed, agreed, cleared};
+use crate::values::column;
+use crate::values::with_bit;
+
+// The number of patterns of n inputs.
+pub fn patterns_of(n: u8) -> u8
+    requires { ⌜ n ≤ 4 ⌝ }
+    ensures { λ r. ⌜ (r ≡ 2 ^ n) × (r ≤ 16) ⌝ }
+{
+    match n {
+        0 => 1,
+        1 => 2,
+        2 => 4,
+        3 => 8,
+        _ => 16,
+    }
+}
+
+// Bit p of a table.
+pub fn bit_of(table: u16, p: u8) -> u16
+    requires { ⌜ p < 16 ⌝ }
+    ensures { λ r. ⌜ (r ≡ bit table p) × (r < 2) ⌝ }
+{
+    (table >> p) % 2
+}
+
+// The value that four tables drive on pattern p.
+pub fn value_of(tables: [u16; 4], p: u8) -> u8
+    requires { ⌜ p < 16 ⌝ }
+    ensures { λ r. ⌜ (r ≡ value 4 (wires tables) p) × (r < 16) ⌝ }
+{
+    (bit_of(tables[0], p)
+        + 2 * bit_of(tables[1], p)
+        + 4 * bit_of(tables[2], p)
+        + 8 * bit_of(tables[3], p)) as u8
+}
+
+// The patterns on which some value has wire j at b: the projection of the relation on the wire.
+pub fn mask(sets: [u16; 16], j: u8, b: u8) -> u16
+    requires { ⌜ (j < 4) × (b < 2) ⌝ }
+    ensures { λ r. ⌜ r ≡ maskOf sets j b ⌝ }
+{
+    let c = column(j, b);
+    let mut found: u16 = 0;
+    for p in 0..16u8 {
+        if sets[p as usize] & c != 0 {
+            found += 1 << p;
+        }
+    }
+    found
+}
+
+// The sets once wire j is b on pattern p: one part of a split.
+pub fn narrow(sets: [u16; 16], p: u8, j: u8, b: u8) -> [u16; 16]
+    requires { ⌜ (p < 16) × (j < 4) × (b < 2) ⌝ }
+    ensures { λ r. ⌜ r ≡ narrowed sets p j b ⌝ }
+{
+    let mut next = sets;
+    let at = p as usize;
+    next[at] = with_bit(sets[at], j, b);
+    next
+}
+
+// The sets less the values that disagree with table t of wire j.
+pub fn agreeing(sets: [u16; 16], j: u8, t: u16) -> [u16; 16]
+    requires { ⌜ j < 4 ⌝ }
+    ensures { λ r. ⌜ r ≡ agreed sets j t ⌝ }
+{
+    let mut next = sets;
+    for p in 0..16u8 {
+        let at = p as usize;
+        next[at] = with_bit(sets[at], j, (bit_of(t, p) % 2) as u8);
+    }
+    next
+}
+
+// The sets with those past the last pattern of n inputs emptied.
+pub fn clear_past(n: u8, sets: [u16; 16]) -> [u16; 16]
+    requires { ⌜ n ≤ 4 ⌝ }
+    ensures { λ r. ⌜ r ≡ cleared n sets ⌝ }
+{
+    let count = patterns_of(n);
+    let mut next = sets;
+    for p in count..16u8 {
+        next[p as usize] = 0;
+    }
+    next
+}

@@ -1,0 +1,120 @@
+-- The projection that two masks tell, by its halves.
+use Prim.Native.Nat.{ℕ, zero, suc, _+_, _*_, _^_, _<_, _≤_}
+use mathlib.Core.Path.{_≡_, refl, sym, ap, ap₂, subst, _∙_, fun-ext}
+use mathlib.Core.Logic.{_⊎_, inl, inr, ⊎-elim}
+use mathlib.Core.Bool.{Bool, true, false, cond, not, _&&_}
+use mathlib.Core.Option.{Option, none, some}
+use native.Mathlib.Omega.{arith}
+use lib.Bits.{bitAnd, and-self}
+use lib.Dec.{T, T-not, eqb}
+use Rattle.base.proofs.Tests.{cond-has, decide, eq-test, test-yes}
+use Rattle.table.specs.Bits.{bit, all, ofBits}
+use Rattle.table.specs.Cells.{cells, low, high}
+use Rattle.table.specs.Pick.{Proj, suits, least, orZero, leastOf, masked, pickOf}
+use Rattle.table.specs.Blocks.{Covered}
+use Rattle.table.proofs.Bits.{all-cong, all-intro, ofBits-lt, bit-ofBits, bit-lt, bit-cases, test-and}
+use Rattle.table.proofs.Cells.{low-bit, high-bit}
+use Rattle.table.proofs.Least.{Least, least-is}
+use Rattle.table.proofs.Halving.{upper, common, join, joins, closest, least-halves, join-low, join-high}
+use Rattle.table.proofs.Ranks.{closer-self}
+
+-- only the patterns there are count
+pub least-cong : (key : ℕ → ℕ) (n : ℕ) (P Q : Proj) → ((p b : ℕ) → p < 2 ^ n → P p b ≡ Q p b) → leastOf key n P ≡ leastOf key n Q
+unfolding leastOf suits
+least-cong key n P Q h =
+    ap (λ f. least key f (2 ^ (2 ^ n))) (fun-ext (λ t. all-cong (2 ^ n) (λ p. P p (bit t p)) (λ p. Q p (bit t p)) (λ p l. h p (bit t p) l)))
+
+-- where 0 or 1 occurs on every pattern some table suits, and so there is a least one
+pub some-suits : (n : ℕ) (P : Proj) → ((p : ℕ) → p < 2 ^ n → T (P p 0) ⊎ T (P p 1)) → (t : ℕ) × (t < 2 ^ (2 ^ n)) × T (suits n P t)
+unfolding suits
+some-suits n P h =
+    let f : ℕ → ℕ = λ p. cond (P p 0) 0 1 in
+    let small : (p : ℕ) → p < 2 ^ n → f p < 2 = λ p l. cond-has (λ x. x < 2) (P p 0) (λ t. omega arith) (λ t. omega arith) in
+    let t = ofBits (2 ^ n) f in (
+      t,
+      ofBits-lt f (2 ^ n) small,
+      all-intro (2 ^ n) (λ p. P p (bit t p))
+          (λ p l. rw (bit-ofBits f (2 ^ n) small p l)
+          (cond-has (λ x. T (P p x)) (P p 0) (λ t. t) (λ t. ⊎-elim (λ z. absurd (T-not (P p 0) t z)) (λ o. o) (h p l)))),
+    )
+
+pub least-some : (key : ℕ → ℕ) (n : ℕ) (P : Proj) → ((p : ℕ) → p < 2 ^ n → T (P p 0) ⊎ T (P p 1)) → leastOf key n P ≡ some (orZero (leastOf key n P))
+unfolding leastOf orZero
+least-some key n P h =
+    let s = some-suits n P h in go (least key (suits n P) (2 ^ (2 ^ n))) (least-is key (suits n P) (2 ^ (2 ^ n))) (s .0) (s .1) (s .2)
+  where
+    go : (o : Option ℕ) → Least key (suits n P) (2 ^ (2 ^ n)) o → (t : ℕ) → t < 2 ^ (2 ^ n) → T (suits n P t) → o ≡ some (orZero o)
+    go none g t l s = absurd (g t l s)
+    go (some r) g t l s = refl
+
+pub masked-has : (zeros ones p : ℕ) → 1 ≤ bit zeros p + bit ones p → T (masked zeros ones p 0) ⊎ T (masked zeros ones p 1)
+unfolding masked
+masked-has zeros ones p h =
+    ⊎-elim (λ z. inr (eq-test (one z))) (λ o. inl (eq-test o)) (bit-cases zeros p)
+  where
+    one : bit zeros p ≡ 0 → bit ones p ≡ 1
+    one z = omega (arith, bit-lt ones p)
+
+-- covered masks have a pick
+pub pick-some : (n zeros ones : ℕ) → Covered n zeros ones → leastOf (cells n) n (masked zeros ones) ≡ some (pickOf n zeros ones)
+unfolding pickOf
+pick-some n zeros ones h = least-some (cells n) n (masked zeros ones) (λ p l. masked-has zeros ones p (h p l))
+
+-- the halves of the projection are told by the halves of the masks
+module _ (r zeros ones : ℕ) where
+  side : (f : ℕ → ℕ) (p q b : ℕ) → bit (f zeros) p ≡ bit zeros q → bit (f ones) p ≡ bit ones q → masked (f zeros) (f ones) p b ≡ masked zeros ones q b
+  unfolding masked
+  side f p q b z o = go (eqb b 0)
+    where
+      go : (c : Bool) → eqb (bit (cond c (f zeros) (f ones)) p) 1 ≡ eqb (bit (cond c zeros ones) q) 1
+      go true = ap (λ x. eqb x 1) z
+      go false = ap (λ x. eqb x 1) o
+
+  masked-low : (p b : ℕ) → p < 2 ^ r → masked (low r zeros) (low r ones) p b ≡ masked zeros ones p b
+  masked-low p b l = side (low r) p p b (low-bit r zeros p l) (low-bit r ones p l)
+
+  masked-high : (p b : ℕ) → masked (high r zeros) (high r ones) p b ≡ upper r (masked zeros ones) p b
+  unfolding upper
+  masked-high p b = side (high r) p (p + 1 * 2 ^ r) b (high-bit r zeros p) (high-bit r ones p)
+
+  masked-common : (p b : ℕ) → p < 2 ^ r
+      → masked (bitAnd (low r zeros) (high r zeros)) (bitAnd (low r ones) (high r ones)) p b ≡ common r (masked zeros ones) p b
+  unfolding masked common
+  masked-common p b l = go (eqb b 0)
+    where
+      each : (x : ℕ) → eqb (bit (bitAnd (low r x) (high r x)) p) 1 ≡ eqb (bit x p) 1 && eqb (bit x (p + 1 * 2 ^ r)) 1
+      each x = test-and (low r x) (high r x) p ∙ ap₂ (λ y z. eqb y 1 && eqb z 1) (low-bit r x p l) (high-bit r x p)
+
+      go : (c : Bool)
+          → eqb (bit (cond c (bitAnd (low r zeros) (high r zeros)) (bitAnd (low r ones) (high r ones))) p) 1
+          ≡ eqb (bit (cond c zeros ones) p) 1 && eqb (bit (cond c zeros ones) (p + 1 * 2 ^ r)) 1
+      go true = each zeros
+      go false = each ones
+
+  pub least-low : leastOf (cells r) r (masked (low r zeros) (low r ones)) ≡ leastOf (cells r) r (masked zeros ones)
+  least-low = least-cong (cells r) r (masked (low r zeros) (low r ones)) (masked zeros ones) masked-low
+
+  pub least-high : leastOf (cells r) r (masked (high r zeros) (high r ones)) ≡ leastOf (cells r) r (upper r (masked zeros ones))
+  least-high = least-cong (cells r) r (masked (high r zeros) (high r ones)) (upper r (masked zeros ones)) (λ p b _. masked-high p b)
+
+  pub least-common : leastOf (cells r) r (masked (bitAnd (low r zeros) (high r zeros)) (bitAnd (low r ones) (high r ones)))
+      ≡ leastOf (cells r) r (common r (masked zeros ones))
+  least-common =
+      least-cong (cells r) r (masked (bitAnd (low r zeros) (high r zeros)) (bitAnd (low r ones) (high r ones))) (common r (masked zeros ones)) masked-common
+
+-- masks repeated over one input more have the pick repeated
+pub least-repeated : (r zeros ones t : ℕ) → zeros < 2 ^ (2 ^ r) → ones < 2 ^ (2 ^ r) → leastOf (cells r) r (masked zeros ones) ≡ some t
+    → leastOf (cells (suc r)) (suc r) (masked (join r zeros zeros) (join r ones ones)) ≡ some (join r t t)
+unfolding joins closest
+least-repeated r zeros ones t lz lo e =
+    let Z = join r zeros zeros in
+    let O = join r ones ones in
+    let lowz = join-low r zeros zeros lz lz in
+    let lowo = join-low r ones ones lo lo in
+    let highz = join-high r zeros zeros lz lz in
+    let higho = join-high r ones ones lo lo in
+    let l : leastOf (cells r) r (masked Z O) ≡ some t = sym (least-low r Z O) ∙ ap₂ (λ a b. leastOf (cells r) r (masked a b)) lowz lowo ∙ e in
+    let h : leastOf (cells r) r (upper r (masked Z O)) ≡ some t = sym (least-high r Z O) ∙ ap₂ (λ a b. leastOf (cells r) r (masked a b)) highz higho ∙ e in
+    let c : leastOf (cells r) r (common r (masked Z O)) ≡ some t =
+    sym (least-common r Z O) ∙ ap₂ (λ a b. leastOf (cells r) r (masked a b)) (ap₂ bitAnd lowz highz ∙ and-self zeros) (ap₂ bitAnd lowo higho ∙ and-self ones) ∙ e in
+    least-halves r (masked Z O) ∙ rw (c, h, l) (ap {B = Option ℕ} some (closer-self (cells (suc r)) (join r t t)))

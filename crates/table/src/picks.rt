@@ -1,0 +1,341 @@
+// The pick between two masks by halving: the table of fewest cells, then the smallest, that is 0 only on patterns of the mask `zeros` and 1 only on
+// patterns of the mask `ones`. A result is one number, its rank: cells, then the table. Blocks of two inputs are looked up in a table that the caller
+// lends, since a constant is copied by every function that names it.
+ghost use mathlib.Core.Path.{_≡_};
+ghost use Prim.Native.Nat.{_<_, _≤_, _^_, _+_, _*_, min};
+ghost use Rattle.table.specs.Cells.{cells};
+ghost use Rattle.table.specs.Pick.{leastOf, masked, pickOf, rank};
+ghost use Rattle.table.specs.Blocks.{blockOf, Blocks, Shown, Covered};
+
+// The pick of each pair of masks of two inputs, at zeros * 16 + ones: cells * 256 + table * 17, the table twice side by side.
+// Where a pattern has neither 0 nor 1 there is none: 64 cells.
+const BLOCKS: [u16; 256] = [
+    0x4000,
+    0x4000,
+    0x4000,
+    0x4000,
+    0x4000,
+    0x4000,
+    0x4000,
+    0x4000,
+    0x4000,
+    0x4000,
+    0x4000,
+    0x4000,
+    0x4000,
+    0x4000,
+    0x4000,
+    0x00ff,
+    0x4000,
+    0x4000,
+    0x4000,
+    0x4000,
+    0x4000,
+    0x4000,
+    0x4000,
+    0x4000,
+    0x4000,
+    0x4000,
+    0x4000,
+    0x4000,
+    0x4000,
+    0x4000,
+    0x02ee,
+    0x00ff,
+    0x4000,
+    0x4000,
+    0x4000,
+    0x4000,
+    0x4000,
+    0x4000,
+    0x4000,
+    0x4000,
+    0x4000,
+    0x4000,
+    0x4000,
+    0x4000,
+    0x4000,
+    0x02dd,
+    0x4000,
+    0x00ff,
+    0x4000,
+    0x4000,
+    0x4000,
+    0x4000,
+    0x4000,
+    0x4000,
+    0x4000,
+    0x4000,
+    0x4000,
+    0x4000,
+    0x4000,
+    0x4000,
+    0x01cc,
+    0x01cc,
+    0x01cc,
+    0x00ff,
+    0x4000,
+    0x4000,
+    0x4000,
+    0x4000,
+    0x4000,
+    0x4000,
+    0x4000,
+    0x4000,
+    0x4000,
+    0x4000,
+    0x4000,
+    0x02bb,
+    0x4000,
+    0x4000,
+    0x4000,
+    0x00ff,
+    0x4000,
+    0x4000,
+    0x4000,
+    0x4000,
+    0x4000,
+    0x4000,
+    0x4000,
+    0x4000,
+    0x4000,
+    0x4000,
+    0x01aa,
+    0x01aa,
+    0x4000,
+    0x4000,
+    0x01aa,
+    0x00ff,
+    0x4000,
+    0x4000,
+    0x4000,
+    0x4000,
+    0x4000,
+    0x4000,
+    0x4000,
+    0x4000,
+    0x4000,
+    0x0399,
+    0x4000,
+    0x02bb,
+    0x4000,
+    0x02dd,
+    0x4000,
+    0x00ff,
+    0x4000,
+    0x4000,
+    0x4000,
+    0x4000,
+    0x4000,
+    0x4000,
+    0x4000,
+    0x4000,
+    0x0288,
+    0x0288,
+    0x01aa,
+    0x01aa,
+    0x01cc,
+    0x01cc,
+    0x01aa,
+    0x00ff,
+    0x4000,
+    0x4000,
+    0x4000,
+    0x4000,
+    0x4000,
+    0x4000,
+    0x4000,
+    0x0277,
+    0x4000,
+    0x4000,
+    0x4000,
+    0x4000,
+    0x4000,
+    0x4000,
+    0x4000,
+    0x00ff,
+    0x4000,
+    0x4000,
+    0x4000,
+    0x4000,
+    0x4000,
+    0x4000,
+    0x0366,
+    0x0277,
+    0x4000,
+    0x4000,
+    0x4000,
+    0x4000,
+    0x4000,
+    0x4000,
+    0x02ee,
+    0x00ff,
+    0x4000,
+    0x4000,
+    0x4000,
+    0x4000,
+    0x4000,
+    0x0155,
+    0x4000,
+    0x0155,
+    0x4000,
+    0x4000,
+    0x4000,
+    0x4000,
+    0x4000,
+    0x0155,
+    0x4000,
+    0x00ff,
+    0x4000,
+    0x4000,
+    0x4000,
+    0x4000,
+    0x0244,
+    0x0155,
+    0x0244,
+    0x0155,
+    0x4000,
+    0x4000,
+    0x4000,
+    0x4000,
+    0x01cc,
+    0x0155,
+    0x01cc,
+    0x00ff,
+    0x4000,
+    0x4000,
+    0x4000,
+    0x0133,
+    0x4000,
+    0x4000,
+    0x4000,
+    0x0133,
+    0x4000,
+    0x4000,
+    0x4000,
+    0x0133,
+    0x4000,
+    0x4000,
+    0x4000,
+    0x00ff,
+    0x4000,
+    0x4000,
+    0x0222,
+    0x0133,
+    0x4000,
+    0x4000,
+    0x0222,
+    0x0133,
+    0x4000,
+    0x4000,
+    0x01aa,
+    0x0133,
+    0x4000,
+    0x4000,
+    0x01aa,
+    0x00ff,
+    0x4000,
+    0x0211,
+    0x4000,
+    0x0133,
+    0x4000,
+    0x0155,
+    0x4000,
+    0x0133,
+    0x4000,
+    0x0211,
+    0x4000,
+    0x0133,
+    0x4000,
+    0x0155,
+    0x4000,
+    0x00ff,
+    0x0000,
+    0x0000,
+    0x0000,
+    0x0000,
+    0x0000,
+    0x0000,
+    0x0000,
+    0x0000,
+    0x0000,
+    0x0000,
+    0x0000,
+    0x0000,
+    0x0000,
+    0x0000,
+    0x0000,
+    0x0000,
+];
+
+// The table of blocks, to be lent to the functions below.
+pub fn blocks() -> [u16; 256]
+    ensures { λ r. ⌜ Blocks r ⌝ }
+{
+    BLOCKS
+}
+
+fn lesser(a: u32, b: u32) -> u32
+    ensures { λ r. ⌜ r ≡ min a b ⌝ }
+{
+    if a < b { a } else { b }
+}
+
+// Two inputs: an entry of the table.
+fn block(e: &[u16; 256], zeros: u32, ones: u32) -> u32
+    requires { ⌜ Blocks (now e) × (zeros < 16) × (ones < 16) ⌝ }
+    ensures { λ r. ⌜ (r ≡ blockOf zeros ones) × (r ≤ 16384) ⌝ }
+{
+    let at = (zeros * 16 + ones) as usize;
+    e[at] as u32
+}
+
+// Three inputs: cells * 256 + table.
+fn pick3(e: &[u16; 256], zeros: u32, ones: u32) -> u32
+    requires { ⌜ Blocks (now e) × (zeros < 256) × (ones < 256) ⌝ }
+    ensures { λ r. ⌜ Shown 3 256 (leastOf (cells 3) 3 (masked zeros ones)) r × (r ≤ 16384) ⌝ }
+{
+    let a = block(e, zeros % 16, ones % 16);
+    let b = block(e, zeros / 16, ones / 16);
+    let c = block(e, (zeros % 16) & (zeros / 16), (ones % 16) & (ones / 16));
+    lesser(c, (a / 256 + 1) * 256 + a % 16 + b / 16 * 16)
+}
+
+// Four inputs: the rank.
+fn pick4(e: &[u16; 256], zeros: u32, ones: u32) -> u32
+    requires { ⌜ Blocks (now e) × (zeros < 65536) × (ones < 65536) ⌝ }
+    ensures { λ r. ⌜ Shown 4 65536 (leastOf (cells 4) 4 (masked zeros ones)) r ⌝ }
+{
+    let a = pick3(e, zeros % 256, ones % 256);
+    let b = pick3(e, zeros / 256, ones / 256);
+    let c = pick3(
+        e,
+        (zeros % 256) & (zeros / 256),
+        (ones % 256) & (ones / 256),
+    );
+    lesser(c * 256 + c % 256, (a / 256 + 1) * 65536 + a % 256 + b * 256)
+}
+
+// The rank of the pick among the tables of n inputs. The search calls it with the masks of a wire, which cover every pattern.
+pub fn pick(e: &[u16; 256], n: u8, zeros: u16, ones: u16) -> u32
+    requires { ⌜ Blocks (now e) × (1 ≤ n) × (n ≤ 4) × (zeros < 2 ^ (2 ^ n)) × (ones < 2 ^ (2 ^ n)) × Covered n zeros ones ⌝ }
+    ensures { λ r. ⌜ r ≡ rank n (pickOf n zeros ones) ⌝ }
+{
+    let z = zeros as u32;
+    let o = ones as u32;
+    match n {
+        1 => {
+            let x = block(e, z * 5, o * 5);
+            x / 256 * 65536 + x % 4
+        }
+        2 => {
+            let x = block(e, z, o);
+            x / 256 * 65536 + x % 16
+        }
+        3 => {
+            let x = pick3(e, z, o);
+            x / 256 * 65536 + x % 256
+        }
+        _ => pick4(e, z, o),
+    }
+}
