@@ -1,6 +1,6 @@
 -- Sets of values and of patterns as numbers, which the code computes with. Sixteen values and sixteen patterns are the most there are.
-use Prim.Native.Nat.{ℕ, _^_}
-use mathlib.Core.Bool.{Bool, cond}
+use Prim.Native.Nat.{ℕ, _*_, _-_, _^_}
+use mathlib.Core.Bool.{Bool, true, false, cond}
 use mathlib.Core.List.{List}
 use lib.Bits.{bitAnd}
 use lib.Dec.{eqb, ltb}
@@ -23,6 +23,11 @@ withBit w j b = bitAnd w (columnOf j b)
 -- the patterns on which some value has wire j at b: bit p is pattern p
 unfoldable pub maskOf : List ℕ → ℕ → ℕ → ℕ
 maskOf sets j b = ofBits 16 (λ p. isOne (occurs 4 (ofSets sets p) j b))
+
+-- mask x with pattern p taken out unless the test holds
+unfoldable pub cut : ℕ → ℕ → Bool → ℕ
+cut x p true = x
+cut x p false = x - bit x p * 2 ^ p
 
 -- the sets once wire j is b on pattern p
 unfoldable pub narrowed : List ℕ → ℕ → ℕ → ℕ → List ℕ

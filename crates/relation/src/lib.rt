@@ -1,10 +1,15 @@
 // Boolean relations: which wire values are allowed on each input pattern.
+use crate::handed::empty_pattern;
+use crate::handed::wide_pattern;
+use crate::patterns::patterns_of;
 use base::Refusal;
+use base::sizes_out;
 ghost use mathlib.Core.Path.{_≡_};
 ghost use Rattle.relation.specs.Handed.{checkOf};
 
 pub mod values; // sets of wire values
 pub mod patterns; // sets of all patterns: masks, splits, values of a stage
+mod handed; // the first pattern that a test refuses
 
 // n inputs, m wires, and for each pattern the set of allowed values: bit v of a set is value v.
 pub struct Relation {
@@ -17,4 +22,28 @@ pub struct Relation {
 pub enum Checked {
     WellFormed,
     Refused(Refusal),
+}
+
+impl Relation {
+    // The test of a relation that is handed over as numbers: sizes, then bits past the last value, then empty sets.
+    pub fn check(self) -> Checked
+        ensures { λ r. ⌜ r ≡ checkOf self ⌝ }
+    {
+        let n = self.n;
+        let m = self.m;
+        let sets = self.sets;
+        if sizes_out(n, m) {
+            return Checked::Refused(Refusal::at(Refusal::OUT_OF_RANGE, 0));
+        }
+        let count = patterns_of(n);
+        let wide = wide_pattern(n, m, sets);
+        if wide < count {
+            return Checked::Refused(Refusal::at(Refusal::OUT_OF_RANGE, wide as usize));
+        }
+        let none = empty_pattern(n, sets);
+        if none < count {
+            return Checked::Refused(Refusal::at(Refusal::EMPTY, none as usize));
+        }
+        Checked::WellFormed
+    }
 }

@@ -4,7 +4,7 @@ ghost use Prim.Native.Nat.{_<_, _≤_, _^_};
 ghost use Rattle.table.specs.Bits.{bit};
 ghost use Rattle.relation.specs.Source.{value};
 ghost use Rattle.relation.specs.Tests.{wires};
-ghost use Rattle.relation.specs.Masks.{maskOf, narrowed, agreed, cleared};
+ghost use Rattle.relation.specs.Masks.{maskOf, cut, narrowed, agreed, cleared};
 use crate::values::column;
 use crate::values::with_bit;
 
@@ -54,6 +54,14 @@ pub fn mask(sets: [u16; 16], j: u8, b: u8) -> u16
         }
     }
     found
+}
+
+// A mask with pattern p taken out, unless it is kept: only this bit of a mask can change when the pattern's set is narrowed.
+pub fn cut_mask(x: u16, p: u8, kept: bool) -> u16
+    requires { ⌜ p < 16 ⌝ }
+    ensures { λ r. ⌜ r ≡ cut x p kept ⌝ }
+{
+    if kept { x } else { x - (bit_of(x, p) << p) }
 }
 
 // The sets once wire j is b on pattern p: one part of a split.

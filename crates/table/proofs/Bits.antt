@@ -5,7 +5,7 @@ use mathlib.Core.Logic.{_⊎_, inl, inr, ⊎-elim}
 use mathlib.Core.Bool.{Bool, true, false, not, _&&_, _||_}
 use mathlib.Core.List.{List, [], _∷_, _++_}
 use native.Mathlib.Omega.{arith}
-use native.Mathlib.Nat.{not-suc-le-zero, le-of-suc-le-suc, mod-lt, mod-eq-of-lt, mul-le-mul-right, add-mul-div-right, add-mul-mod-self-right, mod-add-div', div-lt-iff-lt-mul, le-dest, add-comm, pow-suc, div-eq-of-lt, lt-of-lt-of-le}
+use native.Mathlib.Nat.{not-suc-le-zero, le-of-suc-le-suc, eq-or-lt-of-le, mod-lt, mod-eq-of-lt, mul-le-mul-right, add-mul-div-right, add-mul-mod-self-right, mod-add-div', div-lt-iff-lt-mul, le-dest, add-comm, pow-suc, div-eq-of-lt, lt-of-lt-of-le}
 use lib.Dec.{T, eqb}
 use lib.Bits.{bitAnd, and-shr, and-mod}
 use lib.Pow.{pow-pos, pow-add, pow-mono, high, shr-shr}
@@ -62,6 +62,16 @@ pub sum-bound : (k c : ℕ) (f : ℕ → ℕ) → ((i : ℕ) → i < k → f i �
 unfolding sum
 sum-bound zero c f h = omega arith
 sum-bound (suc k) c f h = omega (arith, sum-bound k c f (λ i l. h i (omega arith)), h k (omega arith))
+
+-- what is 0 from m on adds nothing
+pub sum-short : (f : ℕ → ℕ) (m k : ℕ) → m ≤ k → ((i : ℕ) → m ≤ i → f i ≡ 0) → sum k f ≡ sum m f
+unfolding sum
+sum-short f m zero h z = let e : m ≡ 0 = omega arith in rw e
+sum-short f m (suc k) h z =
+    ⊎-elim (λ (l : m ≤ k). omega (arith, sum-short f m k l z, z k l)) (λ (e : m ≡ suc k). rw e) (le-or-top h)
+  where
+    le-or-top : m ≤ suc k → (m ≤ k) ⊎ (m ≡ suc k)
+    le-or-top q = ⊎-elim (λ e. inr e) (λ l. inl (le-of-suc-le-suc l)) (eq-or-lt-of-le q)
 
 -- bits
 pub bit-lt : (w v : ℕ) → bit w v < 2
@@ -187,3 +197,8 @@ pub row-cong : (k : ℕ) (f g : ℕ → ℕ) → ((i : ℕ) → i < k → f i �
 unfolding row
 row-cong zero f g h = refl
 row-cong (suc k) f g h = cc (row-cong k f g (λ i l. h i (omega arith)), h k (omega arith))
+
+-- a row of four, entry by entry
+pub row-four : (f : ℕ → ℕ) {a b c d : ℕ} → a ≡ f 0 → b ≡ f 1 → c ≡ f 2 → d ≡ f 3 → _≡_ {A = List ℕ} (a ∷ b ∷ c ∷ d ∷ []) (row 4 f)
+unfolding row
+row-four f p q r s = cc

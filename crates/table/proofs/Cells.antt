@@ -68,7 +68,7 @@ constant-halves r t (inr e) =
     square zero h = absurd (omega arith)
     square (suc w) h = let e : suc w - 1 ≡ w = omega arith in rw e (omega arith)
 
-constant-cells : (n t : ℕ) → (t ≡ 0) ⊎ (t ≡ 2 ^ (2 ^ n) - 1) → cells n t ≡ 0
+pub constant-cells : (n t : ℕ) → (t ≡ 0) ⊎ (t ≡ 2 ^ (2 ^ n) - 1) → cells n t ≡ 0
 unfolding cells
 constant-cells zero t h = refl
 constant-cells (suc n) t h =

@@ -1,6 +1,6 @@
 -- Laws of the least number that passes a test.
 use Prim.Native.Nat.{ℕ, zero, suc, _<_, _≤_}
-use mathlib.Core.Path.{_≡_, refl}
+use mathlib.Core.Path.{_≡_, refl, ap}
 use mathlib.Core.Logic.{_⊎_, inl, inr, ⊎-elim}
 use mathlib.Core.Bool.{Bool, cond, not}
 use mathlib.Core.Option.{Option, none, some}
@@ -64,3 +64,7 @@ module _ (key : ℕ → ℕ) (fit : ℕ → Bool) where
   pub least-only : (k r q : ℕ) → Least k (some r) → Least k (some q) → r ≡ q
   least-only k r q a c =
       le-antisymm (a .3 q (c .0) (c .1) (c .2 r (a .0) (a .1))) (c .3 r (a .0) (a .1) (a .2 q (c .0) (c .1)))
+
+  pub least-eq : (k : ℕ) (o : Option ℕ) (t : ℕ) → Least k o → Least k (some t) → o ≡ some t
+  least-eq k none t a c = absurd (a t (c .0) (c .1))
+  least-eq k (some r) t a c = ap {B = Option ℕ} some (least-only k r t a c)

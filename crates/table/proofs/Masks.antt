@@ -12,17 +12,30 @@ use Rattle.table.specs.Bits.{bit, all, ofBits}
 use Rattle.table.specs.Cells.{cells, low, high}
 use Rattle.table.specs.Pick.{Proj, suits, least, orZero, leastOf, masked, pickOf}
 use Rattle.table.specs.Blocks.{Covered}
-use Rattle.table.proofs.Bits.{all-cong, all-intro, ofBits-lt, bit-ofBits, bit-lt, bit-cases, test-and}
+use Rattle.table.proofs.Bits.{all-cong, all-intro, all-at, ofBits-lt, bit-ofBits, bit-lt, bit-cases, test-and}
 use Rattle.table.proofs.Cells.{low-bit, high-bit}
-use Rattle.table.proofs.Least.{Least, least-is}
+use Rattle.table.proofs.Least.{Least, least-is, least-eq}
 use Rattle.table.proofs.Halving.{upper, common, join, joins, closest, least-halves, join-low, join-high}
 use Rattle.table.proofs.Ranks.{closer-self}
 
--- only the patterns there are count
-pub least-cong : (key : ℕ → ℕ) (n : ℕ) (P Q : Proj) → ((p b : ℕ) → p < 2 ^ n → P p b ≡ Q p b) → leastOf key n P ≡ leastOf key n Q
+-- only the patterns and bits there are count
+pub least-cong : (key : ℕ → ℕ) (n : ℕ) (P Q : Proj) → ((p b : ℕ) → p < 2 ^ n → b < 2 → P p b ≡ Q p b) → leastOf key n P ≡ leastOf key n Q
 unfolding leastOf suits
 least-cong key n P Q h =
-    ap (λ f. least key f (2 ^ (2 ^ n))) (fun-ext (λ t. all-cong (2 ^ n) (λ p. P p (bit t p)) (λ p. Q p (bit t p)) (λ p l. h p (bit t p) l)))
+    ap (λ f. least key f (2 ^ (2 ^ n)))
+    (fun-ext (λ t. all-cong (2 ^ n) (λ p. P p (bit t p)) (λ p. Q p (bit t p)) (λ p l. h p (bit t p) l (bit-lt t p))))
+
+-- the least over more tables that still suits is the least over fewer
+pub least-shrink : (key : ℕ → ℕ) (n : ℕ) (P Q : Proj) (t : ℕ) → ((p b : ℕ) → p < 2 ^ n → b < 2 → T (Q p b) → T (P p b)) → leastOf key n P ≡ some t
+    → T (suits n Q t) → leastOf key n Q ≡ some t
+unfolding leastOf suits
+least-shrink key n P Q t sub e s =
+    let k = 2 ^ (2 ^ n) in
+    let a : Least key (suits n P) k (some t) = subst (Least key (suits n P) k) e (least-is key (suits n P) k) in
+    let up : (r : ℕ) → T (suits n Q r) → T (suits n P r) =
+    λ r q. all-intro (2 ^ n) (λ p. P p (bit r p)) (λ p l. sub p (bit r p) l (bit-lt r p) (all-at (2 ^ n) (λ p. Q p (bit r p)) q p l)) in
+    least-eq key (suits n Q) k (least key (suits n Q) k) t (least-is key (suits n Q) k)
+    (a .0, s, λ r l q. a .2 r l (up r q), λ r l q w. a .3 r l (up r q) w)
 
 -- where 0 or 1 occurs on every pattern some table suits, and so there is a least one
 pub some-suits : (n : ℕ) (P : Proj) → ((p : ℕ) → p < 2 ^ n → T (P p 0) ⊎ T (P p 1)) → (t : ℕ) × (t < 2 ^ (2 ^ n)) × T (suits n P t)
@@ -92,15 +105,15 @@ module _ (r zeros ones : ℕ) where
       go false = each ones
 
   pub least-low : leastOf (cells r) r (masked (low r zeros) (low r ones)) ≡ leastOf (cells r) r (masked zeros ones)
-  least-low = least-cong (cells r) r (masked (low r zeros) (low r ones)) (masked zeros ones) masked-low
+  least-low = least-cong (cells r) r (masked (low r zeros) (low r ones)) (masked zeros ones) (λ p b l _. masked-low p b l)
 
   pub least-high : leastOf (cells r) r (masked (high r zeros) (high r ones)) ≡ leastOf (cells r) r (upper r (masked zeros ones))
-  least-high = least-cong (cells r) r (masked (high r zeros) (high r ones)) (upper r (masked zeros ones)) (λ p b _. masked-high p b)
+  least-high = least-cong (cells r) r (masked (high r zeros) (high r ones)) (upper r (masked zeros ones)) (λ p b _ _. masked-high p b)
 
   pub least-common : leastOf (cells r) r (masked (bitAnd (low r zeros) (high r zeros)) (bitAnd (low r ones) (high r ones)))
       ≡ leastOf (cells r) r (common r (masked zeros ones))
   least-common =
-      least-cong (cells r) r (masked (bitAnd (low r zeros) (high r zeros)) (bitAnd (low r ones) (high r ones))) (common r (masked zeros ones)) masked-common
+      least-cong (cells r) r (masked (bitAnd (low r zeros) (high r zeros)) (bitAnd (low r ones) (high r ones))) (common r (masked zeros ones)) (λ p b l _. masked-common p b l)
 
 -- masks repeated over one input more have the pick repeated
 pub least-repeated : (r zeros ones t : ℕ) → zeros < 2 ^ (2 ^ r) → ones < 2 ^ (2 ^ r) → leastOf (cells r) r (masked zeros ones) ≡ some t

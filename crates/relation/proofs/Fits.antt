@@ -1,0 +1,164 @@
+-- Laws of the test of a relation that is handed over as numbers: what passing says, and what refusal 10 says.
+use mathlib.Core.Path.{_≡_, refl, sym, ap, _∙_}
+use mathlib.Core.Logic.{⊎-elim}
+use mathlib.Core.Bool.{Bool, true, false, cond, not, _||_}
+use mathlib.Core.List.{List}
+use Prim.Native.Nat.{ℕ, _^_, _<_, _≤_}
+use native.Mathlib.Omega.{arith}
+use lib.Dec.{T, T-not, not-T, eqb, ltb, ltb→lt, nltb→le, leb, nleb→lt, leb→le}
+use lib.ListN.{getD, take}
+use lib.Seq.{getD-take}
+use borrow.Author.Tests.{ne-eqb, lt-ltb, le-ltb}
+use Rattle.base.proofs.Tests.{decide, eq-test, test-no}
+use Rattle.base.specs.Refusals.{refusalAt, outOfRange, empty}
+use Rattle.base.specs.Sizes.{countOut, sizesOut}
+use Rattle.base.specs.Lowest.{lowest}
+use Rattle.base.proofs.Lowest.{lowest-or, lowest-none}
+use Rattle.base.specs.declared.Refusal.{Refusal}
+use Rattle.table.specs.Bits.{any}
+use Rattle.relation.specs.declared.Relation.{Relation}
+use Rattle.relation.specs.declared.Checked.{Checked}
+use Rattle.relation.specs.declared.Checked.the-variants.{WellFormed, Refused}
+use Rattle.relation.specs.Handed.{relationOf, widePattern, checkOf}
+use Rattle.relation.specs.Source.{WellDefined}
+use Rattle.relation.specs.Tests.{ofSets, emptyPattern}
+use Rattle.relation.specs.Masks.{member}
+use Rattle.relation.proofs.Decide.{well-defined-or, empty-not}
+use Rattle.relation.proofs.Columns.{any-member}
+use Rattle.relation.proofs.Rows.{lowest-cong}
+
+-- a relation that passes the test
+pub record Fit (r : Relation) : Type 0 where
+  pub some-inputs : 1 ≤ r .n
+  pub few-inputs : r .n ≤ 4
+  pub some-wires : 1 ≤ r .m
+  pub few-wires : r .m ≤ 4
+  pub small : (p : ℕ) → p < 2 ^ r .n → getD (r .sets) p 0 < 2 ^ (2 ^ r .m)
+  pub well-defined : WellDefined (r .n) (r .m) (relationOf r)
+
+neither : (a b : Bool) → T (not (a || b)) → T (not a) × T (not b)
+neither true b t = absurd t
+neither false b t = (tt, t)
+
+count-in : (x k : ℕ) → T (not (countOut x k)) → (1 ≤ x) × (x ≤ k)
+count-in x k t =
+    let u = neither (eqb x 0) (ltb k x) t in
+    let ne : x ≡ 0 → ⊥ = λ e. T-not (eqb x 0) (u .0) (eq-test e) in
+    (omega arith, nltb→le k x (u .1))
+
+pub sizes-in : (n m : ℕ) → sizesOut n m ≡ false → (1 ≤ n) × (n ≤ 4) × (1 ≤ m) × (m ≤ 4)
+sizes-in n m e =
+    let u = neither (countOut n 4) (countOut m 4) (rw e tt) in
+    (count-in n 4 (u .0) .0, count-in n 4 (u .0) .1, count-in m 4 (u .1) .0, count-in m 4 (u .1) .1)
+
+-- no set has a bit from 2 ^ m up
+pub none-wide : (n m : ℕ) (sets : List ℕ) → 2 ^ n ≤ widePattern n m sets → (p : ℕ) → p < 2 ^ n → getD sets p 0 < 2 ^ (2 ^ m)
+unfolding widePattern
+none-wide n m sets h p l =
+    let f : ℕ → Bool = λ p. leb (2 ^ (2 ^ m)) (getD sets p 0) in
+    ⊎-elim (λ b. absurd (omega arith)) (λ z. nleb→lt (2 ^ (2 ^ m)) (getD sets p 0) (z p l)) (lowest-or (2 ^ n) f)
+
+not-twice : (b : Bool) → not (not b) ≡ b
+not-twice true = refl
+not-twice false = refl
+
+-- where none has, the lowest empty set is the lowest that is 0
+pub empty-zero : (n m : ℕ) (sets : List ℕ) → ((p : ℕ) → p < 2 ^ n → getD sets p 0 < 2 ^ (2 ^ m))
+    → emptyPattern n m (ofSets (take (2 ^ n) sets)) ≡ lowest (2 ^ n) (λ p. eqb (getD sets p 0) 0)
+unfolding emptyPattern ofSets member
+empty-zero n m sets h =
+    lowest-cong (2 ^ n) (λ p. not (any (2 ^ m) (ofSets (take (2 ^ n) sets) p))) (λ p. eqb (getD sets p 0) 0)
+    (λ p l. ap (λ w. not (any (2 ^ m) (member w))) (getD-take (2 ^ n) sets p 0 l)
+    ∙ ap not (any-member (2 ^ m) (getD sets p 0) (h p l))
+    ∙ not-twice (eqb (getD sets p 0) 0))
+
+-- the replies of the test, in its order
+module _ (r : Relation) where
+  pub check-sizes : sizesOut (r .n) (r .m) ≡ true → checkOf r ≡ Refused (refusalAt outOfRange 0)
+  unfolding checkOf
+  check-sizes e = rw e
+
+  pub check-wide : sizesOut (r .n) (r .m) ≡ false → widePattern (r .n) (r .m) (r .sets) < 2 ^ r .n
+      → checkOf r ≡ Refused (refusalAt outOfRange (widePattern (r .n) (r .m) (r .sets)))
+  unfolding checkOf
+  check-wide e w = rw (e, lt-ltb (widePattern (r .n) (r .m) (r .sets)) (2 ^ r .n) w)
+
+  pub check-none : sizesOut (r .n) (r .m) ≡ false → 2 ^ r .n ≤ widePattern (r .n) (r .m) (r .sets) → emptyPattern (r .n) (r .m) (relationOf r) < 2 ^ r .n
+      → checkOf r ≡ Refused (refusalAt empty (emptyPattern (r .n) (r .m) (relationOf r)))
+  unfolding checkOf
+  check-none e w h =
+      rw (e, le-ltb (widePattern (r .n) (r .m) (r .sets)) (2 ^ r .n) w, lt-ltb (emptyPattern (r .n) (r .m) (relationOf r)) (2 ^ r .n) h)
+
+  pub check-passed : sizesOut (r .n) (r .m) ≡ false → 2 ^ r .n ≤ widePattern (r .n) (r .m) (r .sets) → 2 ^ r .n ≤ emptyPattern (r .n) (r .m) (relationOf r)
+      → checkOf r ≡ WellFormed
+  unfolding checkOf
+  check-passed e w h =
+      rw (e, le-ltb (widePattern (r .n) (r .m) (r .sets)) (2 ^ r .n) w, le-ltb (emptyPattern (r .n) (r .m) (relationOf r)) (2 ^ r .n) h)
+
+never : (x : Refusal) → Refused x ≡ WellFormed → ⊥
+never x e = let z : _≡_ {A = ℕ} 0 1 = cc in absurd (omega arith)
+
+passed : (a b c : Bool) (x y z : Refusal) → cond a (Refused x) (cond b (Refused y) (cond c (Refused z) WellFormed)) ≡ WellFormed
+    → T (not a) × T (not b) × T (not c)
+passed true b c x y z e = absurd (never x e)
+passed false true c x y z e = absurd (never y e)
+passed false false true x y z e = absurd (never z e)
+passed false false false x y z e = (tt, tt, tt)
+
+pub check-well-formed : (r : Relation) → checkOf r ≡ WellFormed → Fit r
+unfolding checkOf
+check-well-formed r e =
+    let n = r .n in
+    let m = r .m in
+    let wide = widePattern n m (r .sets) in
+    let none = emptyPattern n m (relationOf r) in
+    let t = passed (sizesOut n m) (ltb wide (2 ^ n)) (ltb none (2 ^ n)) (refusalAt outOfRange 0) (refusalAt outOfRange wide) (refusalAt empty none) e in
+    let s = sizes-in n m (test-no (sizesOut n m) (t .0)) in
+    record {
+      some-inputs = s .0;
+      few-inputs = s .1;
+      some-wires = s .2;
+      few-wires = s .3;
+      small = none-wide n m (r .sets) (nltb→le wide (2 ^ n) (t .1));
+      well-defined = ⊎-elim (λ w. w) (λ l. absurd (omega (arith, nltb→le none (2 ^ n) (t .2)))) (well-defined-or n m (relationOf r));
+    }
+
+-- and one that is fit passes
+count-passes : (x k : ℕ) → 1 ≤ x → x ≤ k → countOut x k ≡ false
+count-passes x k l h = rw (ne-eqb x 0 (λ e. omega arith), le-ltb k x h)
+
+pub fit-passes : (r : Relation) → Fit r → checkOf r ≡ WellFormed
+unfolding widePattern
+fit-passes r f =
+    let n = r .n in
+    let m = r .m in
+    let sizes : sizesOut n m ≡ false = rw (count-passes n 4 (f .some-inputs) (f .few-inputs), count-passes m 4 (f .some-wires) (f .few-wires)) in
+    let narrow : widePattern n m (r .sets) ≡ 2 ^ n =
+    lowest-none (2 ^ n) (λ p. leb (2 ^ (2 ^ m)) (getD (r .sets) p 0))
+    (λ p l. not-T (leb (2 ^ (2 ^ m)) (getD (r .sets) p 0)) (λ t. omega (arith, leb→le (2 ^ (2 ^ m)) (getD (r .sets) p 0) t, f .small p l))) in
+    let none = emptyPattern n m (relationOf r) in
+    ⊎-elim (λ l. absurd (empty-not n m (relationOf r) (ltb→lt none (2 ^ n) l) (f .well-defined)))
+    (λ l. check-passed r sizes (omega arith) (nltb→le none (2 ^ n) l))
+    (decide (ltb none (2 ^ n)))
+
+abbrev numberOf : Checked → ℕ
+numberOf WellFormed = 0
+numberOf (Refused x) = x .number
+
+-- refusal 10 is told only where some pattern has no value
+emptied : (a b c : Bool) (x y p : ℕ)
+    → cond a (Refused (refusalAt outOfRange 0)) (cond b (Refused (refusalAt outOfRange x)) (cond c (Refused (refusalAt empty y)) WellFormed)) ≡ Refused (refusalAt empty p)
+    → T c
+emptied true b c x y p e = absurd (omega (arith, ap numberOf e))
+emptied false true c x y p e = absurd (omega (arith, ap numberOf e))
+emptied false false true x y p e = tt
+emptied false false false x y p e = absurd (never (refusalAt empty p) (sym e))
+
+pub check-empty : (r : Relation) (p : ℕ) → checkOf r ≡ Refused (refusalAt empty p) → WellDefined (r .n) (r .m) (relationOf r) → ⊥
+unfolding checkOf
+check-empty r p e w =
+    let n = r .n in
+    let m = r .m in
+    let wide = widePattern n m (r .sets) in
+    let none = emptyPattern n m (relationOf r) in
+    empty-not n m (relationOf r) (ltb→lt none (2 ^ n) (emptied (sizesOut n m) (ltb wide (2 ^ n)) (ltb none (2 ^ n)) wide none p e)) w

@@ -1,0 +1,117 @@
+-- `check` meets its contract: one law for each of its four replies.
+use mathlib.Core.Path.{_≡_, sym, _∙_}
+use Prim.Native.Nat.{ℕ, _<_, _≤_, _^_}
+use native.Mathlib.Omega.{arith}
+use lib.Dec.{eqb}
+use lib.ListN.{getD}
+use borrow.Author.Needs.{needs}
+use Rattle.base.specs.Lowest.{lowest}
+use Rattle.relation.specs.declared.Relation.{Relation}
+use Rattle.relation.specs.Handed.{widePattern, relationOf}
+use Rattle.relation.specs.Tests.{emptyPattern}
+use Rattle.relation.proofs.Fits.{sizes-in, none-wide, empty-zero, check-sizes, check-wide, check-none, check-passed}
+use Rattle.relation.proofs.Relation.check.Statement.{statement}
+use Rattle.relation.proofs.Relation.check.Tie as tie
+
+-- the first set that is 0 is the first that is empty, once no set is too wide
+none-is : (r : Relation) (k : ℕ) → 2 ^ r .n ≤ widePattern (r .n) (r .m) (r .sets) → k ≡ lowest (2 ^ r .n) (λ p. eqb (getD (r .sets) p 0) 0)
+    → k ≡ emptyPattern (r .n) (r .m) (relationOf r)
+unfolding relationOf
+none-is r k w e = e ∙ sym (empty-zero (r .n) (r .m) (r .sets) (none-wide (r .n) (r .m) (r .sets) w))
+
+sizes-out-requires : tie.Need-sizes-out-requires
+sizes-out-requires c κs = search needs
+
+at-requires : tie.Need-at-requires
+at-requires c κs = search needs
+
+returns : tie.Need-returns
+returns c =
+    let r = c .before .before .before .before .args .self in
+    rw (c .at .ensures, check-sizes r (sym (c .before .before .sizes-out .ensures) ∙ c .before .if1 .taken))
+
+patterns-of-requires : tie.Need-patterns-of-requires
+patterns-of-requires c κs =
+    let r = c .before .before .before .args .self in
+    omega (arith, sizes-in (r .n) (r .m) (sym (c .before .sizes-out .ensures) ∙ c .if1 .left))
+
+wide-pattern-requires : tie.Need-wide-pattern-requires
+wide-pattern-requires c κs =
+    let r = c .before .before .before .before .args .self in
+    omega (arith, sizes-in (r .n) (r .m) (sym (c .before .before .sizes-out .ensures) ∙ c .before .if1 .left))
+
+cast-at : tie.Need-cast-at
+cast-at c = search needs
+
+at-requires-2 : tie.Need-at-requires-2
+at-requires-2 c κs = search needs
+
+returns-2 : tie.Need-returns-2
+returns-2 c =
+    let r = c .before .before .before .before .before .before .before .args .self in
+    let wide = c .before .before .wide-pattern in
+    let e : widePattern (r .n) (r .m) (r .sets) < 2 ^ r .n = omega (arith, wide .ensures, c .before .before .before .patterns-of .ensures, c .before .if2 .taken) in
+    rw (
+      c .at2 .ensures,
+      check-wide r (sym (c .before .before .before .before .before .sizes-out .ensures) ∙ c .before .before .before .before .if1 .left) e,
+      wide .ensures,
+    )
+
+empty-pattern-requires : tie.Need-empty-pattern-requires
+empty-pattern-requires c κs =
+    let r = c .before .before .before .before .before .before .args .self in
+    omega (arith, sizes-in (r .n) (r .m) (sym (c .before .before .before .before .sizes-out .ensures) ∙ c .before .before .before .if1 .left))
+
+cast-at-2 : tie.Need-cast-at-2
+cast-at-2 c = search needs
+
+at-requires-3 : tie.Need-at-requires-3
+at-requires-3 c κs = search needs
+
+returns-3 : tie.Need-returns-3
+returns-3 c =
+    let r = c .before .before .before .before .before .before .before .before .before .args .self in
+    let count = c .before .before .before .before .before .patterns-of in
+    let none = c .before .before .empty-pattern in
+    let w : 2 ^ r .n ≤ widePattern (r .n) (r .m) (r .sets) =
+    omega (arith, c .before .before .before .before .wide-pattern .ensures, count .ensures, c .before .before .before .if2 .left) in
+    let e = none-is r (none .result) w (none .ensures) in
+    rw (
+      c .at3 .ensures,
+      check-none r
+          (sym (c .before .before .before .before .before .before .before .sizes-out .ensures) ∙ c .before .before .before .before .before .before .if1 .left)
+          w
+          (omega (arith, e, count .ensures, c .before .if3 .taken)),
+      e,
+    )
+
+returns-4 : tie.Need-returns-4
+returns-4 c =
+    let r = c .before .before .before .before .before .before .before .before .args .self in
+    let count = c .before .before .before .before .patterns-of in
+    let none = c .before .empty-pattern in
+    let w : 2 ^ r .n ≤ widePattern (r .n) (r .m) (r .sets) =
+    omega (arith, c .before .before .before .wide-pattern .ensures, count .ensures, c .before .before .if2 .left) in
+    sym
+    (check-passed r
+    (sym (c .before .before .before .before .before .before .sizes-out .ensures) ∙ c .before .before .before .before .before .if1 .left)
+    w
+    (omega (arith, none-is r (none .result) w (none .ensures), count .ensures, c .if3 .left)))
+
+pub check-spec : {M : Type 1} → statement M
+check-spec =
+    tie.close
+    (tie.spec
+    sizes-out-requires
+    at-requires
+    returns
+    patterns-of-requires
+    wide-pattern-requires
+    cast-at
+    at-requires-2
+    returns-2
+    empty-pattern-requires
+    cast-at-2
+    at-requires-3
+    returns-3
+    returns-4)

@@ -1,0 +1,66 @@
+-- The entry: a relation that passes its test is searched as it stands, and the answer is the reply of document 01.
+use Prim.Native.Nat.{ℕ, _^_, _≤_}
+use mathlib.Core.Path.{_≡_, refl, sym, ap, ap₂, subst, _∙_}
+use mathlib.Core.Bool.{true, false}
+use mathlib.Core.List.{List}
+use lib.ListN.{length, getD, take}
+use Rattle.base.specs.declared.Refusal.{Refusal}
+use Rattle.relation.specs.declared.Relation.{Relation}
+use Rattle.relation.specs.declared.Checked.the-variants.{WellFormed, Refused as Turned}
+use Rattle.relation.specs.Source.{Rel}
+use Rattle.relation.specs.Tests.{ofSets}
+use Rattle.relation.specs.Masks.{cleared}
+use Rattle.relation.specs.Handed.{relationOf, checkOf}
+use Rattle.relation.proofs.Sets.{Fit, check-well-formed, cleared-takes, cleared-narrow}
+use Rattle.search.specs.declared.Part.{Part}
+use Rattle.search.specs.declared.State.{State}
+use Rattle.search.specs.declared.Mark.the-variants.{Best, Stopped}
+use Rattle.search.specs.declared.Answer.{Answer}
+use Rattle.search.specs.Search.{floor, start, searchPart, run}
+use Rattle.search.specs.TreeBoard.{tree}
+use Rattle.search.specs.Reply.{markOf, answerOf, refusedWith, afterCheck, searchOf}
+use Rattle.search.specs.Kept.{Sized, Sets}
+
+-- what the parts of the run make together
+pub ran : (n m budget : ℕ) (sets : List ℕ) (w : Part) (st s : State) → w .n ≡ n → w .m ≡ m → w .sets ≡ sets → st ≡ start (tree n m) (ofSets sets)
+    → s ≡ searchPart (tree (w .n) (w .m)) budget (ofSets (w .sets)) st → s ≡ run (tree n m) budget (ofSets sets)
+unfolding run
+ran n m budget sets w st s en em es est e = cc
+
+pub stopped-answer : (n m : ℕ) (R : Rel) (s t : State) (f : ℕ) → s ≡ t → s .stopped ≡ true → f ≡ floor (tree n m) R
+    → _≡_ {A = Answer} (record { tables = s .tables; cells = s .cells; floor = f; visits = s .visits; mark = Stopped }) (answerOf n m R t)
+unfolding answerOf markOf
+stopped-answer n m R s t f e h ef = rw (← e, h, ef)
+
+pub best-answer : (n m : ℕ) (R : Rel) (s t : State) → s ≡ t → s .stopped ≡ false
+    → _≡_ {A = Answer} (record { tables = s .tables; cells = s .cells; floor = s .cells; visits = s .visits; mark = Best }) (answerOf n m R t)
+unfolding answerOf markOf
+best-answer n m R s t e h = rw (← e, h)
+
+-- a relation that passes its test, and its sets as the code holds them
+module _ (r : Relation) (long : length (r .sets) ≡ 16) (passes : checkOf r ≡ WellFormed) where
+  fit : Fit r
+  fit = check-well-formed r passes
+
+  pub inputs : r .n ≤ 4
+  inputs = fit .few-inputs
+
+  pub sized : Sized (r .n) (r .m)
+  sized = record { one = fit .some-inputs; inputs = fit .few-inputs; wires = fit .few-wires }
+
+  pub as-held : ofSets (cleared (r .n) (r .sets)) ≡ relationOf r
+  unfolding relationOf
+  as-held = cleared-takes (r .n) (r .sets) (fit .few-inputs) long
+
+  pub held : Sets (r .n) (r .m) (cleared (r .n) (r .sets))
+  held =
+      let w = cleared-narrow (r .n) (r .m) (r .sets) long (fit .few-inputs) (fit .small) in
+      record { long = w .long; small = w .small; past = w .past; defined = rw as-held (fit .well-defined) }
+
+  pub answered : (budget : ℕ) → searchOf r budget ≡ answerOf (r .n) (r .m) (relationOf r) (run (tree (r .n) (r .m)) budget (relationOf r))
+  unfolding searchOf afterCheck
+  answered budget = rw passes
+
+pub turned-away : (r : Relation) (budget : ℕ) (f : Refusal) → checkOf r ≡ Turned f → searchOf r budget ≡ refusedWith f
+unfolding searchOf afterCheck
+turned-away r budget f e = rw e

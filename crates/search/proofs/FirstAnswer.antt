@@ -1,0 +1,122 @@
+-- The first answer, wire by wire.
+use Prim.Native.Nat.{ℕ, zero, suc, _+_, _*_, _^_, _/_, _%_, _<_, _≤_}
+use mathlib.Core.Path.{_≡_, refl, sym, ap, ap₂, subst, _∙_}
+use mathlib.Core.Logic.{_⊎_, inl, inr, ⊎-elim}
+use mathlib.Core.Bool.{Bool, true, false, cond, not}
+use mathlib.Core.List.{List, [], _∷_}
+use native.Mathlib.Numerals.{add-one}
+use native.Mathlib.Omega.{arith}
+use native.Mathlib.Nat.{lt-of-lt-of-le}
+use borrow.Author.Tests.{lt-ltb, le-ltb}
+use lib.Dec.{T, T-not, eqb, ltb, eqb→eq, ltb→lt, lt→ltb}
+use lib.ListN.{length, getD, set, length-set}
+use lib.Pow.{pow-mono}
+use lib.Seq.{getD-set-same, getD-set-other}
+use Rattle.base.specs.Sizes.{maxWires}
+use Rattle.base.proofs.Tests.{cond-has, decide, eq-test, test-ext}
+use Rattle.table.specs.Bits.{sum, row}
+use Rattle.table.specs.Cells.{cells}
+use Rattle.table.specs.Pick.{pickOf, rank, tableSpace}
+use Rattle.table.proofs.Bits.{row-at, row-length, sum-cong}
+use Rattle.relation.specs.Source.{Rel, Tables}
+use Rattle.relation.specs.Tests.{ofSets, wires, agree}
+use Rattle.relation.specs.Masks.{maskOf, agreed}
+use Rattle.relation.proofs.Splits.{agree-well-defined}
+use Rattle.relation.proofs.Sets.{agreed-agree, agreed-narrow}
+use Rattle.relation.proofs.Rows.{filled-row}
+use Rattle.search.specs.declared.State.{State}
+use Rattle.search.specs.Search.{tablesOf, total, pick, left, quick, start}
+use Rattle.search.specs.TreeBoard.{tree}
+use Rattle.search.specs.Kept.{Sized, Sets}
+use Rattle.search.proofs.Picks.{wires-tables, pick-fits}
+use Rattle.search.proofs.Keeping.{narrow, kept-pick, least, rank-parts}
+
+-- the table chosen for wire i
+abbrev chosen : ℕ → ℕ → List ℕ → Tables
+chosen n m sets i = pick (tree n m) (left (tree n m) (ofSets sets) i) i
+
+-- where wires 0 to j - 1 are chosen: what is left of the sets, the tables, and their cells
+pub record Taken (n m : ℕ) (sets : List ℕ) (j : ℕ) (rest tables : List ℕ) (sums : ℕ) : Type 0 where
+  pub reached : j ≤ m
+  pub kept : Sets n m rest
+  pub is-left : ofSets rest ≡ left (tree n m) (ofSets sets) j
+  pub are-chosen : tables ≡ tablesOf j (chosen n m sets)
+  pub counted : sums ≡ sum j (λ i. cells n (chosen n m sets i))
+  pub few : sums ≤ j * tableSpace
+
+pub none-taken : (n m : ℕ) (sets : List ℕ) → Sets n m sets → Taken n m sets 0 sets (0 ∷ 0 ∷ 0 ∷ 0 ∷ []) 0
+unfolding left tablesOf row sum
+none-taken n m sets ok = record { reached = omega arith; kept = ok; is-left = refl; are-chosen = refl; counted = refl; few = omega arith }
+
+-- one table more in a row of tables
+more-tables : (j : ℕ) (X : Tables) (tables : List ℕ) → j < maxWires → tables ≡ tablesOf j X → set tables j (X j) ≡ tablesOf (j + 1) X
+unfolding tablesOf
+more-tables j X tables lj e =
+    let f : ℕ → ℕ = λ i. cond (ltb i j) (X i) 0 in
+    let g : ℕ → ℕ = λ i. cond (ltb i (j + 1)) (X i) 0 in
+    let long : length tables ≡ maxWires = ap length e ∙ row-length maxWires f in
+    filled-row maxWires g (set tables j (X j)) (simp length-set long)
+    (λ q l.
+    ⊎-elim
+    (λ t.
+    let d = eqb→eq q j t in
+    rw d (getD-set-same tables j (X j) 0 (rw long lj) ∙ sym (rw (lt-ltb j (j + 1) (omega arith)))))
+    (λ t.
+    let ne : q ≡ j → ⊥ = λ d. T-not (eqb q j) t (eq-test d) in
+    getD-set-other tables j q (X j) 0 ne ∙ ap (λ ts. getD ts q 0) e ∙ row-at maxWires f q l
+    ∙ ap (λ b. cond b (X q) 0) (test-ext (ltb q j) (ltb q (j + 1)) (λ h. lt→ltb q (j + 1) (omega (arith, ltb→lt q j h))) (λ h. lt→ltb q j (below q ne (ltb→lt q (j + 1) h)))))
+    (decide (eqb q j)))
+  where
+    below : (q : ℕ) → (q ≡ j → ⊥) → q < j + 1 → q < j
+    below q ne h = omega arith
+
+-- the next wire, from the rank of its pick
+module _ (n m : ℕ) (sz : Sized n m) (sets : List ℕ) (j : ℕ) (rest tables : List ℕ) (sums : ℕ) (tk : Taken n m sets j rest tables sums) (lj : j < m) (r : ℕ) (er : r ≡ rank n (pickOf n (maskOf rest j 0) (maskOf rest j 1))) where
+  is-chosen : pick (tree n m) (ofSets rest) j ≡ chosen n m sets j
+  is-chosen = ap (λ R. pick (tree n m) R j) (tk .is-left)
+
+  parts : (r % tableSpace ≡ pick (tree n m) (ofSets rest) j) × (r / tableSpace ≡ cells n (pick (tree n m) (ofSets rest) j))
+  parts =
+      let k = kept-pick n m sz rest (tk .kept) j in
+      let t = pick (tree n m) (ofSets rest) j in
+      let q = rank-parts n t (sz .inputs) (least n m sz rest (tk .kept) j .0) in
+      let e = er ∙ ap (rank n) k in
+      (ap (λ x. x % tableSpace) e ∙ q .0, ap (λ x. x / tableSpace) e ∙ q .1)
+
+  small : (p : ℕ) → getD rest p 0 < 65536
+  small p = lt-of-lt-of-le (tk .kept .small p) (pow-mono {i = 2 ^ m} {j = 2 ^ 4} (pow-mono {i = m} {j = 4} (sz .wires)))
+
+  pub next-taken : (t s : ℕ) → t ≡ r % tableSpace → s ≡ r / tableSpace → s < tableSpace → Taken n m sets (j + 1) (agreed rest j t) (set tables j t) (sums + s)
+  unfolding left tree sum
+  next-taken t s et es ls =
+      let R = ofSets rest in
+      let p = pick (tree n m) R j in
+      let tp : t ≡ p = et ∙ parts .0 in
+      let ag = agreed-agree rest j t (tk .kept .long) small in
+      let w = agreed-narrow n m rest j t (narrow n m sz rest (tk .kept)) in
+      record {
+        reached = omega arith;
+        kept =
+            record {
+              long = w .long;
+              small = w .small;
+              past = w .past;
+              defined = rw (ag, tp) (agree-well-defined R j p n m (pick-fits (tree n m) R (tk .kept .defined) j));
+            };
+        is-left = ag ∙ ap (agree R j) tp ∙ ap (λ Q. agree Q j (pick (tree n m) Q j)) (tk .is-left) ∙ ap (left (tree n m) (ofSets sets)) (sym (add-one j));
+        are-chosen = ap (set tables j) (tp ∙ is-chosen) ∙ more-tables j (chosen n m sets) tables (omega (arith, sz .wires)) (tk .are-chosen);
+        counted = ap₂ (λ x y. x + y) (tk .counted) (es ∙ parts .1 ∙ ap (cells n) is-chosen) ∙ ap (λ k. sum k (λ i. cells n (chosen n m sets i))) (sym (add-one j));
+        few = omega (arith, tk .few);
+      }
+
+-- with all wires chosen it is the start of the search
+pub all-taken : (n m : ℕ) (sz : Sized n m) (sets rest tables : List ℕ) (sums j : ℕ) → j ≡ m → Taken n m sets j rest tables sums
+    → _≡_ {A = State} (record { tables = tables; cells = sums; visits = 0; stopped = false }) (start (tree n m) (ofSets sets))
+unfolding start quick total tree
+all-taken n m sz sets rest tables sums j e tk =
+    let et : tables ≡ tablesOf m (chosen n m sets) = tk .are-chosen ∙ ap (λ k. tablesOf k (chosen n m sets)) e in
+    let ec : sums ≡ sum m (λ i. cells n (wires (tablesOf m (chosen n m sets)) i)) =
+    tk .counted ∙ ap (λ k. sum k (λ i. cells n (chosen n m sets i))) e
+    ∙ sum-cong m (λ i. cells n (chosen n m sets i)) (λ i. cells n (wires (tablesOf m (chosen n m sets)) i))
+    (λ i l. ap (cells n) (sym (wires-tables n m (sz .wires) (chosen n m sets) i l))) in
+    rw (et, ec)

@@ -1,0 +1,9 @@
+pub mod Picks
+pub mod Promised
+pub mod Depth
+pub mod Families
+pub mod Keeping
+pub mod Opening
+pub mod Steps
+pub mod FirstAnswer
+pub mod Entry

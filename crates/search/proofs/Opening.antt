@@ -1,0 +1,112 @@
+-- The pair to split at: what the nested loops find is the lowest pattern in conflict and its lowest open wire.
+use Prim.Native.Nat.{ℕ, zero, suc, _^_, _<_, _≤_}
+use mathlib.Core.Path.{_≡_, refl, sym, ap, ap₂, subst, _∙_}
+use mathlib.Core.Logic.{_⊎_, inl, inr, ⊎-elim}
+use mathlib.Core.Bool.{Bool, true, false, cond, not}
+use mathlib.Core.List.{List}
+use native.Mathlib.Omega.{arith}
+use lib.Dec.{T, T-not, not-T, ltb, nltb→le, ltb→lt}
+use lib.ListN.{getD, List·getD-eq-default}
+use Rattle.base.specs.Sizes.{maxWires}
+use Rattle.base.specs.Lowest.{lowest}
+use Rattle.base.proofs.Tests.{cond-has, decide, test-yes, test-no}
+use Rattle.base.proofs.Lowest.{lowest-at}
+use Rattle.table.specs.Bits.{bit, row}
+use Rattle.table.proofs.Bits.{row-at, row-length}
+use Rattle.relation.specs.Source.{Rel, Tables, value}
+use Rattle.relation.specs.Tests.{ofSets, wires, free, freeWire, fits, compatible, conflict}
+use Rattle.relation.specs.Masks.{member}
+use Rattle.relation.proofs.Decide.{compatible-at, compatible-test, conflict-is, freeWire-is}
+use Rattle.relation.proofs.Sets.{member-sets, free-four, value-four}
+use Rattle.search.specs.declared.Open.{Open}
+use Rattle.search.specs.declared.Open.the-variants.{Pair, Closed}
+use Rattle.search.specs.Search.{tablesOf, pick, picks}
+use Rattle.search.specs.TreeBoard.{tree}
+use Rattle.search.specs.Kept.{Sized, Sets, openOf}
+use Rattle.search.proofs.Picks.{wires-tables, pick-fits}
+
+-- a reply's tables past the last wire are 0
+pub tables-past : (m : ℕ) (X : Tables) (j : ℕ) → m ≤ j → wires (tablesOf m X) j ≡ 0
+unfolding tablesOf
+tables-past m X j l =
+    let f : ℕ → ℕ = λ i. cond (ltb i m) (X i) 0 in
+    ⊎-elim
+    (λ h. row-at maxWires f j (ltb→lt j maxWires h)
+    ∙ cond-has (λ x. x ≡ 0) (ltb j m) (λ g. absurd (omega (arith, ltb→lt j m g))) (λ _. refl))
+    (λ h. List·getD-eq-default (row maxWires f) 0 (rw (row-length maxWires f) (nltb→le j maxWires h)))
+    (decide (ltb j maxWires))
+
+-- what a pair found tells
+pub pair-told : (n m : ℕ) (R : Rel) (X : Tables) (p j : ℕ) → openOf n m R X ≡ Pair p j
+    → T (not (compatible n m R X)) × (conflict n m R X ≡ p) × (freeWire m (R p) ≡ j)
+unfolding openOf
+pair-told n m R X p j e =
+    ⊎-elim
+    (λ t. let z : Closed ≡ Pair p j = rw (test-yes (compatible n m R X) t) at e in let y : _≡_ {A = ℕ} 0 1 = cc in absurd (omega arith))
+    (λ t.
+    let z : Pair (conflict n m R X) (freeWire m (R (conflict n m R X))) ≡ Pair p j = rw (test-no (compatible n m R X) t) at e in
+    let ep : conflict n m R X ≡ p = cc in
+    let ej : freeWire m (R (conflict n m R X)) ≡ j = cc in
+    (t, ep, rw ep at ej))
+    (decide (compatible n m R X))
+
+module _ (n m : ℕ) (sz : Sized n m) (sets : List ℕ) (ok : Sets n m sets) (tables : List ℕ) (are : tables ≡ picks (tree n m) (ofSets sets)) where
+  -- the code's tests
+  pub allowed-test : (p : ℕ) → member (getD sets p 0) (value 4 (wires tables) p) ≡ ofSets sets p (value m (wires tables) p)
+  unfolding picks tree
+  allowed-test p =
+      ap₂ (λ (S : ℕ → Bool) v. S v) (sym (member-sets sets p))
+      (value-four m tables p (sz .wires) (λ j l. ap (λ ts. wires ts j) are ∙ tables-past m (pick (tree n m) (ofSets sets)) j l))
+
+  pub open-test : (p j : ℕ) → free 4 (member (getD sets p 0)) j ≡ free m (ofSets sets p) j
+  open-test p j = free-four m (getD sets p 0) j (sz .wires) (ok .small p) ∙ ap (λ S. free m S j) (sym (member-sets sets p))
+
+  -- every pick fits, so a pattern in conflict has an open wire
+  pub some-open : (p : ℕ) → p < 2 ^ n → T (not (ofSets sets p (value m (wires tables) p))) → ((j : ℕ) → j < m → T (not (free m (ofSets sets p) j))) → ⊥
+  unfolding picks tree
+  some-open p lp t h =
+      let R = ofSets sets in
+      let w = freeWire-is n m R (wires tables) (ok .defined)
+      (λ j l. rw (are, wires-tables n m (sz .wires) (pick (tree n m) R) j l) (pick-fits (tree n m) R (ok .defined) j)) p lp t in
+      T-not (free m (R p) (freeWire m (R p))) (h (freeWire m (R p)) (w .0)) (w .1)
+
+  pub none-open : ((p : ℕ) → p < 2 ^ n → T (ofSets sets p (value m (wires tables) p))) → openOf n m (ofSets sets) (wires tables) ≡ Closed
+  unfolding openOf
+  none-open h = rw (test-yes (compatible n m (ofSets sets) (wires tables)) (compatible-test n m (ofSets sets) (wires tables) h))
+
+  pub pair-open : (p j : ℕ) → p < 2 ^ n → j < m → ((q : ℕ) → q < p → T (ofSets sets q (value m (wires tables) q)))
+      → T (not (ofSets sets p (value m (wires tables) p))) → ((i : ℕ) → i < j → T (not (free m (ofSets sets p) i))) → T (free m (ofSets sets p) j)
+      → openOf n m (ofSets sets) (wires tables) ≡ Pair p j
+  unfolding openOf conflict freeWire
+  pair-open p j lp lj before here below free-here =
+      let R = ofSets sets in
+      let X = wires tables in
+      let no : compatible n m R X ≡ false =
+      test-no (compatible n m R X) (not-T (compatible n m R X) (λ t. T-not (R p (value m X p)) here (compatible-at n m R X t p lp))) in
+      let at : lowest (2 ^ n) (λ p. not (R p (value m X p))) ≡ p =
+      lowest-at (2 ^ n) (λ p. not (R p (value m X p))) p lp here (λ q l. not-T (not (R q (value m X q))) (λ t. T-not (R q (value m X q)) t (before q l))) in
+      let wire : lowest m (free m (R p)) ≡ j = lowest-at m (free m (R p)) j lj free-here below in
+      rw (no, at, wire)
+
+  -- what is found is an open pair
+  pub found-open : (p j : ℕ) → openOf n m (ofSets sets) (wires tables) ≡ Pair p j → (p < 2 ^ n) × (j < m) × T (free m (ofSets sets p) j)
+  unfolding picks tree
+  found-open p j e =
+      let R = ofSets sets in
+      let told = pair-told n m R (wires tables) p j e in
+      let at = rw (told .1) at (conflict-is n m R (wires tables) (told .0)) in
+      let w = freeWire-is n m R (wires tables) (ok .defined)
+      (λ j l. rw (are, wires-tables n m (sz .wires) (pick (tree n m) R) j l) (pick-fits (tree n m) R (ok .defined) j)) p (at .0) (at .1) in
+      let v = rw (told .2) at w in (at .0, v .0, v .1)
+
+  pub found-closed : openOf n m (ofSets sets) (wires tables) ≡ Closed → T (compatible n m (ofSets sets) (wires tables))
+  unfolding openOf
+  found-closed e =
+      let R = ofSets sets in
+      let X = wires tables in
+      ⊎-elim (λ t. t)
+      (λ t.
+      let c = conflict n m R X in
+      let z : Pair c (freeWire m (R c)) ≡ Closed = rw (test-no (compatible n m R X) t) at e in
+      let y : _≡_ {A = ℕ} 0 1 = cc in absurd (omega arith))
+      (decide (compatible n m R X))

@@ -1,0 +1,66 @@
+-- The cases of a visit: each return of the code is the written treatment of the part.
+use Prim.Native.Nat.{ℕ, _+_, _*_, _^_, _<_, _≤_}
+use mathlib.Core.Path.{_≡_, refl, sym, ap, ap₂, subst, _∙_}
+use mathlib.Core.Logic.{⊎-elim}
+use mathlib.Core.Bool.{Bool, true, false, cond, not}
+use mathlib.Core.List.{List}
+use native.Mathlib.Omega.{arith}
+use borrow.Author.Tests.{le-leb, lt-leb}
+use lib.Dec.{T, leb}
+use Rattle.base.specs.Sizes.{maxWires}
+use Rattle.base.proofs.Tests.{decide, test-yes, test-no}
+use Rattle.relation.specs.Source.{Rel, Tables}
+use Rattle.relation.specs.Tests.{ofSets, wires, keep, free, freeWire, compatible, conflict, openPairs}
+use Rattle.relation.specs.Masks.{narrowed}
+use Rattle.relation.proofs.Splits.{keep-closes}
+use Rattle.search.specs.declared.State.{State}
+use Rattle.search.specs.declared.Open.{Open}
+use Rattle.search.specs.declared.Open.the-variants.{Pair, Closed}
+use Rattle.search.specs.Search.{picks, floor, halted, charged, improved, split, expand, charge, treat, searchPart}
+use Rattle.search.specs.TreeBoard.{tree}
+use Rattle.search.specs.Kept.{Sized, Sets, openOf}
+use Rattle.search.proofs.Depth.{search-step}
+use Rattle.search.proofs.Opening.{found-closed, pair-told}
+use Rattle.search.proofs.Keeping.{with-keep}
+
+module _ (n m budget : ℕ) (sz : Sized n m) (sets : List ℕ) (ok : Sets n m sets) (s : State) {f : ℕ} (ef : f ≡ floor (tree n m) (ofSets sets)) where
+  on : Rel → State → State
+  on = searchPart (tree n m) budget
+
+  step : searchPart (tree n m) budget (ofSets sets) s ≡ treat (tree n m) budget (searchPart (tree n m) budget) (ofSets sets) s
+  unfolding tree
+  step = search-step (tree n m) (sz .wires) budget (ofSets sets) s (ok .defined)
+
+  pub discards : s .cells ≤ f → s ≡ searchPart (tree n m) budget (ofSets sets) s
+  unfolding treat
+  discards h = sym (step ∙ rw (← ef, le-leb (s .cells) f h))
+
+  module _ (more : f < s .cells) where
+    pub halts : budget ≤ s .visits → halted s ≡ searchPart (tree n m) budget (ofSets sets) s
+    unfolding treat charge
+    halts h = sym (step ∙ rw (← ef, lt-leb (s .cells) f more, le-leb budget (s .visits) h))
+
+    module _ (left : s .visits < budget) {tables : List ℕ} (et : tables ≡ picks (tree n m) (ofSets sets)) where
+      expands : treat (tree n m) budget (searchPart (tree n m) budget) (ofSets sets) s ≡ expand (tree n m) budget (searchPart (tree n m) budget) (ofSets sets) s
+      unfolding treat charge
+      expands = rw (← ef, lt-leb (s .cells) f more, lt-leb budget (s .visits) left)
+
+      pub improves : openOf n m (ofSets sets) (wires tables) ≡ Closed → improved tables f (charged s) ≡ searchPart (tree n m) budget (ofSets sets) s
+      unfolding expand tree
+      improves e =
+          let t = test-yes (compatible n m (ofSets sets) (wires tables)) (found-closed n m sz sets ok tables et e) in
+          sym (step ∙ expands ∙ rw (← et, t, ← ef))
+
+      pub splits : (p j : ℕ) → openOf n m (ofSets sets) (wires tables) ≡ Pair p j
+          → split (tree n m) budget (searchPart (tree n m) budget) (ofSets sets) p j (charged s) ≡ searchPart (tree n m) budget (ofSets sets) s
+      unfolding expand tree
+      splits p j e =
+          let told = pair-told n m (ofSets sets) (wires tables) p j e in
+          let t = test-no (compatible n m (ofSets sets) (wires tables)) (told .0) in
+          sym (step ∙ expands ∙ rw (← et, t, told .1, told .2))
+
+-- a split closes an open pair
+pub fewer-open : (n m : ℕ) (sz : Sized n m) (sets : List ℕ) (ok : Sets n m sets) (p j b : ℕ) → p < 2 ^ n → j < m → T (free m (ofSets sets p) j) → b < 2
+    → openPairs n m (ofSets (narrowed sets p j b)) < openPairs n m (ofSets sets)
+fewer-open n m sz sets ok p j b lp lj t lb =
+    rw (with-keep n m sz sets ok p j b lp lj t lb) (keep-closes n m (ofSets sets) p j b lp lj t)

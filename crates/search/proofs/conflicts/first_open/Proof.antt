@@ -1,0 +1,161 @@
+use Rattle.search.specs.declared.Open.the-variants.{Pair}
+use Rattle.relation.specs.Masks.{member}
+use Prim.Native.Nat.{ℕ, _+_, _-_, _^_, _<_, _≤_}
+use mathlib.Core.Path.{_≡_, sym, ap, subst, _∙_}
+use mathlib.Core.Logic.{⊎-elim}
+use mathlib.Core.Bool.{not, Bool, true, false}
+use native.Mathlib.Omega.{arith}
+use borrow.Author.Count.{below-more}
+use lib.Dec.{T}
+use lib.ListN.{getD}
+use lib.Pow.{pow-mono}
+use Rattle.relation.specs.Source.{value}
+use Rattle.relation.specs.Tests.{ofSets, wires, free}
+use Rattle.search.proofs.Opening.{allowed-test, open-test, some-open, none-open, pair-open}
+use Rattle.search.proofs.conflicts.first_open.Statement.{statement}
+use Rattle.search.proofs.conflicts.first_open.Tie as tie
+use Rattle.search.proofs.conflicts.first_open.Reads as reads
+use Rattle.search.proofs.conflicts.first_open.Lts as lts
+use Rattle.relation.proofs.patterns.patterns_of.Reads as patterns-of-reads
+use Rattle.relation.proofs.patterns.value_of.Reads as value-of-reads
+use Rattle.relation.proofs.values.contains.Reads as contains-reads
+use Rattle.relation.proofs.values.is_open.Reads as is-open-reads
+
+yes : {r s : Bool} → r ≡ s → r ≡ true → T s
+yes e t = subst T (sym t ∙ e) tt
+
+denied : {r s : Bool} → r ≡ s → not r ≡ true → T (not s)
+denied e t = subst T (sym t ∙ ap not e) tt
+
+granted : {r s : Bool} → r ≡ s → not r ≡ false → T s
+granted {r = true} e t = subst T e tt
+granted {r = false} e t = absurd (subst T t tt)
+
+no : {r s : Bool} → r ≡ s → r ≡ false → T (not s)
+no e t = subst (λ x. T (not x)) (sym t ∙ e) tt
+
+abbrev Inv-loop : tie.InvT-loop
+Inv-loop n m tables sets count p j₀ set j = (j ≤ m) × ((i : ℕ) → i < j → T (not (free m (ofSets sets p) i)))
+
+abbrev μ-loop : tie.MeasureT-loop
+μ-loop n m tables sets count p j₀ set j = m - j
+
+abbrev Inv-patterns : tie.InvT-patterns
+Inv-patterns n m tables sets count p₀ j₀ p j = (p ≤ count) × ((q : ℕ) → q < p → T (ofSets sets q (value m (wires tables) q)))
+
+abbrev μ-patterns : tie.MeasureT-patterns
+μ-patterns n m tables sets count p₀ j₀ p j = count - p
+
+patterns-of-requires : tie.Need-patterns-of-requires Inv-loop μ-loop Inv-patterns μ-patterns
+patterns-of-requires c κs = c .pre .0 .inputs
+
+patterns-holds : tie.Need-patterns-holds Inv-loop μ-loop Inv-patterns μ-patterns
+patterns-holds c = (omega arith, λ q l. absurd (omega arith))
+
+cast-set : tie.Need-cast-set Inv-loop μ-loop Inv-patterns μ-patterns
+cast-set c = omega arith
+
+mul-set : tie.Need-mul-set Inv-loop μ-loop Inv-patterns μ-patterns
+mul-set c = omega arith
+
+array-read-set : tie.Need-array-read-set Inv-loop μ-loop Inv-patterns μ-patterns
+array-read-set c = omega arith
+
+value-of-requires : tie.Need-value-of-requires Inv-loop μ-loop Inv-patterns μ-patterns
+value-of-requires c κs = omega arith
+
+contains-requires : tie.Need-contains-requires Inv-loop μ-loop Inv-patterns μ-patterns
+contains-requires c κs = omega arith
+
+loop-holds : tie.Need-loop-holds Inv-loop μ-loop Inv-patterns μ-patterns
+loop-holds c = (omega arith, λ q l. absurd (omega arith))
+
+is-open-requires : tie.Need-is-open-requires Inv-loop μ-loop Inv-patterns μ-patterns
+is-open-requires c κs = omega (arith, c .before .before .before .before .before .before .before .before .pre .0 .wires)
+
+add-j : tie.Need-add-j Inv-loop μ-loop Inv-patterns μ-patterns
+add-j c = omega arith
+
+loop-less : tie.Need-loop-less Inv-loop μ-loop Inv-patterns μ-patterns
+loop-less c = omega arith
+
+loop-again : tie.Need-loop-again Inv-loop μ-loop Inv-patterns μ-patterns
+loop-again c =
+    let a = c .before .before .before .before .before .before .before .before .before .before .args in
+    let q = c .before .before .before .before .before .before .before .before .before .before .pre in
+    let p = c .before .before .before .before .before .before .before .before .patterns .p in
+    let j = c .before .before .before .loop .j in
+    (omega arith, below-more _ _ (c .before .before .before .loop .inv .1) (no (c .before .is-open .ensures ∙ open-test (a .n) (a .m) (q .0) (a .t3) (q .1) (a .tables) (q .2) p j) (c .if2 .left)))
+
+add-p : tie.Need-add-p Inv-loop μ-loop Inv-patterns μ-patterns
+add-p c = omega arith
+
+patterns-less : tie.Need-patterns-less Inv-loop μ-loop Inv-patterns μ-patterns
+patterns-less c = omega arith
+
+patterns-again : tie.Need-patterns-again Inv-loop μ-loop Inv-patterns μ-patterns
+patterns-again c =
+    let a = c .before .before .before .before .before .before .args in
+    let q = c .before .before .before .before .before .before .pre in
+    let p = c .before .before .before .before .patterns .p in
+    let here = c .before .contains .ensures ∙ ap (member (getD (a .t3) p 0)) (c .before .before .value-of .ensures .0) ∙ allowed-test (a .n) (a .m) (q .0) (a .t3) (q .1) (a .tables) (q .2) p in
+    let lp : p < 2 ^ a .n = omega arith in (
+      omega arith,
+      below-more _ _ (c .before .before .before .before .patterns .inv .1)
+          (⊎-elim
+          (λ w. absurd (some-open (a .n) (a .m) (q .0) (a .t3) (q .1) (a .tables) (q .2) p lp (denied here (w .0 .taken)) (λ j l. w .1 .inv .1 j (omega (arith, w .2 .left, w .1 .inv .0)))))
+          (λ w. granted here (w .0 .left))
+          (c .if1 .came)),
+    )
+
+returns : tie.Need-returns Inv-loop μ-loop Inv-patterns μ-patterns
+returns c =
+    let a = c .before .before .before .before .args in
+    let q = c .before .before .before .before .pre in
+    let p = c .before .before .patterns .p in
+    let lp : p < 2 ^ a .n = omega (arith, c .if3 .taken, c .before .before .before .patterns-of .ensures .0) in
+    ⊎-elim
+    (λ w. absurd (omega (arith, w .0 .left, c .if3 .taken)))
+    (λ w.
+    let here = w .2 .ensures ∙ ap (member (getD (a .t3) p 0)) (w .1 .ensures .0) ∙ allowed-test (a .n) (a .m) (q .0) (a .t3) (q .1) (a .tables) (q .2) p in
+    let j = w .4 .j in
+    ap (Pair p) (w .8)
+    ∙ sym (pair-open (a .n) (a .m) (q .0) (a .t3) (q .1) (a .tables) (q .2) p j lp (omega (arith, w .5 .taken)) (c .before .before .patterns .inv .1) (denied here (w .3 .taken)) (w .4 .inv .1)
+    (yes (w .6 .ensures ∙ open-test (a .n) (a .m) (q .0) (a .t3) (q .1) (a .tables) (q .2) p j) (w .7 .taken))))
+    (c .before .patterns-test .came)
+
+returns-2 : tie.Need-returns-2 Inv-loop μ-loop Inv-patterns μ-patterns
+returns-2 c =
+    let a = c .before .before .before .before .args in
+    let q = c .before .before .before .before .pre in
+    ⊎-elim
+    (λ w. sym (none-open (a .n) (a .m) (q .0) (a .t3) (q .1) (a .tables) (q .2)
+    (λ p l. c .before .before .patterns .inv .1 p (omega (arith, w .0 .left, c .before .before .before .patterns-of .ensures .0)))))
+    (λ w. absurd (omega (arith, w .0 .taken, c .if3 .left)))
+    (c .before .patterns-test .came)
+
+pub first-open-spec : {M : Type 1} → statement M
+first-open-spec =
+    tie.close
+    (tie.spec
+    Inv-loop
+    μ-loop
+    Inv-patterns
+    μ-patterns
+    patterns-of-requires
+    patterns-holds
+    cast-set
+    mul-set
+    array-read-set
+    value-of-requires
+    contains-requires
+    loop-holds
+    is-open-requires
+    add-j
+    loop-less
+    loop-again
+    add-p
+    patterns-less
+    patterns-again
+    returns
+    returns-2)

@@ -1,0 +1,64 @@
+use Prim.Native.Nat.{ℕ, _%_}
+use mathlib.Core.Path.{_≡_, ap, sym, _∙_}
+use native.Mathlib.Nat.{mod-eq-of-lt}
+use Rattle.table.specs.Bits.{bit}
+use Rattle.table.specs.Pick.{tableSpace}
+use Rattle.relation.specs.Tests.{occurs}
+use Rattle.relation.specs.Masks.{member}
+use Rattle.search.specs.Kept.{rankAgain}
+use borrow.Author.Needs.{needs}
+use Rattle.search.proofs.parts.rank_again.Statement.{statement}
+use Rattle.search.proofs.parts.rank_again.Tie as tie
+use Rattle.search.proofs.parts.rank_again.Reads as reads
+use Rattle.search.proofs.parts.rank_again.Lts as lts
+use Rattle.relation.proofs.patterns.bit_of.Reads as bit-of-reads
+use Rattle.relation.proofs.values.has.Reads as has-reads
+use Rattle.search.proofs.ranks.table_of.Reads as table-of-reads
+use Rattle.table.proofs.picks.pick.Reads as pick-reads
+
+table-of-requires : tie.Need-table-of-requires
+table-of-requires c κs = search needs
+
+bit-of-requires : tie.Need-bit-of-requires
+bit-of-requires c κs = search needs
+
+cast-b : tie.Need-cast-b
+cast-b c = search needs
+
+has-requires : tie.Need-has-requires
+has-requires c κs = search needs
+
+pick-requires : tie.Need-pick-requires
+pick-requires c κs = search needs
+
+returns : tie.Need-returns
+unfolding rankAgain
+returns c =
+    let a = c .before .before .before .before .args in
+    let b = c .before .before .bit-of in
+    let e : b .result % 2 ≡ bit (a .rank % tableSpace) (a .p) =
+    mod-eq-of-lt (b .ensures .1) ∙ b .ensures .0 ∙ ap (λ t. bit t (a .p)) (c .before .before .before .table-of .ensures) in
+    let h = sym (c .before .has .ensures ∙ ap (occurs 4 (member (a .set)) (a .j)) e) ∙ c .if1 .taken in
+    rw h
+
+returns-2 : tie.Need-returns-2
+unfolding rankAgain
+returns-2 c =
+    let a = c .before .before .before .before .before .args in
+    let b = c .before .before .before .bit-of in
+    let e : b .result % 2 ≡ bit (a .rank % tableSpace) (a .p) =
+    mod-eq-of-lt (b .ensures .1) ∙ b .ensures .0 ∙ ap (λ t. bit t (a .p)) (c .before .before .before .before .table-of .ensures) in
+    let h = sym (c .before .before .has .ensures ∙ ap (occurs 4 (member (a .set)) (a .j)) e) ∙ c .before .if1 .left in
+    rw h (c .pick .ensures)
+
+pub rank-again-spec : {M : Type 1} → statement M
+rank-again-spec =
+    tie.close
+    (tie.spec
+    table-of-requires
+    bit-of-requires
+    cast-b
+    has-requires
+    pick-requires
+    returns
+    returns-2)

@@ -1,0 +1,73 @@
+-- What the code keeps of a part: its sets, and for each wire the two masks of its projection and the rank of its pick.
+use Prim.Native.Nat.{ℕ, _^_, _/_, _%_, _<_, _≤_}
+use mathlib.Core.Path.{_≡_}
+use mathlib.Core.Bool.{cond}
+use mathlib.Core.List.{List}
+use lib.ListN.{length, getD}
+use Rattle.base.specs.Sizes.{maxInputs, maxWires}
+use Rattle.table.specs.Bits.{bit, sum, row}
+use Rattle.table.specs.Pick.{pickOf, rank, tableSpace}
+use Rattle.table.specs.Blocks.{Covered}
+use Rattle.relation.specs.Source.{Rel, Tables, WellDefined}
+use Rattle.relation.specs.Tests.{ofSets, occurs, compatible, conflict, freeWire}
+use Rattle.relation.specs.Masks.{member, maskOf, cut}
+use Rattle.search.specs.declared.Part.{Part}
+use Rattle.search.specs.declared.Open.{Open}
+use Rattle.search.specs.declared.Open.the-variants.{Pair, Closed}
+
+pub record Sized (n m : ℕ) : Type 0 where
+  pub one : 1 ≤ n
+  pub inputs : n ≤ maxInputs
+  pub wires : m ≤ maxWires
+
+-- the sets of a part: sixteen, of values there are, empty past the last pattern, none empty before
+pub record Sets (n m : ℕ) (sets : List ℕ) : Type 0 where
+  pub long : length sets ≡ 16
+  pub small : (p : ℕ) → getD sets p 0 < 2 ^ (2 ^ m)
+  pub past : (p : ℕ) → 2 ^ n ≤ p → getD sets p 0 ≡ 0
+  pub defined : WellDefined n m (ofSets sets)
+
+-- the masks of the wires' projections: where each can be b
+unfoldable pub masksOf : List ℕ → ℕ → List ℕ
+masksOf sets b = row maxWires (λ j. maskOf sets j b)
+
+-- the ranks of the wires' picks
+unfoldable pub ranksOf : ℕ → List ℕ → List ℕ
+ranksOf n sets = row maxWires (λ j. rank n (pickOf n (maskOf sets j 0) (maskOf sets j 1)))
+
+pub record Kept (part : Part) : Type 0 where
+  pub sized : Sized (part .n) (part .m)
+  pub sets : Sets (part .n) (part .m) (part .sets)
+  pub zeros : part .zeros ≡ masksOf (part .sets) 0
+  pub ones : part .ones ≡ masksOf (part .sets) 1
+  pub ranks : part .ranks ≡ ranksOf (part .n) (part .sets)
+
+-- the tables and the cells of four ranks
+unfoldable pub tablesIn : List ℕ → List ℕ
+tablesIn ranks = row maxWires (λ j. getD ranks j 0 % tableSpace)
+
+unfoldable pub cellsIn : List ℕ → ℕ
+cellsIn ranks = sum maxWires (λ j. getD ranks j 0 / tableSpace)
+
+-- the masks for bit b once pattern p has the set w: pattern p goes where b no longer occurs
+unfoldable pub cutMasks : List ℕ → ℕ → ℕ → ℕ → List ℕ
+cutMasks masks p w b = row maxWires (λ j. cut (getD masks j 0) p (occurs 4 (member w) j b))
+
+-- the rank once pattern p has the set w: a pick whose bit on p still occurs is still the pick
+unfoldable pub rankAgain : ℕ → ℕ → ℕ → ℕ → ℕ → ℕ → ℕ → ℕ
+rankAgain n r p j w zeros ones = cond (occurs 4 (member w) j (bit (r % tableSpace) p)) r (rank n (pickOf n zeros ones))
+
+unfoldable pub ranksAgain : ℕ → List ℕ → ℕ → ℕ → List ℕ → List ℕ → List ℕ
+ranksAgain n ranks p w zeros ones = row maxWires (λ j. rankAgain n (getD ranks j 0) p j w (getD zeros j 0) (getD ones j 0))
+
+-- "take the lowest pattern in conflict and the lowest wire that has both 0 and 1 there"; none where the tables are compatible
+unfoldable pub openOf : ℕ → ℕ → Rel → Tables → Open
+openOf n m R X =
+    let p = conflict n m R X in
+    cond (compatible n m R X) Closed (Pair p (freeWire m (R p)))
+
+-- masks of n inputs that cover every pattern, for each wire
+pub record MasksCover (n : ℕ) (zeros ones : List ℕ) : Type 0 where
+  pub zeros-lt : (j : ℕ) → j < maxWires → getD zeros j 0 < 2 ^ (2 ^ n)
+  pub ones-lt : (j : ℕ) → j < maxWires → getD ones j 0 < 2 ^ (2 ^ n)
+  pub covered : (j : ℕ) → j < maxWires → Covered n (getD zeros j 0) (getD ones j 0)

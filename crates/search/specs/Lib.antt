@@ -1,0 +1,6 @@
+-- The search of document 01, over the count of cells and the order of picks as parameters, and its promise.
+pub mod Search
+pub mod Promise
+pub mod TreeBoard
+pub mod Reply
+pub mod Kept

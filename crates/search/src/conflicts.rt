@@ -1,0 +1,41 @@
+// The pattern and wire to split at.
+use crate::Open;
+use relation::patterns::patterns_of;
+use relation::patterns::value_of;
+use relation::values::contains;
+use relation::values::is_open;
+ghost use mathlib.Core.Path.{_≡_};
+ghost use Prim.Native.Nat.{_<_, _≤_, _^_};
+ghost use Rattle.relation.specs.Tests.{ofSets, wires};
+ghost use Rattle.search.specs.Search.{picks};
+ghost use Rattle.search.specs.TreeBoard.{tree};
+ghost use Rattle.search.specs.Kept.{Sized, Sets, openOf};
+
+// The lowest pattern on which the picks' value is not allowed, and the lowest wire open there. A pattern in conflict has an open wire, since every pick
+// fits its projection.
+pub fn first_open(n: u8, m: u8, sets: [u16; 16], tables: [u16; 4]) -> Open
+    requires { ⌜ Sized n m × Sets n m sets × (tables ≡ picks (tree n m) (ofSets sets)) ⌝ }
+    ensures { λ r. ⌜ r ≡ openOf n m (ofSets sets) (wires tables) ⌝ }
+{
+    let count = patterns_of(n);
+    let mut p: u8 = 0;
+    let mut j: u8 = 0;
+    'patterns: while p < count {
+        let set = sets[p as usize];
+        if !contains(set, value_of(tables, p)) {
+            j = 0;
+            while j < m {
+                if is_open(set, j) {
+                    break 'patterns;
+                }
+                j += 1;
+            }
+        }
+        p += 1;
+    }
+    if p < count {
+        Open::Pair(p, j)
+    } else {
+        Open::Closed
+    }
+}

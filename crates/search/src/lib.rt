@@ -1,0 +1,109 @@
+// The branch and bound: the smallest stage that keeps to a relation.
+use base::Refusal;
+use relation::Checked;
+use relation::Relation;
+use relation::patterns::clear_past;
+use table::picks::blocks;
+ghost use mathlib.Core.Path.{_≡_};
+ghost use Rattle.relation.specs.Tests.{ofSets};
+ghost use Rattle.search.specs.Search.{run};
+ghost use Rattle.search.specs.TreeBoard.{tree};
+ghost use Rattle.search.specs.Reply.{answerOf, searchOf};
+ghost use Rattle.search.specs.Kept.{Sized, Sets};
+
+pub mod ranks; // a pick as one number
+pub mod parts; // what is kept of a part, and its two halves by a split
+pub mod conflicts; // the lowest pattern in conflict and its lowest open wire
+pub mod quick_solver; // the first answer
+pub mod branches; // visiting and splitting a part
+
+// A part (subrelation) of n inputs and m wires: its sets, and for each wire the patterns on which it can be 0, those on which it can be 1, and the
+// rank of its pick.
+pub struct Part {
+    pub n: u8,
+    pub m: u8,
+    pub sets: [u16; 16],
+    pub zeros: [u16; 4],
+    pub ones: [u16; 4],
+    pub ranks: [u32; 4],
+}
+
+// The best so far (incumbent), the visits charged (nodes expanded), and whether a part was left.
+pub struct State {
+    pub tables: [u16; 4],
+    pub cells: u32,
+    pub visits: u32,
+    pub stopped: bool,
+}
+
+// A pattern in conflict with its lowest open wire, or no conflict.
+pub enum Open {
+    Pair(u8, u8),
+    Closed,
+}
+
+// The mark of a reply.
+pub enum Mark {
+    Best,
+    Stopped,
+    Refused(Refusal),
+}
+
+// The reply: four tables, 0 past the last wire; their cells; the floor (lower bound); the visits. All 0 on a refusal.
+pub struct Answer {
+    pub tables: [u16; 4],
+    pub cells: u32,
+    pub floor: u32,
+    pub visits: u32,
+    pub mark: Mark,
+}
+
+// The search of a relation whose sizes and sets were tested, with its sets past the last pattern emptied.
+fn search_sets(n: u8, m: u8, sets: [u16; 16], budget: u32) -> Answer
+    requires { ⌜ Sized n m × Sets n m sets ⌝ }
+    ensures { λ r. ⌜ r ≡ answerOf n m (ofSets sets) (run (tree n m) budget (ofSets sets)) ⌝ }
+{
+    let table = blocks();
+    let whole = parts::whole(&table, n, m, sets);
+    let ranks = whole.ranks;
+    let start = quick_solver::quick(&table, n, m, sets);
+    let s = branches::visit(&table, whole, budget, start);
+    let tables = s.tables;
+    if s.stopped {
+        Answer {
+            tables,
+            cells: s.cells,
+            floor: ranks::floor_of(ranks),
+            visits: s.visits,
+            mark: Mark::Stopped,
+        }
+    } else {
+        Answer {
+            tables,
+            cells: s.cells,
+            floor: s.cells,
+            visits: s.visits,
+            mark: Mark::Best,
+        }
+    }
+}
+
+// The search of any relation under any budget. It refuses what the relation's test refuses.
+pub fn search(relation: Relation, budget: u32) -> Answer
+    ensures { λ r. ⌜ r ≡ searchOf relation budget ⌝ }
+{
+    let n = relation.n;
+    let m = relation.m;
+    let sets = relation.sets;
+    let checked = relation.check();
+    match checked {
+        Checked::WellFormed => search_sets(n, m, clear_past(n, sets), budget),
+        Checked::Refused(refusal) => Answer {
+            tables: [0; 4],
+            cells: 0,
+            floor: 0,
+            visits: 0,
+            mark: Mark::Refused(refusal),
+        },
+    }
+}

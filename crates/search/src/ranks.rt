@@ -1,0 +1,34 @@
+// A pick as one number, its rank: cells * 65536 + table. What knows this form stands here and in the crate `table`.
+ghost use mathlib.Core.Path.{_≡_};
+ghost use Prim.Native.Nat.{_/_, _%_, _<_};
+ghost use Rattle.table.specs.Pick.{tableSpace};
+ghost use Rattle.search.specs.Kept.{tablesIn, cellsIn};
+
+pub fn table_of(rank: u32) -> u16
+    ensures { λ r. ⌜ r ≡ rank % tableSpace ⌝ }
+{
+    (rank % 65536) as u16
+}
+
+pub fn cells_of(rank: u32) -> u32
+    ensures { λ r. ⌜ (r ≡ rank / tableSpace) × (r < tableSpace) ⌝ }
+{
+    rank / 65536
+}
+
+pub fn tables_of(ranks: [u32; 4]) -> [u16; 4]
+    ensures { λ r. ⌜ r ≡ tablesIn ranks ⌝ }
+{
+    [
+        table_of(ranks[0]),
+        table_of(ranks[1]),
+        table_of(ranks[2]),
+        table_of(ranks[3]),
+    ]
+}
+
+pub fn floor_of(ranks: [u32; 4]) -> u32
+    ensures { λ r. ⌜ r ≡ cellsIn ranks ⌝ }
+{
+    cells_of(ranks[0]) + cells_of(ranks[1]) + cells_of(ranks[2]) + cells_of(ranks[3])
+}
