@@ -19,7 +19,7 @@ use Rattle.relation.specs.Tests.{wires, keep, agree, projection, fits, occurs, 
 use Rattle.relation.proofs.Decide.{value-cong, value-is, compatible-fits, some-fits, free-both, compatible-at, conflict-is, freeWire-is}
 use Rattle.relation.proofs.Splits.{keep-part, keep-well-defined, keep-compatible, keep-closes, agree-part, agree-bit, agree-well-defined}
 use Rattle.search.specs.declared.State.{State}
-use Rattle.search.specs.Search.{Board, tablesOf, total, pick, picks, floor, left, quick, start, split, expand, charge, treat, visit, searchPart, run, charged}
+use Rattle.search.specs.Search.{Board, tablesOf, total, pick, picks, floor, left, quick, start, split, expand, charge, treat, visit, searchPart, run, charged, discarded, usedUp}
 use Rattle.search.specs.Promise.{Fair, Sound, Promise}
 use Rattle.search.proofs.Picks.{wires-tables, pick-fits}
 
@@ -40,9 +40,9 @@ module _ (b : Board) (few : b .m ≤ maxWires) (budget : ℕ) where
     pub treat-same : (s : State) → treat b budget f R s ≡ treat b budget g R s
     unfolding treat charge expand picks
     treat-same s =
-        cond-has₂ (λ x y. x ≡ y) (leb (s .cells) (floor b R)) (λ _. refl)
+        cond-has₂ (λ x y. x ≡ y) (discarded s (floor b R)) (λ _. refl)
         (λ _.
-        cond-has₂ (λ x y. x ≡ y) (leb budget (s .visits)) (λ _. refl)
+        cond-has₂ (λ x y. x ≡ y) (usedUp budget s) (λ _. refl)
         (λ _.
         cond-has₂ (λ x y. x ≡ y) (compatible (b .n) (b .m) R (wires (picks b R))) (λ _. refl)
         (λ h.

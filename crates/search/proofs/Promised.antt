@@ -19,7 +19,7 @@ use Rattle.relation.specs.Tests.{wires, keep, agree, projection, fits, occurs, 
 use Rattle.relation.proofs.Decide.{value-cong, value-is, compatible-fits, some-fits, free-both, compatible-at, conflict-is, freeWire-is}
 use Rattle.relation.proofs.Splits.{keep-part, keep-well-defined, keep-compatible, keep-closes, agree-part, agree-bit, agree-well-defined}
 use Rattle.search.specs.declared.State.{State}
-use Rattle.search.specs.Search.{Board, tablesOf, total, pick, picks, floor, left, quick, start, split, expand, charge, treat, visit, searchPart, run, charged}
+use Rattle.search.specs.Search.{Board, tablesOf, total, pick, picks, floor, left, quick, start, split, expand, charge, treat, visit, searchPart, run, charged, discarded, usedUp}
 use Rattle.search.specs.Promise.{Fair, Sound, Promise}
 use Rattle.search.proofs.Picks.{wires-tables, tables-stage, floor-picks, pick-stage, pick-fits, floor-le, quick-compatible, quick-stage}
 
@@ -99,7 +99,7 @@ module _ (b : Board) (fair : Fair b) (budget : ℕ) (Q : Rel) where
         → After R s (charge b budget on R s)
     unfolding charge
     charge-treats k s ih lk sd lf =
-        cond-has (After R s) (leb budget (s .visits))
+        cond-has (After R s) (usedUp budget s)
         (λ h. (
           record { stage = sd .stage; answer = sd .answer; counted = sd .counted; within = sd .within; spent = λ _. omega (arith, leb→le budget (s .visits) h, sd .within) },
           record { down = le-refl (s .cells); stays = λ _. tt; best = λ h. absurd h },
@@ -109,7 +109,7 @@ module _ (b : Board) (fair : Fair b) (budget : ℕ) (Q : Rel) where
     treat-treats : (k : ℕ) (s : State) → Treats k on → openPairs (b .n) (b .m) R < suc k → Sound b budget Q s → After R s (treat b budget on R s)
     unfolding treat
     treat-treats k s ih lk sd =
-        cond-has (After R s) (leb (s .cells) (floor b R))
+        cond-has (After R s) (discarded s (floor b R))
         (λ h. (sd, record { down = le-refl (s .cells); stays = λ h. h; best = λ _ X sX cX. le-trans (leb→le (s .cells) (floor b R) h) (floor-le b R ne fair X sX cX) }))
         (λ h. charge-treats k s ih lk sd (nleb→lt (s .cells) (floor b R) h))
 

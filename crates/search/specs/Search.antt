@@ -33,6 +33,14 @@ charged s = record { tables = s .tables; cells = s .cells; visits = s .visits + 
 abbrev pub improved : List ℕ → ℕ → State → State
 improved tables cells s = record { tables = tables; cells = cells; visits = s .visits; stopped = s .stopped }
 
+-- "the part's floor is at least the best cells so far"
+abbrev pub discarded : State → ℕ → Bool
+discarded s floor = leb (s .cells) floor
+
+-- "the budget is used up"
+abbrev pub usedUp : ℕ → State → Bool
+usedUp budget s = leb budget (s .visits)
+
 module _ (b : Board) where
   -- "A stage's cells are the sum over its wires."
   unfoldable pub total : Tables → ℕ
@@ -46,10 +54,6 @@ module _ (b : Board) where
   unfoldable pub picks : Rel → List ℕ
   picks R = tablesOf (b .m) (pick R)
 
-  -- "The floor of a relation is the sum of its picks' cells." (The lower bound.)
-  unfoldable pub floor : Rel → ℕ
-  floor R = total (pick R)
-
   -- "for wires 0 to m−1 in turn, take the pick in what is left of R, then drop the values that disagree" (source 001's QuickSolver):
   -- what is left when wires 0 to j - 1 are chosen
   unfoldable pub left : Rel → ℕ → Rel
@@ -58,6 +62,10 @@ module _ (b : Board) where
 
   unfoldable pub quick : Rel → List ℕ
   quick R = tablesOf (b .m) (λ j. pick (left R j) j)
+
+  -- "The floor of a relation is the sum of its picks' cells." (The lower bound.)
+  unfoldable pub floor : Rel → ℕ
+  floor R = total (pick R)
 
   -- "First answer: .. It is best so far." (The incumbent.)
   unfoldable pub start : Rel → State
@@ -81,11 +89,11 @@ module _ (b : Board) where
     unfoldable pub charge : (Rel → State → State) → Rel → State → State
     charge on R s =
         let t = expand on R s in
-        cond (leb budget (s .visits)) (halted s) t
+        cond (usedUp budget s) (halted s) t
 
     -- "1. If the part's floor is at least the best cells so far, discard it, at no charge."
     unfoldable pub treat : (Rel → State → State) → Rel → State → State
-    treat on R s = let t = charge on R s in cond (leb (s .cells) (floor R)) s t
+    treat on R s = let t = charge on R s in cond (discarded s (floor R)) s t
 
     -- the treatment of a part, at most k splits deep
     unfoldable pub visit : ℕ → Rel → State → State
