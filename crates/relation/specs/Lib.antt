@@ -3,3 +3,4 @@ pub mod Source
 pub mod Tests
 pub mod Masks
 pub mod Handed
+pub mod Families

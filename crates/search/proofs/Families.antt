@@ -16,7 +16,8 @@ use Rattle.relation.specs.Tests.{wires}
 use Rattle.search.specs.declared.State.{State}
 use Rattle.search.specs.Search.{total, floor, run}
 use Rattle.search.specs.Promise.{Fair, Sound, Promise}
-use Rattle.search.specs.TreeBoard.{tree, Family, size, Smallest}
+use Rattle.relation.specs.Families.{Family, size}
+use Rattle.search.specs.TreeBoard.{tree, Smallest}
 use Rattle.search.proofs.Promised.{run-promise}
 
 pub fair : (n m : ℕ) → m ≤ maxWires → Fair (tree n m)

@@ -1,27 +1,18 @@
--- The board of document 01, whose cells are the selectors of trees, and the stages that compete on it.
-use Prim.Native.Nat.{ℕ, _^_, _<_, _≤_}
+-- The board of document 01, whose cells are the selectors of trees, and the promise told by trees.
+use Prim.Native.Nat.{ℕ, _≤_}
 use mathlib.Core.Path.{_≡_}
 use mathlib.Core.Bool.{not}
 use lib.Dec.{T}
-use Rattle.table.specs.Bits.{sum, ofBits}
 use Rattle.table.specs.Cells.{cells}
-use Rattle.table.specs.Tree.{Tree, Ordered, follow, selectors, reduced}
+use Rattle.table.specs.Tree.{Tree, reduced}
 use Rattle.relation.specs.Source.{Rel}
 use Rattle.relation.specs.Tests.{wires}
+use Rattle.relation.specs.Families.{Family, size}
 use Rattle.search.specs.declared.State.{State}
 use Rattle.search.specs.Search.{Board, floor}
 
 unfoldable pub tree : ℕ → ℕ → Board
 tree n m = record { n = n; m = m; count = cells n; key = cells n }
-
--- m ordered trees, one for each wire, whose value is allowed on every pattern: "The constants reached are the bits of its value v on p."
-pub record Family (n m : ℕ) (R : Rel) (x : ℕ → Tree) : Type 0 where
-  pub ordered : (j : ℕ) → j < m → Ordered n 0 (x j)
-  pub allowed : (p : ℕ) → p < 2 ^ n → T (R p (ofBits m (λ j. follow n p (x j))))
-
--- "A rival's cells are the selectors in all its trees."
-unfoldable pub size : ℕ → (ℕ → Tree) → ℕ
-size m x = sum m (λ j. selectors (x j))
 
 -- The promise told by trees: the reduced trees of the answer keep to the relation and have its cells; no family has fewer unless the search was stopped,
 -- and none has fewer than the floor.

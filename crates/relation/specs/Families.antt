@@ -1,0 +1,15 @@
+-- Families of ordered trees that are compatible with a relation: multiple-output functions drawn as stages.
+use Prim.Native.Nat.{ℕ, _^_, _<_}
+use lib.Dec.{T}
+use Rattle.table.specs.Bits.{sum, ofBits}
+use Rattle.table.specs.Tree.{Tree, Ordered, follow, selectors}
+use Rattle.relation.specs.Source.{Rel}
+
+-- m ordered trees, one for each wire, whose value is allowed on every pattern: "The constants reached are the bits of its value v on p."
+pub record Family (n m : ℕ) (R : Rel) (x : ℕ → Tree) : Type 0 where
+  pub ordered : (j : ℕ) → j < m → Ordered n 0 (x j)
+  pub allowed : (p : ℕ) → p < 2 ^ n → T (R p (ofBits m (λ j. follow n p (x j))))
+
+-- "A rival's cells are the selectors in all its trees."
+unfoldable pub size : ℕ → (ℕ → Tree) → ℕ
+size m x = sum m (λ j. selectors (x j))
