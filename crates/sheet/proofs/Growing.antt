@@ -1,0 +1,190 @@
+-- What one command more changes in what is gathered.
+use Prim.Native.Nat.{ℕ, _+_, _<_}
+use mathlib.Core.Path.{_≡_, refl, sym, ap}
+use mathlib.Core.Bool.{Bool, true, false, cond, not, _||_}
+use mathlib.Core.List.{List, [], _∷_, _++_, append-nil}
+use lib.ListN.{length, getD, set, length-append}
+use lib.Seq.{getD-append-seam}
+use lib.Bits.{bitAnd}
+use Rattle.sheet.specs.declared.Command.{Command}
+use Rattle.sheet.specs.declared.Command.the-variants.{End, Row, DontCare, Gate, Output, Limit}
+use Rattle.sheet.specs.declared.Sheet.{Sheet}
+use Rattle.sheet.specs.Commands.{isEmpty, about, wiresOf, isMarked, isDontCare, hasRow, LogicGate, noGate, rowsOn, dontCaresOn, gatesOf, outputsOf, limitsOn}
+use Rattle.sheet.specs.Gathered.{maxPatterns, maxGates, maxOutputs, row, meet, gathered, allValues, markOn, valueOn, limitOn, gateAt, outputAt, noMark, rowMark, dontCareMark}
+use Rattle.sheet.proofs.Lists.{never, collect-snoc, isEmpty-append, isEmpty-nil, row-getD, row-set, about-same, about-other, getD-snoc-other}
+use Rattle.base.proofs.Tests.{and-false}
+
+-- a pattern without 02 and 03 has no rows and no don't care
+pub unmarked-row : (p : ℕ) (cs : List Command) → isMarked p cs ≡ false → rowsOn p cs ≡ []
+unmarked-row p cs e = isEmpty-nil (rowsOn p cs) (neither (isEmpty (dontCaresOn p cs)) (isEmpty (rowsOn p cs)) e)
+  where
+    neither : (a b : Bool) → not a || not b ≡ false → b ≡ true
+    neither true true f = refl
+    neither true false f = sym f
+    neither false b f = never (sym f)
+
+pub unmarked-care : (p : ℕ) (cs : List Command) → isMarked p cs ≡ false → isDontCare p cs ≡ false
+unmarked-care p cs e = first (isDontCare p cs) (hasRow p cs) e
+  where
+    first : (a b : Bool) → a || b ≡ false → a ≡ false
+    first true b f = f
+    first false b f = refl
+
+pub end-adds : (cs : List Command) → gathered (cs ++ End ∷ []) ≡ gathered cs
+unfolding gathered
+end-adds cs = simp (collect-snoc, append-nil)
+
+pub meet-snoc : (w : ℕ) (xs : List ℕ) (x : ℕ) → meet w (xs ++ x ∷ []) ≡ bitAnd (meet w xs) x
+unfolding meet
+meet-snoc w [] x = refl
+meet-snoc w (y ∷ xs) x = meet-snoc (bitAnd w y) xs x
+
+-- the sheet with a 06 more, a 02 more, a 03 more, a gate more, an output more
+abbrev pub limited : Sheet → ℕ → ℕ → Sheet
+limited h p w =
+    record {
+      n = h .n;
+      m = h .m;
+      marks = h .marks;
+      values = h .values;
+      limits = set (h .limits) p (bitAnd (getD (h .limits) p 0) w);
+      «gate_count» = h .«gate_count»;
+      kinds = h .kinds;
+      lefts = h .lefts;
+      rights = h .rights;
+      «output_count» = h .«output_count»;
+      signals = h .signals;
+    }
+
+abbrev pub rowed : Sheet → ℕ → ℕ → Sheet
+rowed h p v =
+    record {
+      n = h .n;
+      m = h .m;
+      marks = set (h .marks) p rowMark;
+      values = set (h .values) p v;
+      limits = h .limits;
+      «gate_count» = h .«gate_count»;
+      kinds = h .kinds;
+      lefts = h .lefts;
+      rights = h .rights;
+      «output_count» = h .«output_count»;
+      signals = h .signals;
+    }
+
+abbrev pub freed : Sheet → ℕ → Sheet
+freed h p =
+    record {
+      n = h .n;
+      m = h .m;
+      marks = set (h .marks) p dontCareMark;
+      values = h .values;
+      limits = h .limits;
+      «gate_count» = h .«gate_count»;
+      kinds = h .kinds;
+      lefts = h .lefts;
+      rights = h .rights;
+      «output_count» = h .«output_count»;
+      signals = h .signals;
+    }
+
+abbrev pub gated : Sheet → ℕ → ℕ → ℕ → Sheet
+gated h k a b =
+    record {
+      n = h .n;
+      m = h .m;
+      marks = h .marks;
+      values = h .values;
+      limits = h .limits;
+      «gate_count» = h .«gate_count» + 1;
+      kinds = set (h .kinds) (h .«gate_count») k;
+      lefts = set (h .lefts) (h .«gate_count») a;
+      rights = set (h .rights) (h .«gate_count») b;
+      «output_count» = h .«output_count»;
+      signals = h .signals;
+    }
+
+abbrev pub led : Sheet → ℕ → Sheet
+led h s =
+    record {
+      n = h .n;
+      m = h .m;
+      marks = h .marks;
+      values = h .values;
+      limits = h .limits;
+      «gate_count» = h .«gate_count»;
+      kinds = h .kinds;
+      lefts = h .lefts;
+      rights = h .rights;
+      «output_count» = h .«output_count» + 1;
+      signals = set (h .signals) (h .«output_count») s;
+    }
+
+module _ (cs : List Command) where
+  pub limit-adds : (p w : ℕ) → p < maxPatterns → limited (gathered cs) p w ≡ gathered (cs ++ Limit p w ∷ [])
+  unfolding gathered
+  limit-adds p w h =
+      simp (collect-snoc, append-nil)
+      (rw (row-set maxPatterns (λ q. limitOn q cs) (λ q. meet (allValues (wiresOf cs)) (limitsOn q cs ++ about q p w)) p _ h here there))
+    where
+      here : bitAnd (getD (row maxPatterns (λ q. limitOn q cs)) p 0) w ≡ meet (allValues (wiresOf cs)) (limitsOn p cs ++ about p p w)
+      here = rw (row-getD maxPatterns (λ q. limitOn q cs) p h, about-same p w) (sym (meet-snoc (allValues (wiresOf cs)) (limitsOn p cs) w))
+
+      there : (q : ℕ) → (q ≡ p → ⊥) → limitOn q cs ≡ meet (allValues (wiresOf cs)) (limitsOn q cs ++ about q p w)
+      there q e = rw (about-other q p w (λ f. e (sym f)), append-nil (limitsOn q cs))
+
+  pub row-adds : (p v : ℕ) → p < maxPatterns → isMarked p cs ≡ false → rowed (gathered cs) p v ≡ gathered (cs ++ Row p v ∷ [])
+  unfolding gathered
+  row-adds p v h e =
+      simp (collect-snoc, append-nil)
+      (rw (
+        row-set maxPatterns (λ q. markOn q cs) (λ q. cond (isDontCare q cs) dontCareMark (cond (not (isEmpty (rowsOn q cs ++ about q p v))) rowMark noMark)) p rowMark h here there,
+        row-set maxPatterns (λ q. valueOn q cs) (λ q. getD (rowsOn q cs ++ about q p v) 0 0) p v h here′ there′,
+      ))
+    where
+      none : rowsOn p cs ≡ []
+      none = unmarked-row p cs e
+
+      here : rowMark ≡ cond (isDontCare p cs) dontCareMark (cond (not (isEmpty (rowsOn p cs ++ about p p v))) rowMark noMark)
+      here = rw (none, about-same p v, unmarked-care p cs e)
+
+      there : (q : ℕ) → (q ≡ p → ⊥) → markOn q cs ≡ cond (isDontCare q cs) dontCareMark (cond (not (isEmpty (rowsOn q cs ++ about q p v))) rowMark noMark)
+      there q f = rw (about-other q p v (λ g. f (sym g)), append-nil (rowsOn q cs))
+
+      here′ : v ≡ getD (rowsOn p cs ++ about p p v) 0 0
+      here′ = rw (none, about-same p v)
+
+      there′ : (q : ℕ) → (q ≡ p → ⊥) → valueOn q cs ≡ getD (rowsOn q cs ++ about q p v) 0 0
+      there′ q f = rw (about-other q p v (λ g. f (sym g)), append-nil (rowsOn q cs))
+
+  pub dont-care-adds : (p : ℕ) → p < maxPatterns → freed (gathered cs) p ≡ gathered (cs ++ DontCare p ∷ [])
+  unfolding gathered
+  dont-care-adds p h =
+      simp (collect-snoc, append-nil)
+      (rw (row-set maxPatterns (λ q. markOn q cs) (λ q. cond (not (isEmpty (dontCaresOn q cs ++ about q p p))) dontCareMark (cond (hasRow q cs) rowMark noMark)) p dontCareMark h here there))
+    where
+      here : dontCareMark ≡ cond (not (isEmpty (dontCaresOn p cs ++ about p p p))) dontCareMark (cond (hasRow p cs) rowMark noMark)
+      here = rw (about-same p p, isEmpty-append (dontCaresOn p cs) (p ∷ []), and-false (isEmpty (dontCaresOn p cs)))
+
+      there : (q : ℕ) → (q ≡ p → ⊥) → markOn q cs ≡ cond (not (isEmpty (dontCaresOn q cs ++ about q p p))) dontCareMark (cond (hasRow q cs) rowMark noMark)
+      there q f = rw (about-other q p p (λ g. f (sym g)), append-nil (dontCaresOn q cs))
+
+  gate-set : (f : LogicGate → ℕ) (g : LogicGate) → length (gatesOf cs) < maxGates
+      → set (row maxGates (λ i. f (gateAt i cs))) (length (gatesOf cs)) (f g) ≡ row maxGates (λ i. f (getD (gatesOf cs ++ g ∷ []) i noGate))
+  gate-set f g h =
+      row-set maxGates (λ i. f (gateAt i cs)) (λ i. f (getD (gatesOf cs ++ g ∷ []) i noGate)) (length (gatesOf cs)) (f g) h
+      (ap f (sym (getD-append-seam (gatesOf cs) g [] noGate)))
+      (λ j e. ap f (getD-snoc-other (gatesOf cs) g noGate j e))
+
+  pub gate-adds : (k a b : ℕ) → length (gatesOf cs) < maxGates → gated (gathered cs) k a b ≡ gathered (cs ++ Gate k a b ∷ [])
+  unfolding gathered
+  gate-adds k a b h =
+      let g : LogicGate = record { kind = k; left = a; right = b } in
+      simp (collect-snoc, append-nil, length-append)
+      (rw (gate-set (λ x. x .kind) g h, gate-set (λ x. x .left) g h, gate-set (λ x. x .right) g h))
+
+  pub output-adds : (s : ℕ) → length (outputsOf cs) < maxOutputs → led (gathered cs) s ≡ gathered (cs ++ Output s ∷ [])
+  unfolding gathered
+  output-adds s h =
+      simp (collect-snoc, append-nil, length-append)
+      (rw (row-set maxOutputs (λ i. outputAt i cs) (λ i. getD (outputsOf cs ++ s ∷ []) i 0) (length (outputsOf cs)) s h (sym (getD-append-seam (outputsOf cs) s [] 0)) (getD-snoc-other (outputsOf cs) s 0)))

@@ -1,0 +1,19 @@
+-- Laws of unit sheets.
+pub mod Lists
+pub mod Each
+pub mod Powers
+pub mod Growing
+pub mod Fields
+pub mod Replies
+pub mod Judging
+pub mod Steps
+pub mod Passages
+pub mod Turns
+pub mod Opening
+pub mod Wiring
+pub mod Marks
+pub mod Sound
+pub mod Limits
+pub mod Enough
+pub mod Rows
+pub mod Order

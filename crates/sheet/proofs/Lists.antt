@@ -1,0 +1,83 @@
+-- Laws of what a list of commands says, and of lists made entry by entry.
+use Prim.Native.Nat.{ℕ, zero, suc, _<_}
+use mathlib.Core.Path.{_≡_, refl, sym, ap, _∙_}
+use mathlib.Core.Logic.{⊎-elim}
+use mathlib.Core.Bool.{Bool, true, false, _&&_}
+use mathlib.Core.List.{List, [], _∷_, _++_, append-assoc, append-nil}
+use native.Mathlib.Nat.{not-suc-le-zero}
+use native.Mathlib.Omega.{arith}
+use lib.Dec.{T-not, eqb, eqb→eq}
+use lib.ListN.{length, getD, set, length-append, length-set, List·getD-append}
+use lib.Seq.{getD-at, getD-set-same, getD-set-other, ext-getD}
+use borrow.Author.Tests.{eq-eqb, ne-eqb}
+use Rattle.base.specs.Lowest.{lowest}
+use Rattle.base.proofs.Tests.{below-suc, decide, eq-test}
+use Rattle.sheet.specs.declared.Command.{Command}
+use Rattle.sheet.specs.Commands.{isEmpty, collect, about}
+use Rattle.sheet.specs.Gathered.{row}
+
+-- one command more
+pub collect-snoc {ℓ} : {A : Type ℓ} (says : Command → List A) (cs : List Command) (c : Command) → collect says (cs ++ c ∷ []) ≡ collect says cs ++ says c
+unfolding collect
+collect-snoc says [] c = append-nil (says c)
+collect-snoc says (x ∷ cs) c = rw (collect-snoc says cs c) (sym (append-assoc (says x) (collect says cs) (says c)))
+
+-- a command that says nothing of a kind changes nothing of it
+pub silent {ℓ} : {A : Type ℓ} (says : Command → List A) (before : List Command) (c : Command) → says c ≡ [] → collect says (before ++ c ∷ []) ≡ collect says before
+silent says before c e = collect-snoc says before c ∙ ap (λ x. collect says before ++ x) e ∙ append-nil (collect says before)
+
+pub never {ℓ} : {A : Type ℓ} → false ≡ true → A
+never e = let z : _≡_ {A = ℕ} 0 1 = cc in absurd (omega arith)
+
+pub isEmpty-append {ℓ} : {A : Type ℓ} (xs ys : List A) → isEmpty (xs ++ ys) ≡ isEmpty xs && isEmpty ys
+isEmpty-append [] ys = refl
+isEmpty-append (x ∷ xs) ys = refl
+
+pub isEmpty-nil {ℓ} : {A : Type ℓ} (xs : List A) → isEmpty xs ≡ true → xs ≡ []
+isEmpty-nil [] e = refl
+isEmpty-nil (x ∷ xs) e = never e
+
+pub row-length : (k : ℕ) (f : ℕ → ℕ) → length (row k f) ≡ k
+unfolding row
+row-length zero f = refl
+row-length (suc k) f = simp length-append (rw (row-length k f) (omega arith))
+
+pub row-getD : (k : ℕ) (f : ℕ → ℕ) (i : ℕ) → i < k → getD (row k f) i 0 ≡ f i
+unfolding row
+row-getD zero f i h = absurd (not-suc-le-zero h)
+row-getD (suc k) f i h =
+    ⊎-elim (λ e. rw e (getD-at (row k f) (f k) [] 0 k (row-length k f)))
+    (λ l. List·getD-append (row k f) (f k ∷ []) 0 i (rw (row-length k f) l) ∙ row-getD k f i l)
+    (below-suc h)
+
+-- one entry set
+pub row-set : (k : ℕ) (f g : ℕ → ℕ) (i x : ℕ) → i < k → x ≡ g i → ((j : ℕ) → (j ≡ i → ⊥) → f j ≡ g j) → set (row k f) i x ≡ row k g
+row-set k f g i x h e o =
+    ext-getD 0 (set (row k f) i x) (row k g) (length-set (row k f) i x ∙ row-length k f ∙ sym (row-length k g)) λ j l.
+    let b : j < k = rw (row-length k f) at (rw (length-set (row k f) i x) at l) in
+    rw (row-getD k g j b)
+    (⊎-elim
+    (λ t. let same = eqb→eq j i t in rw same (getD-set-same (row k f) i x 0 (rw (row-length k f) h) ∙ e))
+    (λ t.
+    let other : j ≡ i → ⊥ = λ q. T-not (eqb j i) t (eq-test q) in
+    getD-set-other (row k f) i j x 0 other ∙ row-getD k f j b ∙ o j other)
+    (decide (eqb j i)))
+
+pub about-same {ℓ} : {A : Type ℓ} (p : ℕ) (x : A) → about p p x ≡ x ∷ []
+about-same p x = simp (eq-eqb p p refl)
+
+pub about-other {ℓ} : {A : Type ℓ} (p q : ℕ) (x : A) → (q ≡ p → ⊥) → about p q x ≡ []
+about-other p q x h = simp (ne-eqb q p h)
+
+-- one element more changes no other
+pub getD-snoc-other {ℓ} : {A : Type ℓ} (xs : List A) (x d : A) (i : ℕ) → (i ≡ length xs → ⊥) → getD xs i d ≡ getD (xs ++ x ∷ []) i d
+getD-snoc-other [] x d zero h = absurd (h refl)
+getD-snoc-other [] x d (suc i) h = refl
+getD-snoc-other (y ∷ xs) x d zero h = refl
+getD-snoc-other (y ∷ xs) x d (suc i) h = getD-snoc-other xs x d i (λ e. h (ap suc e))
+
+-- two tests that agree below k have the same lowest number
+pub lowest-same : (k : ℕ) (f g : ℕ → Bool) → ((i : ℕ) → i < k → f i ≡ g i) → lowest k f ≡ lowest k g
+unfolding lowest
+lowest-same zero f g h = refl
+lowest-same (suc k) f g h = rw (lowest-same k f g (λ i l. h i (omega arith)), h k (omega arith))

@@ -1,0 +1,6 @@
+-- Unit sheets.
+pub mod Commands
+pub mod Reader
+pub mod Gathered
+pub mod Reading
+pub mod Turn

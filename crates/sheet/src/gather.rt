@@ -1,0 +1,230 @@
+// What the commands of a sheet say, gathered one command after the other.
+use crate::Answer;
+use crate::Command;
+use crate::Reply;
+use crate::Sheet;
+use base::Refusal;
+ghost use mathlib.Core.Path.{_≡_};
+ghost use mathlib.Core.Bool.{_||_};
+ghost use mathlib.Core.List.{[], _∷_};
+ghost use Prim.Native.Nat.{_+_, _<_, _≤_, _^_, min};
+ghost use lib.ListN.{getD};
+ghost use lib.Dec.{leb, eqb};
+ghost use Rattle.base.specs.Lowest.{lowest};
+ghost use Rattle.sheet.specs.Gathered.{gathered, maxPatterns, allValues, noMark};
+ghost use Rattle.sheet.specs.Reading.{accepted};
+ghost use Rattle.sheet.specs.Turn.{patternOf, Takes, Judges, Adds, Ends};
+
+// The set of all values of m wires.
+fn all_values(m: u8) -> u16
+    ensures { λ r. ⌜ r ≡ allValues m ⌝ }
+{
+    match m {
+        0 => 0x0001,
+        1 => 0x0003,
+        2 => 0x000F,
+        3 => 0x00FF,
+        _ => 0xFFFF,
+    }
+}
+
+// The number of patterns of n inputs, as far as a sheet has room for them.
+fn patterns(n: u8) -> usize
+    ensures { λ r. ⌜ r ≡ min maxPatterns (2 ^ n) ⌝ }
+{
+    match n {
+        0 => 1,
+        1 => 2,
+        2 => 4,
+        3 => 8,
+        _ => 16,
+    }
+}
+
+// The number of signals there are.
+fn signals_made(m: u8, gates: u8) -> u16
+    ensures { λ r. ⌜ r ≡ m + gates ⌝ }
+{
+    (m as u16) + (gates as u16)
+}
+
+// One of two signals is not made yet.
+fn not_made(made: u16, a: u8, b: u8) -> bool
+    ensures { λ r. ⌜ r ≡ leb made a || leb made b ⌝ }
+{
+    if made <= a as u16 {
+        true
+    } else {
+        made <= b as u16
+    }
+}
+
+// The lowest pattern below count that has no mark, or count.
+fn missing(marks: [u8; Sheet::MAX_PATTERNS], count: usize) -> usize
+    requires { ⌜ count ≤ maxPatterns ⌝ }
+    ensures { λ r. ⌜ r ≡ lowest count (λ p. eqb (getD marks p 0) noMark) ⌝ }
+{
+    let mut p = 0;
+    while p < count {
+        if marks[p] == Sheet::NO_MARK {
+            return p;
+        }
+        p += 1;
+    }
+    p
+}
+
+impl Sheet {
+    // The limits of a sheet, named once.
+    pub const MAX_INPUTS: u8 = base::MAX_INPUTS;
+
+    pub const MAX_WIRES: u8 = base::MAX_WIRES;
+
+    pub const MAX_PATTERNS: usize = 1 << Sheet::MAX_INPUTS;
+
+    pub const MAX_GATES: u8 = 32;
+
+    pub const MAX_OUTPUTS: u8 = 8;
+
+    // A pattern's mark: it has neither 02 nor 03, it has a 02, it has a 03.
+    pub const NO_MARK: u8 = 0;
+
+    pub const ROW: u8 = 1;
+
+    pub const DONT_CARE: u8 = 2;
+
+    // What the sizes alone say.
+    pub fn fresh(n: u8, m: u8) -> Sheet
+        ensures { λ r. ⌜ r ≡ gathered (Command.Sizes n m ∷ []) ⌝ }
+    {
+        let all = all_values(m);
+        Sheet {
+            n,
+            m,
+            marks: [0; Sheet::MAX_PATTERNS],
+            values: [0; Sheet::MAX_PATTERNS],
+            limits: [all; Sheet::MAX_PATTERNS],
+            gate_count: 0,
+            kinds: [0; Sheet::MAX_GATES as usize],
+            lefts: [0; Sheet::MAX_GATES as usize],
+            rights: [0; Sheet::MAX_GATES as usize],
+            output_count: 0,
+            signals: [0; Sheet::MAX_OUTPUTS as usize],
+        }
+    }
+
+    fn accept(self) -> Reply
+        ensures { λ r. ⌜ r ≡ accepted self ⌝ }
+    {
+        Reply {
+            sheet: self,
+            answer: Answer::Accepted,
+        }
+    }
+
+    // 02: 7, or the pattern has its value.
+    fn row(mut self, p: u8, v: u8, at: usize) -> Reply
+        requires { ⌜ p < maxPatterns ⌝ }
+        ensures { λ r. ⌜ Judges self (Command.Row p v) at r ⌝ }
+    {
+        let i = p as usize;
+        if self.marks[i] != Sheet::NO_MARK {
+            return Reply::refusal(Refusal::at(Refusal::REPEATED, at));
+        }
+        self.marks[i] = Sheet::ROW;
+        self.values[i] = v;
+        self.accept()
+    }
+
+    // 03: 7, or the pattern is impossible.
+    fn dont_care(mut self, p: u8, at: usize) -> Reply
+        requires { ⌜ p < maxPatterns ⌝ }
+        ensures { λ r. ⌜ Judges self (Command.DontCare p) at r ⌝ }
+    {
+        let i = p as usize;
+        if self.marks[i] != Sheet::NO_MARK {
+            return Reply::refusal(Refusal::at(Refusal::REPEATED, at));
+        }
+        self.marks[i] = Sheet::DONT_CARE;
+        self.accept()
+    }
+
+    // 04: 6, 8, or one gate more.
+    fn gate(mut self, kind: u8, a: u8, b: u8, at: usize) -> Reply
+        ensures { λ r. ⌜ Judges self (Command.Gate kind a b) at r ⌝ }
+    {
+        let made = signals_made(self.m, self.gate_count);
+        if not_made(made, a, b) {
+            return Reply::refusal(Refusal::at(Refusal::NO_SIGNAL, at));
+        }
+        if Sheet::MAX_GATES <= self.gate_count {
+            return Reply::refusal(Refusal::at(Refusal::TOO_MANY, at));
+        }
+        let i = self.gate_count as usize;
+        self.kinds[i] = kind;
+        self.lefts[i] = a;
+        self.rights[i] = b;
+        self.gate_count += 1;
+        self.accept()
+    }
+
+    // 05: 6, 8, or one output more.
+    fn output(mut self, s: u8, at: usize) -> Reply
+        ensures { λ r. ⌜ Judges self (Command.Output s) at r ⌝ }
+    {
+        let made = signals_made(self.m, self.gate_count);
+        if made <= s as u16 {
+            return Reply::refusal(Refusal::at(Refusal::NO_SIGNAL, at));
+        }
+        if Sheet::MAX_OUTPUTS <= self.output_count {
+            return Reply::refusal(Refusal::at(Refusal::TOO_MANY, at));
+        }
+        let i = self.output_count as usize;
+        self.signals[i] = s;
+        self.output_count += 1;
+        self.accept()
+    }
+
+    // 06: several for one pattern intersect.
+    fn limit(mut self, p: u8, set: u16) -> Sheet
+        requires { ⌜ p < maxPatterns ⌝ }
+        ensures { λ r. ⌜ Takes self (Command.Limit p set) r ⌝ }
+    {
+        let i = p as usize;
+        let allowed = self.limits[i];
+        self.limits[i] = allowed & set;
+        self
+    }
+
+    // One command more, whose first byte is at a place: 6, 7, 8 or taken.
+    pub(crate) fn add(self, c: Command, at: usize) -> Reply
+        requires { ⌜ patternOf c < maxPatterns ⌝ }
+        ensures { λ r. ⌜ Adds self c at r ⌝ }
+    {
+        match c {
+            Command::End => self.accept(),
+            Command::Sizes { n, m } => Sheet::fresh(n, m).accept(),
+            Command::Row { p, v } => self.row(p, v, at),
+            Command::DontCare { p } => self.dont_care(p, at),
+            Command::Gate { kind, a, b } => self.gate(kind, a, b, at),
+            Command::Output { s } => self.output(s, at),
+            Command::Limit { p, set } => self.limit(p, set).accept(),
+        }
+    }
+
+    // At the end: 4, 9 or accepted, 00 having ended before a place.
+    pub(crate) fn finish(self, to: usize, len: usize) -> Reply
+        ensures { λ r. ⌜ Ends self to len r ⌝ }
+    {
+        if to < len {
+            return Reply::refusal(Refusal::at(Refusal::TRAILING, to));
+        }
+        let marks = self.marks;
+        let count = patterns(self.n);
+        let p = missing(marks, count);
+        if p < count {
+            return Reply::refusal(Refusal::at(Refusal::MISSING_ROW, p));
+        }
+        self.accept()
+    }
+}

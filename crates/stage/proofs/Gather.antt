@@ -1,0 +1,139 @@
+-- Laws of gathering the wires of a stage sheet: what is left to read, on what is gathered so far, gives the whole reply.
+use Prim.Native.Nat.{ℕ, suc, _+_, _-_, _<_, _≤_}
+use mathlib.Core.Path.{_≡_, refl, sym, _∙_}
+use mathlib.Core.Bool.{cond}
+use mathlib.Core.List.{List, [], _∷_}
+use native.Mathlib.Omega.{arith}
+use native.Mathlib.Nat.{add-assoc, zero-add}
+use native.Mathlib.Numerals.{add-one}
+use lib.ListN.{length, getD, set, drop, replicate}
+use Rattle.base.specs.declared.Refusal.{Refusal}
+use Rattle.base.specs.Refusals.{refusalAt, cutShort, outOfRange}
+use Rattle.base.specs.Sizes.{sizesOut, maxWires}
+use Rattle.table.specs.Bits.{row}
+use Rattle.table.specs.Tree.{Tree, selectors}
+use Rattle.stage.specs.Bytes.{treeBytes, size}
+use Rattle.stage.specs.Read.{Read, taken, fault, andThen, dueNumber, operand, readStage, wireAt, wiresAt, endAt, StageSheet, got, refused, judged, closed}
+use Rattle.stage.specs.Reply.{tableOf, tablesOf, refusedReply, replyOf, stepOf}
+use Rattle.stage.specs.declared.reader.Answer.{Answer}
+use Rattle.stage.specs.declared.reader.Answer.the-variants.{Accepted, Refused}
+use Rattle.stage.specs.declared.reader.StageRead.{StageRead}
+use Rattle.stage.specs.declared.reader.TreeStep.the-variants.{Tree as TreeTaken, Refused as TreeRefused}
+use Rattle.stage.proofs.Sheets.{ToldWire, wire-told, ToldWires, wires-told}
+use Rattle.stage.proofs.Tables.{selectors-few}
+use Rattle.stage.proofs.Places.{due-goes, operand-goes, Took, GoesOn, after-part, took, fell}
+
+-- the tree of a wire that was read
+wire-goes-on : (s : List ℕ) (n m j at : ℕ) → GoesOn s n 0 (wireAt n m j at (drop at s))
+wire-goes-on s n m j at = go (wireAt n m j at (drop at s)) (wire-told n m j at (drop at s))
+  where
+    go : (y : Read Tree) → ToldWire n j at (drop at s) y → GoesOn s n 0 y
+    go (fault f) h = tt
+    go (taken x next rest) h = (after-part s at next (0x21 ∷ j ∷ treeBytes x) rest (h .0) (omega (arith, h .1)), h .2)
+
+module _ (s : List ℕ) (n m j at t c next : ℕ) (e : TreeTaken t c next ≡ stepOf n (wireAt n m j at (drop at s))) where
+  wire-took : Took (wireAt n m j at (drop at s)) s n 0 t c next
+  wire-took = took s n 0 t c next (wireAt n m j at (drop at s)) (wire-goes-on s n m j at) e
+
+  pub wire-few : n ≤ 4 → c ≤ 15
+  wire-few h = rw (wire-took .cells) (selectors-few n 0 (wire-took .tree) (omega arith) h (wire-took .ordered))
+
+-- the tables of the wires from j on, put into their places
+unfoldable pub filled : ℕ → List ℕ → ℕ → List Tree → List ℕ
+filled n tables j [] = tables
+filled n tables j (x ∷ xs) = filled n (set tables j (tableOf n x)) (suc j) xs
+
+-- the reply of a sheet whose wires below j are gathered already
+unfoldable pub replyWith : List ℕ → ℕ → ℕ → StageSheet → StageRead
+replyWith tables cells j (got n m trees) = record { n = n; m = m; tables = filled n tables j trees; cells = cells + size trees; answer = Accepted }
+replyWith tables cells j (refused f) = refusedReply f
+
+-- one wire more is gathered
+judged-more : (tables : List ℕ) (cells n m j : ℕ) (x : Tree) (xs : List Tree) (a : Answer)
+    → replyWith tables cells j (judged n m (x ∷ xs) a) ≡ replyWith (set tables j (tableOf n x)) (cells + selectors x) (suc j) (judged n m xs a)
+unfolding replyWith judged filled size
+judged-more tables cells n m j x xs (Refused f) = refl
+judged-more tables cells n m j x xs Accepted = rw (add-assoc cells (selectors x) (size xs))
+
+closed-more : (tables : List ℕ) (cells n m j : ℕ) (x : Tree) (y : Read (List Tree))
+    → replyWith tables cells j (closed n m (andThen y (λ xs at rest. taken (x ∷ xs) at rest)))
+    ≡ replyWith (set tables j (tableOf n x)) (cells + selectors x) (suc j) (closed n m y)
+unfolding replyWith closed andThen
+closed-more tables cells n m j x (fault f) = refl
+closed-more tables cells n m j x (taken xs at rest) = judged-more tables cells n m j x xs (endAt at rest)
+
+-- what is left to read from wire j on, at a place of the slice
+abbrev pub left : List ℕ → ℕ → ℕ → ℕ → ℕ → Read (List Tree)
+left s n m j at = wiresAt (m - j) n m j at (drop at s)
+
+module _ (s : List ℕ) (n m j at : ℕ) (tables : List ℕ) (cells : ℕ) (g : StageRead) (so-far : replyWith tables cells j (closed n m (left s n m j at)) ≡ g) where
+  step : j < m → m - j ≡ suc (m - (j + 1))
+  step h = omega arith
+
+  goes-on-took : (t c next : ℕ) → j < m → (w : Took (wireAt n m j at (drop at s)) s n 0 t c next)
+      → replyWith (set tables j t) (cells + c) (j + 1) (closed n m (left s n m (j + 1) next)) ≡ g
+  unfolding wiresAt andThen
+  goes-on-took t c next l w =
+      let x = w .tree in
+      let e : replyWith tables cells j (closed n m (andThen (left s n m (j + 1) next) (λ xs at rest. taken (x ∷ xs) at rest))) ≡ g =
+      rw (add-one j) (rw (step l, w .is, add-one j) at so-far) in
+      rw (w .table, w .cells, add-one j) (sym (closed-more tables cells n m j x (left s n m (suc j) next)) ∙ rw (add-one j) at e)
+
+  pub goes-on : (t c next : ℕ) → j < m → TreeTaken t c next ≡ stepOf n (wireAt n m j at (drop at s))
+      → replyWith (set tables j t) (cells + c) (j + 1) (closed n m (left s n m (j + 1) next)) ≡ g
+  goes-on t c next l read = goes-on-took t c next l (wire-took s n m j at t c next read)
+
+  pub stops : (f : Refusal) → j < m → TreeRefused f ≡ stepOf n (wireAt n m j at (drop at s)) → refusedReply f ≡ g
+  unfolding wiresAt andThen closed replyWith
+  stops f l e = rw (step l, fell n f (wireAt n m j at (drop at s)) e) at so-far
+
+  pub ends : (a : Answer) → m ≤ j → a ≡ endAt at (drop at s) → replyWith tables cells j (judged n m [] a) ≡ g
+  unfolding wiresAt closed
+  ends a l e = let z : m - j ≡ 0 = omega arith in rw e (rw z at so-far)
+
+-- all wires are gathered: from nothing, the reply itself
+filled-all : (n : ℕ) (trees : List Tree) → length trees ≤ 4 → filled n (replicate maxWires 0) 0 trees ≡ tablesOf n trees
+unfolding filled tablesOf row
+filled-all n [] h = refl
+filled-all n (a ∷ []) h = refl
+filled-all n (a ∷ b ∷ []) h = refl
+filled-all n (a ∷ b ∷ c ∷ []) h = refl
+filled-all n (a ∷ b ∷ c ∷ d ∷ []) h = refl
+filled-all n (a ∷ b ∷ c ∷ d ∷ e ∷ xs) h = absurd (omega arith)
+
+judged-all : (n m : ℕ) (trees : List Tree) → length trees ≤ 4 → (a : Answer) → replyWith (replicate maxWires 0) 0 0 (judged n m trees a) ≡ replyOf (judged n m trees a)
+unfolding replyWith replyOf judged
+judged-all n m trees h (Refused f) = refl
+judged-all n m trees h Accepted = rw (filled-all n trees h, zero-add (size trees))
+
+closed-all : (n m : ℕ) → m ≤ 4 → (bytes : List ℕ) (y : Read (List Tree)) → ToldWires m n 0 3 bytes y
+    → replyWith (replicate maxWires 0) 0 0 (closed n m y) ≡ replyOf (closed n m y)
+unfolding replyWith replyOf closed
+closed-all n m h bytes (fault f) t = refl
+closed-all n m h bytes (taken trees at rest) t = judged-all n m trees (rw (t .2) h) (endAt at rest)
+
+pub from-nothing : (s : List ℕ) (n m : ℕ) → m ≤ 4 → replyWith (replicate maxWires 0) 0 0 (closed n m (wiresAt m n m 0 3 (drop 3 s))) ≡ replyOf (closed n m (wiresAt m n m 0 3 (drop 3 s)))
+from-nothing s n m h = closed-all n m h (drop 3 s) (wiresAt m n m 0 3 (drop 3 s)) (wires-told m n m 0 3 (drop 3 s))
+
+-- the head of a sheet: cut short, or its two operands
+pub head-short : (s : List ℕ) → dueNumber 0x20 s ≡ 0 → length s < 3 → readStage s ≡ refused (refusalAt cutShort 0)
+unfolding readStage operand
+head-short s h l = due-goes refused 0x20 0 _ s h ∙ go s l
+  where
+    go : (s : List ℕ) → length s < 3
+        → operand refused 0
+        (λ n. operand refused 0 (λ m rest. cond (sizesOut n m) (refused (refusalAt outOfRange 0)) (closed n m (wiresAt m n m 0 3 rest))))
+        (drop 1 s)
+        ≡ refused (refusalAt cutShort 0)
+    go [] l = refl
+    go (a ∷ []) l = refl
+    go (a ∷ b ∷ []) l = refl
+    go (a ∷ b ∷ c ∷ s) l = absurd (omega arith)
+
+pub head-goes : (s : List ℕ) → dueNumber 0x20 s ≡ 0 → 3 ≤ length s
+    → readStage s
+    ≡ cond (sizesOut (getD s 1 0) (getD s 2 0)) (refused (refusalAt outOfRange 0))
+    (closed (getD s 1 0) (getD s 2 0) (wiresAt (getD s 2 0) (getD s 1 0) (getD s 2 0) 0 3 (drop 3 s)))
+unfolding readStage operand
+head-goes s h l =
+    due-goes refused 0x20 0 _ s h ∙ operand-goes refused 0 _ s 1 (omega arith) ∙ operand-goes refused 0 _ s 2 l

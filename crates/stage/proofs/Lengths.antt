@@ -1,0 +1,71 @@
+-- Laws of the length of a stage: "length 4 + 3 × m + 3 × cells, at most 196".
+use Prim.Native.Nat.{ℕ, zero, suc, _+_, _*_, _^_, _≤_}
+use mathlib.Core.Path.{_≡_, refl, _∙_}
+use mathlib.Core.List.{List, [], _∷_, _++_, map, map-append}
+use native.Mathlib.Omega.{arith}
+use lib.ListN.{length, getD, take, length-append, length-map}
+use lib.Seq.{length-take-le, take-suc}
+use lib.Pow.{pow-mono}
+use Rattle.table.specs.Bits.{sum}
+use Rattle.table.specs.Cells.{cells}
+use Rattle.table.specs.Tree.{Tree, con, sel, selectors, reduced}
+use Rattle.table.proofs.Bits.{sum-bound}
+use Rattle.table.proofs.Cells.{cells-lt}
+use Rattle.table.proofs.Trees.{reduced-selectors}
+use Rattle.stage.specs.Bytes.{treeBytes, wireBytes, stageBytes, size}
+use Rattle.stage.specs.Written.{stageTrees, stageOf, stageCells, wireOf}
+
+-- a tree takes a byte, and three more for each selector
+pub tree-length : (x : Tree) → length (treeBytes x) ≡ 1 + 3 * selectors x
+unfolding treeBytes selectors
+tree-length (con b) = refl
+tree-length (sel k z o) = omega (arith, length-append (treeBytes z) (treeBytes o), tree-length z, tree-length o)
+
+pub wires-length : (j : ℕ) (xs : List Tree) → length (wireBytes j xs) ≡ 3 * length xs + 3 * size xs
+unfolding wireBytes size
+wires-length j [] = refl
+wires-length j (x ∷ xs) = omega (arith, length-append (treeBytes x) (wireBytes (suc j) xs), tree-length x, wires-length (suc j) xs)
+
+pub stage-bytes-length : (n m : ℕ) (xs : List Tree) → length (stageBytes n m xs) ≡ 4 + 3 * length xs + 3 * size xs
+unfolding stageBytes
+stage-bytes-length n m xs = omega (arith, length-append (wireBytes 0 xs) (0x2F ∷ []), wires-length 0 xs)
+
+pub size-append : (xs ys : List Tree) → size (xs ++ ys) ≡ size xs + size ys
+unfolding size
+size-append [] ys = omega arith
+size-append (x ∷ xs) ys = omega (arith, size-append xs ys)
+
+-- the writer's trees: one for each wire, with the wires' cells
+pub trees-length : (n m : ℕ) (tables : List ℕ) → m ≤ length tables → length (stageTrees n m tables) ≡ m
+unfolding stageTrees
+trees-length n m tables h = length-map (take m tables) (reduced n 0) ∙ length-take-le m tables h
+
+pub trees-size : (n m : ℕ) (tables : List ℕ) → m ≤ length tables → size (stageTrees n m tables) ≡ stageCells n m tables
+unfolding stageTrees stageCells sum size
+trees-size n zero tables h = refl
+trees-size n (suc m) tables h =
+    let t = getD tables m 0 in
+    rw (take-suc tables m 0 h, map-append (reduced n 0) (take m tables) (t ∷ []))
+    (omega (arith, size-append (map (reduced n 0) (take m tables)) (reduced n 0 t ∷ []), trees-size n m tables (omega arith), reduced-selectors n 0 t))
+
+-- the law of document 01
+pub stage-length : (n m : ℕ) (tables : List ℕ) → m ≤ length tables → length (stageOf n m tables) ≡ 4 + 3 * m + 3 * stageCells n m tables
+unfolding stageOf
+stage-length n m tables h =
+    omega (arith, stage-bytes-length n m (stageTrees n m tables), trees-length n m tables h, trees-size n m tables h)
+
+-- a wire of at most four inputs has at most 15 cells
+pub cells-few : (n t : ℕ) → n ≤ 4 → cells n t ≤ 15
+cells-few n t h = let p : 2 ^ n ≤ 2 ^ 4 = pow-mono h in omega (arith, cells-lt n t)
+
+pub stage-cells-few : (n m : ℕ) (tables : List ℕ) → n ≤ 4 → stageCells n m tables ≤ m * 15
+unfolding stageCells
+stage-cells-few n m tables h = sum-bound m 15 (λ j. cells n (getD tables j 0)) (λ j _. cells-few n (getD tables j 0) h)
+
+pub stage-length-most : (n m : ℕ) (tables : List ℕ) → m ≤ length tables → n ≤ 4 → m ≤ 4 → length (stageOf n m tables) ≤ 196
+stage-length-most n m tables h a b = omega (arith, stage-length n m tables h, stage-cells-few n m tables a)
+
+-- one wire's part of a stage
+pub wire-length : (n j t : ℕ) → length (wireOf n j t) ≡ 3 + 3 * cells n t
+unfolding wireOf
+wire-length n j t = omega (arith, tree-length (reduced n 0 t), reduced-selectors n 0 t)

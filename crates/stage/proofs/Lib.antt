@@ -1,0 +1,9 @@
+pub mod Ranges
+pub mod Lengths
+pub mod Writing
+pub mod Reading
+pub mod Sheets
+pub mod Tables
+pub mod Places
+pub mod Gather
+pub mod Rows

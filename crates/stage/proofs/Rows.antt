@@ -1,0 +1,94 @@
+-- Worked rows, computed from the meanings: the stage of document 01's bench sheet A, written and read, and one row for each refusal of a stage sheet.
+use Prim.Native.Nat.{ℕ}
+use mathlib.Core.Path.{_≡_, refl}
+use mathlib.Core.List.{List, [], _∷_}
+use Rattle.base.specs.Refusals.{refusalAt, cutShort, unknown, outOfRange, trailing, outOfTurn, notAscending, shortBuffer}
+use Rattle.base.specs.Lowest.{lowest}
+use Rattle.table.specs.Bits.{bit, sum, ofBits, row}
+use Rattle.table.specs.Cells.{low, high}
+use Rattle.table.specs.Tree.{con, sel, follow, selectors, reduced}
+use Rattle.stage.specs.Bytes.{treeBytes, wireBytes, stageBytes, size}
+use Rattle.stage.specs.Written.{stageTrees, stageOf, firstOut, writtenOf}
+use Rattle.stage.specs.Read.{andThen, misplaced, dueNumber, due, operand, branchesAt, selectorAt, treeFrom, treeWithin, treeAt, wireAt, wiresAt, nothingAfter, endAt, got, refused, judged, closed, readStage}
+use Rattle.stage.specs.Reply.{tableOf, tablesOf}
+use Rattle.stage.specs.declared.writer.Written.the-variants.{Length, Refused}
+
+-- all meanings of reading, and of writing, open
+unfoldable reading : ℕ
+unfolding andThen misplaced dueNumber due operand branchesAt selectorAt treeFrom treeWithin treeAt wireAt wiresAt nothingAfter endAt judged closed readStage
+reading = 0
+
+unfoldable writing : ℕ
+unfolding lowest low high reduced treeBytes wireBytes stageBytes stageTrees stageOf firstOut writtenOf
+writing = 0
+
+-- "20 02 02 21 00 22 01 24 23 21 01 22 02 23 24 2F"
+abbrev stage-a : List ℕ
+stage-a =
+    0x20 ∷ 0x02 ∷ 0x02 ∷ 0x21 ∷ 0x00 ∷ 0x22 ∷ 0x01 ∷ 0x24 ∷ 0x23 ∷ 0x21 ∷ 0x01 ∷ 0x22 ∷ 0x02 ∷ 0x23 ∷ 0x24 ∷ 0x2F ∷ []
+
+pub a-read : readStage stage-a ≡ got 2 2 (sel 1 (con 1) (con 0) ∷ sel 2 (con 0) (con 1) ∷ [])
+unfolding reading
+a-read = refl
+
+pub a-tables : tablesOf 2 (sel 1 (con 1) (con 0) ∷ sel 2 (con 0) (con 1) ∷ []) ≡ 3 ∷ 10 ∷ 0 ∷ 0 ∷ []
+unfolding tablesOf tableOf ofBits sum row follow bit
+a-tables = refl
+
+pub a-cells : size (sel 1 (con 1) (con 0) ∷ sel 2 (con 0) (con 1) ∷ []) ≡ 2
+unfolding size selectors
+a-cells = refl
+
+pub a-bytes : stageOf 2 2 (3 ∷ 10 ∷ 0 ∷ 0 ∷ []) ≡ stage-a
+unfolding writing
+a-bytes = refl
+
+-- "A with a 15-byte buffer: 12, place 16; with 16: accepted"
+pub a-short : writtenOf 2 2 (3 ∷ 10 ∷ 0 ∷ 0 ∷ []) 15 ≡ Refused (refusalAt shortBuffer 16)
+unfolding writing
+a-short = refl
+
+pub a-fits : writtenOf 2 2 (3 ∷ 10 ∷ 0 ∷ 0 ∷ []) 16 ≡ Length 16
+unfolding writing
+a-fits = refl
+
+pub too-large : writtenOf 2 2 (3 ∷ 16 ∷ 0 ∷ 0 ∷ []) 16 ≡ Refused (refusalAt outOfRange 1)
+unfolding writing
+too-large = refl
+
+-- the refusals of a stage sheet
+pub empty-sheet : readStage [] ≡ refused (refusalAt cutShort 0)
+unfolding reading
+empty-sheet = refl
+
+pub unknown-byte : readStage (0x25 ∷ []) ≡ refused (refusalAt unknown 0)
+unfolding reading
+unknown-byte = refl
+
+pub lone-end : readStage (0x2F ∷ []) ≡ refused (refusalAt outOfTurn 0)
+unfolding reading
+lone-end = refl
+
+pub sizes-range : readStage (0x20 ∷ 5 ∷ 1 ∷ []) ≡ refused (refusalAt outOfRange 0)
+unfolding reading
+sizes-range = refl
+
+pub wire-range : readStage (0x20 ∷ 1 ∷ 1 ∷ 0x21 ∷ 1 ∷ []) ≡ refused (refusalAt outOfRange 3)
+unfolding reading
+wire-range = refl
+
+pub wire-turn : readStage (0x20 ∷ 1 ∷ 2 ∷ 0x21 ∷ 1 ∷ []) ≡ refused (refusalAt outOfTurn 3)
+unfolding reading
+wire-turn = refl
+
+pub descending : readStage (0x20 ∷ 2 ∷ 1 ∷ 0x21 ∷ 0 ∷ 0x22 ∷ 2 ∷ 0x22 ∷ 1 ∷ []) ≡ refused (refusalAt notAscending 7)
+unfolding reading
+descending = refl
+
+pub no-second-tree : readStage (0x20 ∷ 1 ∷ 1 ∷ 0x21 ∷ 0 ∷ 0x22 ∷ 1 ∷ 0x23 ∷ []) ≡ refused (refusalAt cutShort 8)
+unfolding reading
+no-second-tree = refl
+
+pub after-end : readStage (0x20 ∷ 1 ∷ 1 ∷ 0x21 ∷ 0 ∷ 0x23 ∷ 0x2F ∷ 0 ∷ []) ≡ refused (refusalAt trailing 7)
+unfolding reading
+after-end = refl

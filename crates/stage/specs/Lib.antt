@@ -1,0 +1,5 @@
+-- Stage sheets: their bytes, the writer's and the reader's replies.
+pub mod Bytes
+pub mod Written
+pub mod Read
+pub mod Reply

@@ -1,0 +1,45 @@
+-- What the stage reader hands back: "takes any ordered tree and counts its selectors as cells".
+use Prim.Native.Nat.{ℕ, _^_, _-_}
+use mathlib.Core.Bool.{cond}
+use mathlib.Core.List.{List, map}
+use lib.Dec.{eqb}
+use lib.ListN.{getD, replicate}
+use Rattle.base.specs.declared.Refusal.{Refusal}
+use Rattle.base.specs.Sizes.{maxWires}
+use Rattle.table.specs.Bits.{bit, ofBits, row}
+use Rattle.table.specs.Tree.{Tree, follow, selectors}
+use Rattle.stage.specs.Bytes.{size}
+use Rattle.stage.specs.Read.{Read, taken, fault, StageSheet, got, refused}
+use Rattle.stage.specs.declared.reader.TreeStep.{TreeStep}
+use Rattle.stage.specs.declared.reader.TreeStep.the-variants.{Tree as TreeTaken, Refused as TreeRefused}
+use Rattle.stage.specs.declared.reader.Answer.the-variants.{Accepted, Refused}
+use Rattle.stage.specs.declared.reader.StageRead.{StageRead}
+
+-- the truth table of a tree: bit p is the constant that is reached on pattern p
+unfoldable pub tableOf : ℕ → Tree → ℕ
+tableOf n x = ofBits (2 ^ n) (λ p. follow n p x)
+
+-- the truth table of the input whose bit of a pattern is bit j
+unfoldable pub columnOf : ℕ → ℕ
+columnOf j = ofBits 16 (λ p. bit p j)
+
+-- the truth table of a selector on input i, from the tables of its two trees
+unfoldable pub selectOf : ℕ → ℕ → ℕ → ℕ → ℕ
+selectOf n i off on = ofBits (2 ^ n) (λ p. cond (eqb (bit p (n - i)) 0) (bit off p) (bit on p))
+
+-- four tables, "0 past wire m−1"
+unfoldable pub tablesOf : ℕ → List Tree → List ℕ
+tablesOf n trees = row maxWires (λ j. getD (map (tableOf n) trees) j 0)
+
+-- a refused sheet leaves nothing of what was read
+abbrev pub refusedReply : Refusal → StageRead
+refusedReply f = record { n = 0; m = 0; tables = replicate maxWires 0; cells = 0; answer = Refused f }
+
+unfoldable pub replyOf : StageSheet → StageRead
+replyOf (got n m trees) = record { n = n; m = m; tables = tablesOf n trees; cells = size trees; answer = Accepted }
+replyOf (refused f) = refusedReply f
+
+-- what the reader of one tree hands back: its table, its selectors, and the place after it
+unfoldable pub stepOf : ℕ → Read Tree → TreeStep
+stepOf n (taken x next rest) = TreeTaken (tableOf n x) (selectors x) next
+stepOf n (fault f) = TreeRefused f

@@ -1,0 +1,58 @@
+-- Document 01, "Stage sheet" and "Refusals": what the stage writer answers, and what the lent buffer holds then.
+use Prim.Native.Nat.{ℕ, _^_}
+use mathlib.Core.Bool.{Bool, cond}
+use mathlib.Core.List.{List, _∷_, _++_, map}
+use lib.Dec.{ltb, leb}
+use lib.ListN.{length, getD, take, drop}
+use Rattle.base.specs.Refusals.{refusalAt, outOfRange, shortBuffer}
+use Rattle.base.specs.Sizes.{sizesOut}
+use Rattle.base.specs.Lowest.{lowest}
+use Rattle.table.specs.Bits.{sum}
+use Rattle.table.specs.Cells.{cells}
+use Rattle.table.specs.Tree.{Tree, reduced}
+use Rattle.stage.specs.Bytes.{treeBytes, wireBytes, stageBytes}
+use Rattle.stage.specs.declared.writer.Written.{Written}
+use Rattle.stage.specs.declared.writer.Written.the-variants.{Length, Refused}
+
+-- "The writer emits the reduced tree of 'Cells'"; "tables past wire m−1 aren't read"
+unfoldable pub stageTrees : ℕ → ℕ → List ℕ → List Tree
+stageTrees n m tables = map (reduced n 0) (take m tables)
+
+-- wire j's part of a stage, and all of them
+unfoldable pub wireOf : ℕ → ℕ → ℕ → List ℕ
+wireOf n j t = 0x21 ∷ j ∷ treeBytes (reduced n 0 t)
+
+unfoldable pub wiresOf : ℕ → ℕ → List ℕ → List ℕ
+wiresOf n m tables = wireBytes 0 (stageTrees n m tables)
+
+-- the bytes of the stage
+unfoldable pub stageOf : ℕ → ℕ → List ℕ → List ℕ
+stageOf n m tables = stageBytes n m (stageTrees n m tables)
+
+-- "A stage's cells are the sum over its wires."
+unfoldable pub stageCells : ℕ → ℕ → List ℕ → ℕ
+stageCells n m tables = sum m (λ j. cells n (getD tables j 0))
+
+-- a table too large for n inputs
+abbrev pub tableOut : ℕ → ℕ → Bool
+tableOut n t = leb (2 ^ (2 ^ n)) t
+
+-- the lowest wire whose table is too large; m where there is none
+unfoldable pub firstOut : ℕ → ℕ → List ℕ → ℕ
+firstOut n m tables = lowest m (λ j. tableOut n (getD tables j 0))
+
+-- "The stage writer tests sizes (3, place 0), tables too large for n (3, lowest wire), then 12" with "place: length needed"
+unfoldable pub writtenOf : ℕ → ℕ → List ℕ → ℕ → Written
+writtenOf n m tables room =
+    cond (sizesOut n m) (Refused (refusalAt outOfRange 0))
+    (cond (ltb (firstOut n m tables) m) (Refused (refusalAt outOfRange (firstOut n m tables)))
+    (cond (ltb room (length (stageOf n m tables))) (Refused (refusalAt shortBuffer (length (stageOf n m tables))))
+    (Length (length (stageOf n m tables)))))
+
+-- the stage "at the start of the lent buffer; later bytes stay"; a refusal "writes nothing"
+abbrev pub bufferWith : List ℕ → List ℕ → Written → List ℕ
+bufferWith stage buffer (Length k) = stage ++ drop k buffer
+bufferWith stage buffer (Refused f) = buffer
+
+unfoldable pub bufferAfter : ℕ → ℕ → List ℕ → List ℕ → List ℕ
+bufferAfter n m tables buffer = bufferWith (stageOf n m tables) buffer (writtenOf n m tables (length buffer))
