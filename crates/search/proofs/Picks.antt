@@ -7,12 +7,12 @@ use mathlib.Core.Option.{Option, none, some}
 use native.Mathlib.Omega.{arith}
 use native.Mathlib.Nat.{not-suc-le-zero, le-refl, le-trans}
 use lib.Dec.{T, T-not, not-T, leb, ltb, eqb, leb→le, nleb→lt, ltb→lt, nltb→le}
-use lib.ListN.{getD}
+use lib.ListN.{length, getD}
 use Rattle.base.specs.Sizes.{maxWires}
 use Rattle.base.proofs.Tests.{cond-has, cond-has₂, below-suc, test-yes}
 use Rattle.table.specs.Bits.{bit, sum, row}
 use Rattle.table.specs.Pick.{Proj, suits, least, leastOf, orZero}
-use Rattle.table.proofs.Bits.{bit-cases, sum-cong, sum-le, row-at}
+use Rattle.table.proofs.Bits.{bit-cases, sum-cong, sum-le, row-at, row-length}
 use Rattle.table.proofs.Least.{Least, least-is, least-found}
 use Rattle.relation.specs.Source.{Rel, Tables, Part, Stage, WellDefined, Compatible, value}
 use Rattle.relation.specs.Tests.{wires, keep, agree, projection, fits, occurs, free, freeWire, compatible, conflict, openPairs}
@@ -26,6 +26,15 @@ use Rattle.search.specs.Promise.{Fair, Sound, Promise}
 pub total-cong : (b : Board) (X Y : Tables) → ((j : ℕ) → j < b .m → X j ≡ Y j) → total b X ≡ total b Y
 unfolding total
 total-cong b X Y h = sum-cong (b .m) (λ j. b .count (X j)) (λ j. b .count (Y j)) (λ j l. ap (b .count) (h j l))
+
+-- a reply has four tables
+pub tables-long : (m : ℕ) (X : Tables) → length (tablesOf m X) ≡ maxWires
+unfolding tablesOf
+tables-long m X = row-length maxWires (λ j. cond (ltb j m) (X j) 0)
+
+pub quick-long : (b : Board) (R : Rel) → length (quick b R) ≡ maxWires
+unfolding quick
+quick-long b R = tables-long (b .m) (λ j. pick b (left b R j) j)
 
 -- the wires of a row of tables
 module _ (n m : ℕ) (few : m ≤ maxWires) (X : Tables) where

@@ -21,7 +21,7 @@ use Rattle.relation.proofs.Splits.{keep-part, keep-well-defined, keep-compatibl
 use Rattle.search.specs.declared.State.{State}
 use Rattle.search.specs.Search.{Board, tablesOf, total, pick, picks, floor, left, quick, start, split, expand, charge, treat, visit, searchPart, run, charged, discarded, usedUp}
 use Rattle.search.specs.Promise.{Fair, Sound, Promise}
-use Rattle.search.proofs.Picks.{wires-tables, tables-stage, floor-picks, pick-stage, pick-fits, floor-le, quick-compatible, quick-stage}
+use Rattle.search.proofs.Picks.{wires-tables, tables-long, quick-long, tables-stage, floor-picks, pick-stage, pick-fits, floor-le, quick-compatible, quick-stage}
 
 -- What treating the part R does to a state s that becomes t: never more cells, a stop stays, and with no stop no answer of R has fewer cells.
 pub record Treated (b : Board) (R : Rel) (s t : State) : Type 0 where
@@ -77,6 +77,7 @@ module _ (b : Board) (fair : Fair b) (budget : ℕ) (Q : Rel) where
         (λ h.
         let c = compatible-at (b .n) (b .m) R (wires (picks b R)) h in (
           record {
+            long = tables-long (b .m) (pick b R);
             stage = st;
             answer = λ p l. part p (value (b .m) (wires (picks b R)) p) (c p l);
             counted = floor-picks b (fair .few) R;
@@ -92,7 +93,7 @@ module _ (b : Board) (fair : Fair b) (budget : ℕ) (Q : Rel) where
         (λ j l. rw (wires-tables (b .n) (b .m) (fair .few) (pick b R) j l) (pick-fits b R ne j)) p (at .0) (at .1) in
         let next = charged s in
         let r = split-treats k p (freeWire (b .m) (R p)) next ih lk (at .0) (w .0) (w .1)
-        (record { stage = sd .stage; answer = sd .answer; counted = sd .counted; within = omega arith; spent = go }) in
+        (record { long = sd .long; stage = sd .stage; answer = sd .answer; counted = sd .counted; within = omega arith; spent = go }) in
         (r .0, record { down = r .1 .down; stays = r .1 .stays; best = r .1 .best }))
 
     charge-treats : (k : ℕ) (s : State) → Treats k on → openPairs (b .n) (b .m) R < suc k → Sound b budget Q s → floor b R < s .cells
@@ -101,7 +102,7 @@ module _ (b : Board) (fair : Fair b) (budget : ℕ) (Q : Rel) where
     charge-treats k s ih lk sd lf =
         cond-has (After R s) (usedUp budget s)
         (λ h. (
-          record { stage = sd .stage; answer = sd .answer; counted = sd .counted; within = sd .within; spent = λ _. omega (arith, leb→le budget (s .visits) h, sd .within) },
+          record { long = sd .long; stage = sd .stage; answer = sd .answer; counted = sd .counted; within = sd .within; spent = λ _. omega (arith, leb→le budget (s .visits) h, sd .within) },
           record { down = le-refl (s .cells); stays = λ _. tt; best = λ h. absurd h },
         ))
         (λ h. expand-treats k s ih lk sd lf (nleb→lt budget (s .visits) h))
@@ -123,5 +124,5 @@ unfolding run searchPart start
 run-promise b fair budget R ne =
     let few = fair .few in
     let r = visit-treats b fair budget R (suc (openPairs (b .n) (b .m) R)) R (start b R) (omega arith) ne (λ p v t. t)
-    (record { stage = quick-stage b R ne few; answer = quick-compatible b R ne few; counted = refl; within = omega arith; spent = λ h. absurd h }) in
+    (record { long = quick-long b R; stage = quick-stage b R ne few; answer = quick-compatible b R ne few; counted = refl; within = omega arith; spent = λ h. absurd h }) in
     record { sound = r .0; above = floor-le b R ne fair; best = r .1 .best }

@@ -3,6 +3,7 @@ use Prim.Native.Nat.{ℕ, _^_, _<_, _≤_}
 use mathlib.Core.Path.{_≡_}
 use mathlib.Core.Bool.{not}
 use lib.Dec.{T}
+use lib.ListN.{length}
 use Rattle.base.specs.Sizes.{maxWires}
 use Rattle.relation.specs.Source.{Rel, Tables, Stage, Compatible}
 use Rattle.relation.specs.Tests.{wires}
@@ -14,9 +15,10 @@ pub record Fair (b : Board) : Type 0 where
   pub order : (s t : ℕ) → s < 2 ^ (2 ^ b .n) → t < 2 ^ (2 ^ b .n) → b .key s ≤ b .key t → b .count s ≤ b .count t
   pub few : b .m ≤ maxWires
 
--- What holds of every state of a search of Q: the tables are an answer, the cells are theirs, no more visits than the budget allows,
+-- What holds of every state of a search of Q: the four tables are an answer, the cells are theirs, no more visits than the budget allows,
 -- and a stopped search has used the budget up.
 pub record Sound (b : Board) (budget : ℕ) (Q : Rel) (s : State) : Type 0 where
+  pub long : length (s .tables) ≡ maxWires
   pub stage : Stage (b .n) (b .m) (wires (s .tables))
   pub answer : Compatible (b .n) (b .m) Q (wires (s .tables))
   pub counted : s .cells ≡ total b (wires (s .tables))
