@@ -1,3 +1,4 @@
 pub mod Tests
 pub mod Lowest
 pub mod Table
+pub mod Rows

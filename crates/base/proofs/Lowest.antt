@@ -1,6 +1,6 @@
 -- Laws of the lowest number that passes a test.
 use Prim.Native.Nat.{ℕ, zero, suc, _<_, _≤_}
-use mathlib.Core.Path.{_≡_}
+use mathlib.Core.Path.{_≡_, refl}
 use mathlib.Core.Logic.{_⊎_, inl, inr, ⊎-elim}
 use mathlib.Core.Bool.{Bool, cond, not}
 use native.Mathlib.Omega.{arith}
@@ -61,3 +61,9 @@ lowest-none k f h =
     (λ (b : lowest k f < k). absurd (T-not (f (lowest k f)) (h (lowest k f) b) (lowest-is k f b)))
     (λ (b : k ≤ lowest k f). le-antisymm le b)
     (⊎-elim (λ y. inl (ltb→lt (lowest k f) k y)) (λ z. inr (nltb→le (lowest k f) k z)) (decide (ltb (lowest k f) k)))
+
+-- two tests alike below k have the same lowest number
+pub lowest-cong : (k : ℕ) (f g : ℕ → Bool) → ((i : ℕ) → i < k → f i ≡ g i) → lowest k f ≡ lowest k g
+unfolding lowest
+lowest-cong zero f g h = refl
+lowest-cong (suc k) f g h = rw (lowest-cong k f g (λ i l. h i (omega arith)), h k (omega arith))

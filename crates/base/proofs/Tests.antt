@@ -1,6 +1,6 @@
 -- Laws of tests and of choices by a test.
 use Prim.Native.Nat.{ℕ, zero, suc, _<_}
-use mathlib.Core.Path.{_≡_, refl, subst}
+use mathlib.Core.Path.{_≡_, refl, sym, ap, subst, _∙_}
 use mathlib.Core.Logic.{_⊎_, inl, inr}
 use mathlib.Core.Bool.{Bool, true, false, cond, not, _&&_, _||_}
 use native.Mathlib.Nat.{le-of-suc-le-suc, eq-or-lt-of-le}
@@ -83,3 +83,18 @@ test-ext true true f g = refl
 test-ext true false f g = absurd (f tt)
 test-ext false true f g = absurd (g tt)
 test-ext false false f g = refl
+
+-- a test that is told by an equal one
+pub told-yes : {r s : Bool} → r ≡ s → r ≡ true → T s
+told-yes e t = subst T (sym t ∙ e) tt
+
+pub told-no : {r s : Bool} → r ≡ s → r ≡ false → T (not s)
+told-no e t = subst (λ x. T (not x)) (sym t ∙ e) tt
+
+-- the same where the code asks for the contrary
+pub denied : {r s : Bool} → r ≡ s → not r ≡ true → T (not s)
+denied e t = subst T (sym t ∙ ap not e) tt
+
+pub granted : {r s : Bool} → r ≡ s → not r ≡ false → T s
+granted {r = true} e t = subst T e tt
+granted {r = false} e t = absurd (subst T t tt)

@@ -2,3 +2,4 @@
 pub mod Refusals
 pub mod Sizes
 pub mod Lowest
+pub mod Rows

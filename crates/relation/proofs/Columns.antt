@@ -16,7 +16,7 @@ use Rattle.table.proofs.Bits.{any-at, any-intro, any-cong, bit-cases, bit-ofBit
 use Rattle.relation.specs.Tests.{ofSets, occurs, isOne}
 use Rattle.relation.specs.Masks.{member, columnOf, withBit}
 use Rattle.relation.proofs.Splits.{isOne-small}
-use Rattle.relation.proofs.Rows.{zero-bit, ofBits-more}
+use Rattle.table.proofs.Bits.{zero-bit, ofBits-more}
 
 pub one-test : (c : Bool) → eqb (isOne c) 1 ≡ c
 unfolding isOne

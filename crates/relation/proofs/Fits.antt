@@ -25,7 +25,7 @@ use Rattle.relation.specs.Tests.{ofSets, emptyPattern}
 use Rattle.relation.specs.Masks.{member}
 use Rattle.relation.proofs.Decide.{well-defined-or, empty-not}
 use Rattle.relation.proofs.Columns.{any-member}
-use Rattle.relation.proofs.Rows.{lowest-cong}
+use Rattle.base.proofs.Lowest.{lowest-cong}
 
 -- a relation that passes the test
 pub record Fit (r : Relation) : Type 0 where

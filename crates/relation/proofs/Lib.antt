@@ -1,6 +1,5 @@
 pub mod Decide
 pub mod Splits
-pub mod Rows
 pub mod Columns
 pub mod Fits
 pub mod Sets

@@ -21,7 +21,8 @@ use Rattle.relation.specs.Masks.{member, withBit, maskOf, cut, narrowed,
 use Rattle.relation.proofs.Decide.{occurs-intro, occurs-at}
 use Rattle.relation.proofs.Splits.{occurs-part}
 use Rattle.relation.proofs.Columns.{one-test, isOne-lt-two, no-member, member-lt, with-test, with-le, maskBit, found-lt}
-use Rattle.relation.proofs.Rows.{zero-bit, ofBits-short, sum-but-one, row-entry, take-entry}
+use Rattle.table.proofs.Bits.{zero-bit, ofBits-short, sum-but-one}
+use Rattle.base.proofs.Rows.{row-entry, take-entry}
 pub use Rattle.relation.proofs.Fits.{Fit, check-well-formed, check-empty, fit-passes}
 
 pub member-sets : (sets : List ℕ) (p : ℕ) → ofSets sets p ≡ member (getD sets p 0)

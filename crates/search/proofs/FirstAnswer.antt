@@ -23,7 +23,7 @@ use Rattle.relation.specs.Tests.{ofSets, wires, agree}
 use Rattle.relation.specs.Masks.{maskOf, agreed}
 use Rattle.relation.proofs.Splits.{agree-well-defined}
 use Rattle.relation.proofs.Sets.{agreed-agree, agreed-narrow}
-use Rattle.relation.proofs.Rows.{filled-row}
+use Rattle.base.proofs.Rows.{filled-row}
 use Rattle.search.specs.declared.State.{State}
 use Rattle.search.specs.Search.{tablesOf, total, pick, left, quick, start}
 use Rattle.search.specs.TreeBoard.{tree}

@@ -28,7 +28,7 @@ use Rattle.relation.specs.Tests.{ofSets, wires, keep, projection, fits, occurs,
 use Rattle.relation.specs.Masks.{member, withBit, maskOf, narrowed, cut}
 use Rattle.relation.proofs.Decide.{free-both, occurs-intro}
 use Rattle.relation.proofs.Splits.{keep-part, keep-well-defined, occurs-part}
-use Rattle.relation.proofs.Rows.{zero-bit}
+use Rattle.table.proofs.Bits.{zero-bit}
 use Rattle.relation.proofs.Sets.{Narrow, member-sets, narrow-keep, narrowed-narrow, occurs-four, mask-lt, mask-projection, mask-covers, mask-narrowed}
 use Rattle.search.specs.Search.{tablesOf, total, pick, picks, floor}
 use Rattle.search.specs.TreeBoard.{tree}

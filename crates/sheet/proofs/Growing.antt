@@ -11,7 +11,8 @@ use Rattle.sheet.specs.declared.Command.the-variants.{End, Row, DontCare
 use Rattle.sheet.specs.declared.Sheet.{Sheet}
 use Rattle.sheet.specs.Commands.{isEmpty, about, wiresOf, isMarked, isDontCare, hasRow, LogicGate, noGate, rowsOn, dontCaresOn, gatesOf, outputsOf, limitsOn}
 use Rattle.sheet.specs.Gathered.{maxPatterns, maxGates, maxOutputs, row, meet, gathered, allValues, markOn, valueOn, limitOn, gateAt, outputAt, noMark, rowMark, dontCareMark}
-use Rattle.sheet.proofs.Lists.{never, collect-snoc, isEmpty-append, isEmpty-nil, row-getD, row-set, about-same, about-other, getD-snoc-other}
+use Rattle.base.proofs.Rows.{row-at, row-set}
+use Rattle.sheet.proofs.Lists.{never, collect-snoc, isEmpty-append, isEmpty-nil, about-same, about-other, getD-snoc-other}
 use Rattle.base.proofs.Tests.{and-false}
 
 -- a pattern without 02 and 03 has no rows and no don't care
@@ -128,7 +129,7 @@ module _ (cs : List Command) where
       (rw (row-set maxPatterns (λ q. limitOn q cs) (λ q. meet (allValues (wiresOf cs)) (limitsOn q cs ++ about q p w)) p _ h here there))
     where
       here : bitAnd (getD (row maxPatterns (λ q. limitOn q cs)) p 0) w ≡ meet (allValues (wiresOf cs)) (limitsOn p cs ++ about p p w)
-      here = rw (row-getD maxPatterns (λ q. limitOn q cs) p h, about-same p w) (sym (meet-snoc (allValues (wiresOf cs)) (limitsOn p cs) w))
+      here = rw (row-at maxPatterns (λ q. limitOn q cs) p h, about-same p w) (sym (meet-snoc (allValues (wiresOf cs)) (limitsOn p cs) w))
 
       there : (q : ℕ) → (q ≡ p → ⊥) → limitOn q cs ≡ meet (allValues (wiresOf cs)) (limitsOn q cs ++ about q p w)
       there q e = rw (about-other q p w (λ f. e (sym f)), append-nil (limitsOn q cs))

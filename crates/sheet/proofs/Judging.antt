@@ -17,7 +17,8 @@ use Rattle.sheet.specs.declared.Sheet.{Sheet}
 use Rattle.sheet.specs.Commands.{isEmpty, inputsOf, isMarked}
 use Rattle.sheet.specs.Gathered.{maxPatterns, maxGates, maxOutputs, gathered, noMark}
 use Rattle.sheet.specs.Reading.{refused, isNotMade, judged, missing, ending, replyOf, accepted}
-use Rattle.sheet.proofs.Lists.{isEmpty-nil, lowest-same}
+use Rattle.base.proofs.Lowest.{lowest-cong}
+use Rattle.sheet.proofs.Lists.{isEmpty-nil}
 use Rattle.sheet.proofs.Powers.{uncapped}
 use Rattle.sheet.proofs.Fields.{mark-field, mark-none, mark-some, mark-test}
 use Rattle.sheet.proofs.Growing.{limited, rowed, freed, gated, led, end-adds, limit-adds, row-adds, dont-care-adds, gate-adds, output-adds}
@@ -103,7 +104,7 @@ module _ (cs : List Command) (h : Sheet) (e : h ≡ gathered cs) (small : inputs
     missing-is : p ≡ missing cs
     missing-is =
         r ∙ ap (λ k. lowest k (λ i. eqb (getD (h .marks) i 0) noMark)) count-is
-        ∙ lowest-same (2 ^ inputsOf cs) (λ i. eqb (getD (h .marks) i 0) noMark) (λ i. not (isMarked i cs)) λ i l.
+        ∙ lowest-cong (2 ^ inputsOf cs) (λ i. eqb (getD (h .marks) i 0) noMark) (λ i. not (isMarked i cs)) λ i l.
         let b : i < maxPatterns = lt-of-lt-of-le l (pow-mono {i = inputsOf cs} {j = maxInputs} small) in
         ap (λ x. eqb x noMark) (ap (λ (x : Sheet). getD (x .marks) i 0) e ∙ mark-field cs i b) ∙ mark-test i cs
 

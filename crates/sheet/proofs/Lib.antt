@@ -17,3 +17,4 @@ pub mod Limits
 pub mod Enough
 pub mod Rows
 pub mod Order
+pub mod Numbers

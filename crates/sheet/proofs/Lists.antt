@@ -37,32 +37,6 @@ pub isEmpty-nil {ℓ} : {A : Type ℓ} (xs : List A) → isEmpty xs ≡ true →
 isEmpty-nil [] e = refl
 isEmpty-nil (x ∷ xs) e = never e
 
-pub row-length : (k : ℕ) (f : ℕ → ℕ) → length (row k f) ≡ k
-unfolding row
-row-length zero f = refl
-row-length (suc k) f = simp length-append (rw (row-length k f) (omega arith))
-
-pub row-getD : (k : ℕ) (f : ℕ → ℕ) (i : ℕ) → i < k → getD (row k f) i 0 ≡ f i
-unfolding row
-row-getD zero f i h = absurd (not-suc-le-zero h)
-row-getD (suc k) f i h =
-    ⊎-elim (λ e. rw e (getD-at (row k f) (f k) [] 0 k (row-length k f)))
-    (λ l. List·getD-append (row k f) (f k ∷ []) 0 i (rw (row-length k f) l) ∙ row-getD k f i l)
-    (below-suc h)
-
--- one entry set
-pub row-set : (k : ℕ) (f g : ℕ → ℕ) (i x : ℕ) → i < k → x ≡ g i → ((j : ℕ) → (j ≡ i → ⊥) → f j ≡ g j) → set (row k f) i x ≡ row k g
-row-set k f g i x h e o =
-    ext-getD 0 (set (row k f) i x) (row k g) (length-set (row k f) i x ∙ row-length k f ∙ sym (row-length k g)) λ j l.
-    let b : j < k = rw (row-length k f) at (rw (length-set (row k f) i x) at l) in
-    rw (row-getD k g j b)
-    (⊎-elim
-    (λ t. let same = eqb→eq j i t in rw same (getD-set-same (row k f) i x 0 (rw (row-length k f) h) ∙ e))
-    (λ t.
-    let other : j ≡ i → ⊥ = λ q. T-not (eqb j i) t (eq-test q) in
-    getD-set-other (row k f) i j x 0 other ∙ row-getD k f j b ∙ o j other)
-    (decide (eqb j i)))
-
 pub about-same {ℓ} : {A : Type ℓ} (p : ℕ) (x : A) → about p p x ≡ x ∷ []
 about-same p x = simp (eq-eqb p p refl)
 
@@ -75,9 +49,3 @@ getD-snoc-other [] x d zero h = absurd (h refl)
 getD-snoc-other [] x d (suc i) h = refl
 getD-snoc-other (y ∷ xs) x d zero h = refl
 getD-snoc-other (y ∷ xs) x d (suc i) h = getD-snoc-other xs x d i (λ e. h (ap suc e))
-
--- two tests that agree below k have the same lowest number
-pub lowest-same : (k : ℕ) (f g : ℕ → Bool) → ((i : ℕ) → i < k → f i ≡ g i) → lowest k f ≡ lowest k g
-unfolding lowest
-lowest-same zero f g h = refl
-lowest-same (suc k) f g h = rw (lowest-same k f g (λ i l. h i (omega arith)), h k (omega arith))

@@ -5,6 +5,7 @@ use mathlib.Core.List.{List, [], _∷_, _++_}
 use lib.ListN.{length, getD}
 use lib.Bits.{bitAnd}
 use Rattle.base.specs.Sizes.{maxInputs, maxWires}
+unfoldable pub use Rattle.base.specs.Rows.{row}
 use Rattle.sheet.specs.declared.Command.{Command}
 use Rattle.sheet.specs.declared.Sheet.{Sheet}
 use Rattle.sheet.specs.Commands.{inputsOf, wiresOf, rowsOn, hasRow, isDontCare, LogicGate, noGate, gatesOf, outputsOf, limitsOn}
@@ -60,11 +61,6 @@ gateAt i cs = getD (gatesOf cs) i noGate
 -- output i; 0 past the last
 abbrev pub outputAt : ℕ → List Command → ℕ
 outputAt i cs = getD (outputsOf cs) i 0
-
--- the list f 0, .., f (k - 1)
-unfoldable pub row : ℕ → (ℕ → ℕ) → List ℕ
-row zero f = []
-row (suc k) f = row k f ++ f k ∷ []
 
 -- what the commands say: n and m; for each pattern its mark, its present value and its permitted values; the gates and the outputs in order
 unfoldable pub gathered : List Command → Sheet

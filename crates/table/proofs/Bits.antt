@@ -3,16 +3,15 @@ use Prim.Native.Nat.{ℕ, zero, suc, _+_, _*_, _^_, _/_, _%_, _-_, _<_, _≤_}
 use mathlib.Core.Path.{_≡_, refl, sym, ap, subst, _∙_}
 use mathlib.Core.Logic.{_⊎_, inl, inr, ⊎-elim}
 use mathlib.Core.Bool.{Bool, true, false, not, _&&_, _||_}
-use mathlib.Core.List.{List, [], _∷_, _++_}
+use native.Mathlib.Numerals.{add-one}
 use native.Mathlib.Omega.{arith}
-use native.Mathlib.Nat.{not-suc-le-zero, le-of-suc-le-suc, eq-or-lt-of-le, mod-lt, mod-eq-of-lt, mul-le-mul-right, add-mul-div-right, add-mul-mod-self-right, mod-add-div', div-lt-iff-lt-mul, le-dest, add-comm, pow-suc, div-eq-of-lt, lt-of-lt-of-le}
+use native.Mathlib.Nat.{not-suc-le-zero, le-of-suc-le-suc, eq-or-lt-of-le, mod-lt, mod-eq-of-lt, mul-le-mul-right, add-mul-div-right, add-mul-mod-self-right, mod-add-div', div-lt-iff-lt-mul, le-dest, add-comm, pow-suc, div-eq-of-lt, lt-of-lt-of-le, lt-of-le-of-lt, le-trans, mod-le}
 use lib.Dec.{T, eqb}
 use lib.Bits.{bitAnd, and-shr, and-mod}
-use lib.Pow.{pow-pos, pow-add, pow-mono, high, shr-shr}
-use lib.ListN.{length, getD, List·getD-append, length-append}
-use lib.Seq.{getD-at}
+use lib.Pow.{pow-pos, pow-add, pow-mono, high, shr-shr, shl-exact, split}
+pub use Rattle.base.proofs.Rows.{row-length, row-at, row-cong, row-four}
 use Rattle.base.proofs.Tests.{and-intro, and-left, and-right, or-left, or-right, or-cases, below-suc}
-use Rattle.table.specs.Bits.{bit, all, any, sum, ofBits, row}
+use Rattle.table.specs.Bits.{bit, all, any, sum, ofBits}
 
 -- every number below k
 pub all-at : (k : ℕ) (f : ℕ → Bool) → T (all k f) → (i : ℕ) → i < k → T (f i)
@@ -139,21 +138,6 @@ unfolding ofBits
 bit-ext k x y hx hy h =
     sym (ofBits-bit k x hx) ∙ sum-cong k (λ i. bit x i * 2 ^ i) (λ i. bit y i * 2 ^ i) (λ i l. ap (λ b. b * 2 ^ i) (h i l)) ∙ ofBits-bit k y hy
 
--- the entries of a row
-pub row-length : (k : ℕ) (f : ℕ → ℕ) → length (row k f) ≡ k
-unfolding row
-row-length zero f = refl
-row-length (suc k) f = length-append (row k f) (f k ∷ []) ∙ omega (arith, row-length k f)
-
-pub row-at : (k : ℕ) (f : ℕ → ℕ) (i : ℕ) → i < k → getD (row k f) i 0 ≡ f i
-unfolding row
-row-at zero f i h = absurd (not-suc-le-zero h)
-row-at (suc k) f i h =
-    ⊎-elim
-    (λ (e : i ≡ k). rw e (getD-at (row k f) (f k) [] 0 k (row-length k f)))
-    (λ l. List·getD-append (row k f) (f k ∷ []) 0 i (rw row-length l) ∙ row-at k f i l)
-    (below-suc h)
-
 pub bit-cases : (x i : ℕ) → (bit x i ≡ 0) ⊎ (bit x i ≡ 1)
 bit-cases x i = go (bit x i) (bit-lt x i)
   where
@@ -193,12 +177,36 @@ unfolding any
 any-cong zero f g h = refl
 any-cong (suc k) f g h = cc (any-cong k f g (λ i l. h i (omega arith)), h k (omega arith))
 
-pub row-cong : (k : ℕ) (f g : ℕ → ℕ) → ((i : ℕ) → i < k → f i ≡ g i) → row k f ≡ row k g
-unfolding row
-row-cong zero f g h = refl
-row-cong (suc k) f g h = cc (row-cong k f g (λ i l. h i (omega arith)), h k (omega arith))
+-- the bits of 0, and a bit of a number in its place
+pub zero-bit : (v : ℕ) → bit 0 v ≡ 0
+zero-bit v = bit-past 0 0 v (omega arith) (omega arith)
 
--- a row of four, entry by entry
-pub row-four : (f : ℕ → ℕ) {a b c d : ℕ} → a ≡ f 0 → b ≡ f 1 → c ≡ f 2 → d ≡ f 3 → _≡_ {A = List ℕ} (a ∷ b ∷ c ∷ d ∷ []) (row 4 f)
-unfolding row
-row-four f p q r s = cc
+pub bit-part : (x p : ℕ) → bit x p * 2 ^ p ≤ x
+unfolding bit
+bit-part x p = le-trans (mul-le-mul-right (2 ^ p) (mod-le (x / 2 ^ p) 2)) (omega (arith, split x p))
+
+pub shifted-bit : (x p : ℕ) → x < 65536 → bit x p * 2 ^ p % 65536 ≡ bit x p * 2 ^ p
+shifted-bit x p h = mod-eq-of-lt (lt-of-le-of-lt (bit-part x p) h)
+
+-- a power of two, as the code makes it by a shift at width w
+pub shifted-one : (k w : ℕ) → k < w → 1 * 2 ^ k % 2 ^ w ≡ 2 ^ k
+shifted-one k w h =
+    let e : 1 * 2 ^ k ≡ 2 ^ k = omega arith in
+    shl-exact 1 k w (omega arith) (omega arith) ∙ e
+
+-- numbers of bits and sums that differ in few places
+pub ofBits-more : (f : ℕ → ℕ) (p : ℕ) → ofBits (p + 1) f ≡ ofBits p f + f p * 2 ^ p
+unfolding ofBits sum
+ofBits-more f p = rw (add-one p)
+
+pub ofBits-short : (f : ℕ → ℕ) (k l : ℕ) → k ≤ l → ((i : ℕ) → k ≤ i → f i ≡ 0) → ofBits l f ≡ ofBits k f
+unfolding ofBits
+ofBits-short f k l h z = sum-short (λ i. f i * 2 ^ i) k l h (λ i b. rw (z i b) (omega arith))
+
+pub sum-but-one : (f g : ℕ → ℕ) (k p : ℕ) → p < k → ((q : ℕ) → (q ≡ p → ⊥) → f q ≡ g q) → sum k f + g p ≡ sum k g + f p
+unfolding sum
+sum-but-one f g zero p l h = absurd (not-suc-le-zero l)
+sum-but-one f g (suc k) p l h =
+    ⊎-elim (λ (e : p ≡ k). omega (arith, sum-cong k f g (λ q b. h q (λ d. omega arith)), ap f e, ap g e))
+    (λ (b : p < k). omega (arith, sum-but-one f g k p b h, h k (λ d. omega arith)))
+    (below-suc l)

@@ -1,7 +1,7 @@
 -- Bits of a number, and tests and sums over the numbers below a bound.
 use Prim.Native.Nat.{ℕ, zero, suc, _+_, _*_, _^_, _/_, _%_}
 use mathlib.Core.Bool.{Bool, true, false, _&&_, _||_}
-use mathlib.Core.List.{List, [], _∷_, _++_}
+unfoldable pub use Rattle.base.specs.Rows.{row}
 
 -- bit v of the number w
 unfoldable pub bit : ℕ → ℕ → ℕ
@@ -25,8 +25,3 @@ sum (suc k) f = sum k f + f k
 -- the number whose bit i is f i, for i below k
 unfoldable pub ofBits : ℕ → (ℕ → ℕ) → ℕ
 ofBits k f = sum k (λ i. f i * 2 ^ i)
-
--- the list f 0, .., f (k - 1)
-unfoldable pub row : ℕ → (ℕ → ℕ) → List ℕ
-row zero f = []
-row (suc k) f = row k f ++ f k ∷ []

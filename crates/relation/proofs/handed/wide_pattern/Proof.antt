@@ -9,7 +9,7 @@ use borrow.Author.Needs.{needs}
 use borrow.Author.Count.{below-none, below-more}
 use Rattle.base.proofs.Lowest.{lowest-at, lowest-none}
 use Rattle.relation.specs.Handed.{widePattern}
-use Rattle.relation.proofs.Rows.{shifted-one}
+use Rattle.table.proofs.Bits.{shifted-one}
 use Rattle.relation.proofs.handed.wide_pattern.Statement.{statement}
 use Rattle.relation.proofs.handed.wide_pattern.Tie as tie
 

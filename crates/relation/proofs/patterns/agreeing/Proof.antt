@@ -6,7 +6,7 @@ use lib.ListN.{length, getD, length-set}
 use borrow.Author.Needs.{needs}
 use Rattle.table.specs.Bits.{bit}
 use Rattle.relation.specs.Masks.{withBit, agreed}
-use Rattle.relation.proofs.Rows.{filled-more, filled-row}
+use Rattle.base.proofs.Rows.{filled-more, filled-row}
 use Rattle.relation.proofs.patterns.agreeing.Statement.{statement}
 use Rattle.relation.proofs.patterns.agreeing.Tie as tie
 

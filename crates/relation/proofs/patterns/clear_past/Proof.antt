@@ -8,7 +8,7 @@ use lib.ListN.{length, getD, length-set}
 use borrow.Author.Needs.{needs}
 use borrow.Author.Tests.{lt-ltb, le-ltb}
 use Rattle.relation.specs.Masks.{cleared}
-use Rattle.relation.proofs.Rows.{filled-more, filled-row}
+use Rattle.base.proofs.Rows.{filled-more, filled-row}
 use Rattle.relation.proofs.patterns.clear_past.Statement.{statement}
 use Rattle.relation.proofs.patterns.clear_past.Tie as tie
 

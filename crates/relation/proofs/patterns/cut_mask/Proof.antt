@@ -2,7 +2,7 @@
 use native.Mathlib.Omega.{arith}
 use borrow.Author.Needs.{needs}
 use Rattle.relation.specs.Masks.{cut}
-use Rattle.relation.proofs.Rows.{bit-part, shifted-bit}
+use Rattle.table.proofs.Bits.{bit-part, shifted-bit}
 use Rattle.relation.proofs.patterns.cut_mask.Statement.{statement}
 use Rattle.relation.proofs.patterns.cut_mask.Tie as tie
 

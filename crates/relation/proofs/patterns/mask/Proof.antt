@@ -10,7 +10,7 @@ use mir.Syntax.{w16}
 use borrow.Author.Needs.{needs}
 use Rattle.table.specs.Bits.{ofBits, sum}
 use Rattle.relation.specs.Masks.{maskOf}
-use Rattle.relation.proofs.Rows.{shifted-one}
+use Rattle.table.proofs.Bits.{shifted-one}
 use Rattle.relation.proofs.Columns.{maskBit, found-one, found-none, found-lt}
 use Rattle.relation.proofs.patterns.mask.Statement.{statement}
 use Rattle.relation.proofs.patterns.mask.Tie as tie

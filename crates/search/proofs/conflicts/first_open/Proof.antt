@@ -1,3 +1,4 @@
+use Rattle.base.proofs.Tests.{told-yes, told-no, denied, granted}
 use Rattle.search.specs.declared.Open.the-variants.{Pair}
 use Rattle.relation.specs.Masks.{member}
 use Prim.Native.Nat.{ℕ, _+_, _-_, _^_, _<_, _≤_}
@@ -20,19 +21,6 @@ use Rattle.relation.proofs.patterns.patterns_of.Reads as patterns-of-reads
 use Rattle.relation.proofs.patterns.value_of.Reads as value-of-reads
 use Rattle.relation.proofs.values.contains.Reads as contains-reads
 use Rattle.relation.proofs.values.is_open.Reads as is-open-reads
-
-yes : {r s : Bool} → r ≡ s → r ≡ true → T s
-yes e t = subst T (sym t ∙ e) tt
-
-denied : {r s : Bool} → r ≡ s → not r ≡ true → T (not s)
-denied e t = subst T (sym t ∙ ap not e) tt
-
-granted : {r s : Bool} → r ≡ s → not r ≡ false → T s
-granted {r = true} e t = subst T e tt
-granted {r = false} e t = absurd (subst T t tt)
-
-no : {r s : Bool} → r ≡ s → r ≡ false → T (not s)
-no e t = subst (λ x. T (not x)) (sym t ∙ e) tt
 
 abbrev Inv-loop : tie.InvT-loop
 Inv-loop n m tables sets count p j₀ set j = (j ≤ m) × ((i : ℕ) → i < j → T (not (free m (ofSets sets p) i)))
@@ -85,7 +73,7 @@ loop-again c =
     let q = c .before .before .before .before .before .before .before .before .before .before .pre in
     let p = c .before .before .before .before .before .before .before .before .patterns .p in
     let j = c .before .before .before .loop .j in
-    (omega arith, below-more _ _ (c .before .before .before .loop .inv .1) (no (c .before .is-open .ensures ∙ open-test (a .n) (a .m) (q .0) (a .t3) (q .1) (a .tables) (q .2) p j) (c .if2 .left)))
+    (omega arith, below-more _ _ (c .before .before .before .loop .inv .1) (told-no (c .before .is-open .ensures ∙ open-test (a .n) (a .m) (q .0) (a .t3) (q .1) (a .tables) (q .2) p j) (c .if2 .left)))
 
 add-p : tie.Need-add-p Inv-loop μ-loop Inv-patterns μ-patterns
 add-p c = omega arith
@@ -121,7 +109,7 @@ returns c =
     let j = w .4 .j in
     ap (Pair p) (w .8)
     ∙ sym (pair-open (a .n) (a .m) (q .0) (a .t3) (q .1) (a .tables) (q .2) p j lp (omega (arith, w .5 .taken)) (c .before .before .patterns .inv .1) (denied here (w .3 .taken)) (w .4 .inv .1)
-    (yes (w .6 .ensures ∙ open-test (a .n) (a .m) (q .0) (a .t3) (q .1) (a .tables) (q .2) p j) (w .7 .taken))))
+    (told-yes (w .6 .ensures ∙ open-test (a .n) (a .m) (q .0) (a .t3) (q .1) (a .tables) (q .2) p j) (w .7 .taken))))
     (c .before .patterns-test .came)
 
 returns-2 : tie.Need-returns-2 Inv-loop μ-loop Inv-patterns μ-patterns
