@@ -1,0 +1,149 @@
+-- The audit says yes exactly where the stage is a rival, with its cells; so it says yes to a quote's own stage, with the cells quoted.
+use Prim.Native.Nat.{ℕ, _^_, _<_, _≤_}
+use mathlib.Core.Path.{_≡_, refl, sym, ap, ap₂, subst, _∙_}
+use mathlib.Core.Logic.{_⊎_, inl, inr, ⊎-elim, _↔_}
+use mathlib.Core.Bool.{Bool, true, false, cond, not, _&&_}
+use mathlib.Core.List.{List}
+use native.Mathlib.Omega.{arith}
+use borrow.Author.Tests.{eq-eqb}
+use lib.Dec.{T, eqb, ltb, eqb→eq, ltb→lt, nltb→le}
+use lib.ListN.{length, take}
+use Rattle.base.specs.declared.Refusal.{Refusal}
+use Rattle.base.specs.Refusals.{refusalAt, empty}
+use Rattle.base.proofs.Tests.{decide, test-yes, test-no, and-left, and-right}
+use Rattle.table.specs.Bits.{all, ofBits}
+use Rattle.table.specs.Tree.{Tree, follow}
+use Rattle.table.proofs.Bits.{all-at, all-intro}
+use Rattle.relation.specs.Tests.{emptyPattern}
+use Rattle.relation.specs.Families.{Family}
+use Rattle.relation.specs.Handed.{relationOf}
+use Rattle.sheet.specs.declared.Answer.the-variants.{Accepted}
+use Rattle.sheet.specs.declared.Command.{Command}
+use Rattle.sheet.specs.Commands.{inputsOf, wiresOf}
+use Rattle.sheet.specs.Reading.{Reading, holds, refused as unread, readingOf}
+use Rattle.stage.specs.Bytes.{size}
+use Rattle.stage.specs.Read.{StageSheet, got, refused, readStage}
+use Rattle.stage.proofs.Sheets.{accepted}
+use Rattle.unit.specs.declared.Formed.{Formed}
+use Rattle.unit.specs.Relation.{unitRelation}
+use Rattle.unit.specs.Formed.{relationIn, turnedAway, formedOf}
+use Rattle.unit.specs.Rival.{Rival, valueOn}
+use Rattle.unit.proofs.Forming.{formed-refused, formed-empty, formed-whole}
+use Rattle.unit.proofs.Rivals.{byWire, commands-only, rival-told, no-rival}
+use Rattle.quote.specs.declared.Quoted.{Quoted}
+use Rattle.quote.specs.declared.Audited.{Audited}
+use Rattle.quote.specs.declared.Audited.the-variants.{Fits, Differs, SheetRefused, StageRefused}
+use Rattle.quote.specs.Audit.{keepsTo, sizesApart, auditedStage, auditedFrom, auditedOf}
+use Rattle.quote.specs.Promised.{Accepted as Quotes, RivalStage, Promised}
+use Rattle.quote.specs.Quote.{quotedOf, bufferQuoted}
+use Rattle.quote.proofs.Auditing.{ordered-at}
+use Rattle.quote.proofs.Demand.{promised}
+
+never : {A : Type 0} → _≡_ {A = ℕ} 0 1 → A
+never z = absurd (omega arith)
+
+module _ (sheet stage : List ℕ) (c : ℕ) where
+  -- no sheet, no yes
+  turned : (f : Refusal) → formedOf sheet ≡ turnedAway f → auditedOf sheet stage ≡ Fits c → ⊥
+  unfolding auditedOf auditedFrom
+  turned f e h = let z : SheetRefused f ≡ Fits c = rw e at h in never (cc)
+
+  -- a sheet whose relation has no empty pattern
+  module _ (cs : List Command) (e : readingOf sheet ≡ holds cs) (w : formedOf sheet ≡ record { relation = relationIn cs; answer = Accepted }) where
+    audited : auditedOf sheet stage ≡ auditedStage (relationIn cs) (readStage stage)
+    unfolding auditedOf auditedFrom
+    audited = rw w
+
+    -- the stage keeps to the relation exactly where its trees are a family compatible with it
+    kept-family : (m : ℕ) (trees : List Tree) → readStage stage ≡ got (inputsOf cs) m trees → m ≡ wiresOf cs → T (keepsTo (relationIn cs) trees)
+        → (length trees ≡ wiresOf cs) × Family (inputsOf cs) (wiresOf cs) (relationOf (relationIn cs)) (byWire trees)
+    unfolding keepsTo relationIn valueOn
+    kept-family m trees d em t =
+        let st = accepted stage (inputsOf cs) m trees d in
+        let el : length trees ≡ wiresOf cs = st .one-each ∙ em in (
+          el,
+          record {
+            ordered = λ j l. ordered-at (inputsOf cs) trees (st .ordered) j (rw el l);
+            allowed = λ p l.
+                subst (λ k. T (relationOf (relationIn cs) p (ofBits k (λ j. follow (inputsOf cs) p (byWire trees j))))) el
+                (all-at (2 ^ inputsOf cs) (λ p. relationOf (relationIn cs) p (valueOn (inputsOf cs) trees p)) t p l);
+          },
+        )
+
+    family-kept : (trees : List Tree) → length trees ≡ wiresOf cs → Family (inputsOf cs) (wiresOf cs) (relationOf (relationIn cs)) (byWire trees) → T (keepsTo (relationIn cs) trees)
+    unfolding keepsTo relationIn valueOn
+    family-kept trees el f =
+        all-intro (2 ^ inputsOf cs) (λ p. relationOf (relationIn cs) p (valueOn (inputsOf cs) trees p))
+        (λ p l. subst (λ k. T (relationOf (relationIn cs) p (ofBits k (λ j. follow (inputsOf cs) p (byWire trees j))))) (sym el) (f .allowed p l))
+
+    yes-rival : (s : StageSheet) → readStage stage ≡ s → auditedStage (relationIn cs) s ≡ Fits c → RivalStage sheet stage c
+    unfolding auditedStage relationIn
+    yes-rival (refused f) d h = never (cc)
+    yes-rival (got n m trees) d h =
+        ⊎-elim
+        (λ t.
+        let en = eqb→eq n (inputsOf cs) (and-left (eqb n (inputsOf cs)) (eqb m (wiresOf cs)) t) in
+        let em = eqb→eq m (wiresOf cs) (and-right (eqb n (inputsOf cs)) (eqb m (wiresOf cs)) t) in
+        let d′ : readStage stage ≡ got (inputsOf cs) m trees = d ∙ ap (λ k. got k m trees) en in
+        ⊎-elim
+        (λ k.
+        let f = kept-family m trees d′ em k in
+        let r = rival-told sheet cs e trees .1 f in
+        let ec = commands-only sheet (r .commands) cs (r .held) e in
+        let counted : Fits (size trees) ≡ Fits c =
+        rw (test-yes (eqb n (inputsOf cs) && eqb m (wiresOf cs)) t, test-yes (keepsTo (relationIn cs) trees) k) at h in
+        record {
+          trees = trees;
+          rival = r;
+          taken = d ∙ ap₂ (λ a b. got a b trees) (en ∙ ap inputsOf (sym ec)) (em ∙ ap wiresOf (sym ec));
+          counted = cc;
+        })
+        (λ k.
+        let z : Differs (size trees) ≡ Fits c = rw (test-yes (eqb n (inputsOf cs) && eqb m (wiresOf cs)) t, test-no (keepsTo (relationIn cs) trees) k) at h in never (cc))
+        (decide (keepsTo (relationIn cs) trees)))
+        (λ t. let z : sizesApart ≡ Fits c = rw (test-no (eqb n (inputsOf cs) && eqb m (wiresOf cs)) t) at h in never (cc))
+        (decide (eqb n (inputsOf cs) && eqb m (wiresOf cs)))
+
+    rival-yes : RivalStage sheet stage c → auditedStage (relationIn cs) (readStage stage) ≡ Fits c
+    unfolding auditedStage relationIn
+    rival-yes y =
+        let ec = commands-only sheet (y .rival .commands) cs (y .rival .held) e in
+        let f = rival-told sheet cs e (y .trees) .0 (y .rival) in
+        let d : readStage stage ≡ got (inputsOf cs) (wiresOf cs) (y .trees) = y .taken ∙ ap₂ (λ a b. got a b (y .trees)) (ap inputsOf ec) (ap wiresOf ec) in
+        rw (
+          d,
+          eq-eqb (inputsOf cs) (inputsOf cs) refl,
+          eq-eqb (wiresOf cs) (wiresOf cs) refl,
+          test-yes (keepsTo (relationIn cs) (y .trees)) (family-kept (y .trees) (f .0) (f .1)),
+          y .counted,
+        )
+
+  pub audit-yes : (auditedOf sheet stage ≡ Fits c) ↔ RivalStage sheet stage c
+  audit-yes = go (readingOf sheet) refl
+    where
+      unread-not : (f : Refusal) → readingOf sheet ≡ unread f → RivalStage sheet stage c → ⊥
+      unread-not f e y = let z : holds (y .rival .commands) ≡ unread f = sym (y .rival .held) ∙ e in never (cc)
+
+      go : (x : Reading) → readingOf sheet ≡ x → (auditedOf sheet stage ≡ Fits c) ↔ RivalStage sheet stage c
+      go (unread f) e = (λ h. absurd (turned f (formed-refused sheet f e) h), λ y. absurd (unread-not f e y))
+      go (holds cs) e =
+          let q = emptyPattern (inputsOf cs) (wiresOf cs) (unitRelation cs) in
+          ⊎-elim
+          (λ t.
+          let l = ltb→lt q (2 ^ inputsOf cs) t in (
+            λ h. absurd (turned (refusalAt empty q) (formed-empty sheet cs e l) h),
+            λ y. absurd (no-rival sheet cs e .0 l (y .trees) (y .rival)),
+          ))
+          (λ t.
+          let w = formed-whole sheet cs e (nltb→le q (2 ^ inputsOf cs) t) in (
+            λ h. yes-rival cs e w (readStage stage) refl (sym (audited cs e w) ∙ h),
+            λ y. audited cs e w ∙ rival-yes cs e w y,
+          ))
+          (decide (ltb q (2 ^ inputsOf cs)))
+
+-- auditing a quote's own stage says yes with the cells quoted
+pub own-audit : (sheet : List ℕ) (budget : ℕ) (buffer : List ℕ) → Quotes (quotedOf sheet budget (length buffer))
+    → auditedOf sheet (take (quotedOf sheet budget (length buffer) .length) (bufferQuoted sheet budget buffer)) ≡ Fits (quotedOf sheet budget (length buffer) .cells)
+own-audit sheet budget buffer a =
+    audit-yes sheet (take (quotedOf sheet budget (length buffer) .length) (bufferQuoted sheet budget buffer)) (quotedOf sheet budget (length buffer) .cells) .1
+    (promised sheet budget buffer .own a)

@@ -1,0 +1,153 @@
+-- The cases of an audit, and the stage's value by its tables.
+use Prim.Native.Nat.{ℕ, zero, suc, _+_, _*_, _^_, _<_, _≤_}
+use mathlib.Core.Path.{_≡_, refl, sym, ap, ap₂, subst, _∙_}
+use mathlib.Core.Logic.{_⊎_, inl, inr, ⊎-elim}
+use mathlib.Core.Bool.{Bool, true, false, cond, _&&_}
+use mathlib.Core.List.{List, [], _∷_, map}
+use native.Mathlib.Omega.{arith}
+use borrow.Author.Tests.{eq-eqb, ne-eqb}
+use lib.Dec.{T, eqb, ltb, ltb→lt, nltb→le}
+use lib.ListN.{length, getD, take}
+use lib.Seq.{getD-take}
+use Rattle.base.specs.declared.Refusal.{Refusal}
+use Rattle.base.specs.Sizes.{maxWires}
+use Rattle.base.proofs.Tests.{decide}
+use Rattle.base.proofs.Rows.{row-at, row-entry}
+use Rattle.table.specs.Bits.{bit, all, ofBits, row}
+use Rattle.table.specs.Tree.{Tree, con, Ordered, follow}
+use Rattle.table.proofs.Bits.{all-cong, sum-cong}
+use Rattle.relation.specs.declared.Relation.{Relation}
+use Rattle.relation.specs.Source.{value}
+use Rattle.relation.specs.Tests.{ofSets, wires}
+use Rattle.relation.specs.Handed.{relationOf}
+use Rattle.relation.proofs.Sets.{value-four}
+use Rattle.stage.specs.declared.reader.Answer.the-variants.{Accepted, Refused}
+use Rattle.stage.specs.declared.reader.StageRead.{StageRead}
+use Rattle.stage.specs.Bytes.{AllOrdered, size}
+use Rattle.stage.specs.Read.{StageSheet, got, refused, readStage}
+use Rattle.stage.specs.Reply.{tableOf, tablesOf, replyOf}
+use Rattle.stage.proofs.Sheets.{Stage, accepted}
+use Rattle.stage.proofs.Tables.{table-bit}
+use Rattle.sheet.specs.declared.Answer.the-variants.{Accepted as Taken, Refused as NotTaken}
+use Rattle.unit.specs.declared.Formed.{Formed}
+use Rattle.unit.specs.Formed.{formedOf}
+use Rattle.unit.specs.Rival.{valueOn}
+use Rattle.quote.specs.declared.Audited.{Audited}
+use Rattle.quote.specs.declared.Audited.the-variants.{Fits, Differs, SheetRefused, StageRefused}
+use Rattle.quote.specs.Audit.{keepsTo, sizesApart, auditedStage, auditedFrom, auditedOf}
+use Rattle.unit.proofs.Rivals.{byWire}
+
+-- what a reply tells of the stage sheet
+module _ (s : StageSheet) (rd : StageRead) (e : rd ≡ replyOf s) where
+  pub told-refused : (f : Refusal) → rd .answer ≡ Refused f → s ≡ refused f
+  unfolding replyOf
+  told-refused f h = go s (ap (λ x. x .answer) (sym e) ∙ h)
+    where
+      go : (t : StageSheet) → replyOf t .answer ≡ Refused f → t ≡ refused f
+      go (got n m trees) g = let z : _≡_ {A = ℕ} 0 1 = cc in absurd (omega arith)
+      go (refused g) h = let d : g ≡ f = cc in ap refused d
+
+  pub record Got : Type 0 where
+    pub trees : List Tree
+    pub is : s ≡ got (rd .n) (rd .m) trees
+    pub tables : rd .tables ≡ tablesOf (rd .n) trees
+    pub cells : rd .cells ≡ size trees
+
+  pub told-got : rd .answer ≡ Accepted → Got
+  unfolding replyOf
+  told-got h = go s refl
+    where
+      go : (t : StageSheet) → s ≡ t → Got
+      go (got n m trees) d =
+          let f : rd ≡ replyOf (got n m trees) = e ∙ ap replyOf d in
+          let en : rd .n ≡ n = ap (λ x. x .n) f in
+          let em : rd .m ≡ m = ap (λ x. x .m) f in
+          record { trees = trees; is = rw (en, em) d; tables = rw en (ap (λ x. x .tables) f); cells = ap (λ x. x .cells) f }
+      go (refused g) d =
+          let f : rd .answer ≡ Refused g = ap (λ x. x .answer) (e ∙ ap replyOf d) in
+          let z : _≡_ {A = ℕ} 0 1 = cc in absurd (omega arith)
+
+-- trees by wire
+pub ordered-at : (n : ℕ) (trees : List Tree) → AllOrdered n trees → (j : ℕ) → j < length trees → Ordered n 0 (byWire trees j)
+unfolding AllOrdered
+ordered-at n [] o j l = absurd (omega arith)
+ordered-at n (x ∷ xs) o zero l = o .0
+ordered-at n (x ∷ xs) o (suc j) l = ordered-at n xs (o .1) j (omega arith)
+
+map-at : (f : Tree → ℕ) (trees : List Tree) (j : ℕ) → j < length trees → getD (map f trees) j 0 ≡ f (byWire trees j)
+map-at f [] j l = absurd (omega arith)
+map-at f (x ∷ xs) zero l = refl
+map-at f (x ∷ xs) (suc j) l = map-at f xs j (omega arith)
+
+map-past : (f : Tree → ℕ) (trees : List Tree) (j : ℕ) → length trees ≤ j → getD (map f trees) j 0 ≡ 0
+map-past f [] j l = refl
+map-past f (x ∷ xs) zero l = absurd (omega arith)
+map-past f (x ∷ xs) (suc j) l = map-past f xs j (omega arith)
+
+-- the value that the tables drive is the value that the trees reach
+pub value-trees : (n : ℕ) (trees : List Tree) → length trees ≤ maxWires → AllOrdered n trees → (p : ℕ) → p < 2 ^ n → value 4 (wires (tablesOf n trees)) p ≡ valueOn n trees p
+unfolding tablesOf value valueOn ofBits
+value-trees n trees few o p lp =
+    let f : ℕ → ℕ = λ j. getD (map (tableOf n) trees) j 0 in
+    value-four (length trees) (row maxWires f) p few
+    (λ j l. row-entry maxWires f j ∙ past j (ltb j maxWires) (map-past (tableOf n) trees j l))
+    ∙ sum-cong (length trees) (λ j. bit (wires (row maxWires f) j) p * 2 ^ j) (λ j. follow n p (byWire trees j) * 2 ^ j)
+    (λ j l.
+    ap (λ b. b * 2 ^ j)
+    (ap (λ t. bit t p) (row-at maxWires f j (omega arith) ∙ map-at (tableOf n) trees j l) ∙ table-bit n 0 (byWire trees j) (ordered-at n trees o j l) p lp))
+  where
+    past : (j : ℕ) (b : Bool) → getD (map (tableOf n) trees) j 0 ≡ 0 → cond b (getD (map (tableOf n) trees) j 0) 0 ≡ 0
+    past j true e = e
+    past j false e = refl
+
+-- the code's test is document 01's
+keeps-is : (r : Relation) (bytes : List ℕ) (m : ℕ) (trees : List Tree) → readStage bytes ≡ got (r .n) m trees
+    → all (2 ^ r .n) (λ p. ofSets (r .sets) p (value 4 (wires (tablesOf (r .n) trees)) p)) ≡ keepsTo r trees
+unfolding keepsTo relationOf ofSets
+keeps-is r bytes m trees e =
+    let st = accepted bytes (r .n) m trees e in
+    all-cong (2 ^ r .n) (λ p. ofSets (r .sets) p (value 4 (wires (tablesOf (r .n) trees)) p)) (λ p. relationOf r p (valueOn (r .n) trees p))
+    (λ p l.
+    ap₂ (λ w v. eqb (bit w v) 1) (sym (getD-take (2 ^ r .n) (r .sets) p 0 l))
+    (value-trees (r .n) trees (omega (arith, st .one-each, st .sizes .m-most)) (st .ordered) p l))
+
+module _ (r : Relation) (bytes : List ℕ) (rd : StageRead) (e : rd ≡ replyOf (readStage bytes)) where
+  pub stage-refused : (f : Refusal) → rd .answer ≡ Refused f → StageRefused f ≡ auditedStage r (readStage bytes)
+  unfolding auditedStage
+  stage-refused f h = rw (told-refused (readStage bytes) rd e f h)
+
+  module _ (h : rd .answer ≡ Accepted) where
+    g : Got (readStage bytes) rd e
+    g = told-got (readStage bytes) rd e h
+
+    pub inputs-differ : (rd .n ≡ r .n → ⊥) → sizesApart ≡ auditedStage r (readStage bytes)
+    unfolding auditedStage
+    inputs-differ ne = rw (g .is, ne-eqb (rd .n) (r .n) ne)
+
+    pub wires-differ : rd .n ≡ r .n → (rd .m ≡ r .m → ⊥) → sizesApart ≡ auditedStage r (readStage bytes)
+    unfolding auditedStage
+    wires-differ en ne = rw (g .is, eq-eqb (rd .n) (r .n) en, ne-eqb (rd .m) (r .m) ne)
+
+    -- a stage sheet has at most four inputs
+    pub few-inputs : rd .n ≤ 4
+    few-inputs = accepted bytes (rd .n) (rd .m) (g .trees) (g .is) .sizes .n-most
+
+    pub tested : rd .n ≡ r .n → rd .m ≡ r .m → (b : Bool) → b ≡ all (2 ^ rd .n) (λ p. ofSets (r .sets) p (value 4 (wires (rd .tables)) p))
+        → cond b (Fits (rd .cells)) (Differs (rd .cells)) ≡ auditedStage r (readStage bytes)
+    unfolding auditedStage
+    tested en em b eb =
+        let is : readStage bytes ≡ got (r .n) (rd .m) (g .trees) = g .is ∙ ap (λ n. got n (rd .m) (g .trees)) en in
+        let et : rd .tables ≡ tablesOf (r .n) (g .trees) = g .tables ∙ ap (λ n. tablesOf n (g .trees)) en in
+        let k : b ≡ keepsTo r (g .trees) =
+        eb ∙ ap₂ (λ n ts. all (2 ^ n) (λ p. ofSets (r .sets) p (value 4 (wires ts) p))) en et ∙ keeps-is r bytes (rd .m) (g .trees) is in
+        ap (λ c. cond b (Fits c) (Differs c)) (g .cells) ∙ rw (is, eq-eqb (r .n) (r .n) refl, eq-eqb (rd .m) (r .m) em, ← k)
+
+-- the whole audit, from what forming the relation gave
+module _ (sheet stage : List ℕ) (f : Formed) (ef : f ≡ formedOf sheet) where
+  pub formed-audit : f .answer ≡ Taken → auditedStage (f .relation) (readStage stage) ≡ auditedOf sheet stage
+  unfolding auditedOf auditedFrom
+  formed-audit h = rw (← ef, h)
+
+  pub turned-audit : (g : Refusal) → f .answer ≡ NotTaken g → SheetRefused g ≡ auditedOf sheet stage
+  unfolding auditedOf auditedFrom
+  turned-audit g h = rw (← ef, h)

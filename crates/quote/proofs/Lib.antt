@@ -1,0 +1,7 @@
+pub mod Own
+pub mod Promising
+pub mod Demand
+pub mod Quoting
+pub mod Auditing
+pub mod Agreeing
+pub mod Bench

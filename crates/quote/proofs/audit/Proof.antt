@@ -1,0 +1,38 @@
+use mathlib.Core.Path.{_≡_, _∙_}
+use Rattle.quote.proofs.Auditing.{formed-audit, turned-audit}
+use borrow.Author.Needs.{needs}
+use Rattle.quote.proofs.audit.Statement.{statement}
+use Rattle.quote.proofs.audit.Tie as tie
+use Rattle.quote.proofs.audit.Reads as reads
+use Rattle.quote.proofs.audit.Lts as lts
+use Rattle.quote.proofs.audits.audit_stage.Reads as audit-stage-reads
+use Rattle.unit.proofs.form.Reads as form-reads
+
+form-requires : tie.Need-form-requires
+form-requires c κs = search needs
+
+enum-told : tie.Need-enum-told
+enum-told c = search needs
+
+audit-stage-requires : tie.Need-audit-stage-requires
+audit-stage-requires c κs = search needs
+
+enum-known-answer : tie.Need-enum-known-answer
+enum-known-answer c = search needs
+
+returns : tie.Need-returns
+returns c =
+    let a = c .before .before .before .before .before .before .before .args in
+    let f = c .before .before .before .before .form in
+    c .audit-stage .ensures ∙ formed-audit (a .sheet .now) (a .stage .now) (f .result) (f .ensures) (c .before .enum-told .given .1)
+
+returns-2 : tie.Need-returns-2
+returns-2 c =
+    let a = c .before .before .before .before .before .before .before .args in
+    let f = c .before .before .before .before .form in
+    turned-audit (a .sheet .now) (a .stage .now) (f .result) (f .ensures) (c .before .answer .given .0 .0) (c .before .answer .given .1)
+
+pub audit-spec : {M : Type 1} → statement M
+audit-spec =
+    tie.close
+    (tie.spec form-requires enum-told audit-stage-requires enum-known-answer returns returns-2)

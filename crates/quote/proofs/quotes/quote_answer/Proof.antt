@@ -1,0 +1,48 @@
+use mathlib.Core.Path.{_≡_, sym, ap, _∙_}
+use Rattle.quote.specs.Quote.{withStage}
+use borrow.Author.Needs.{needs}
+use Rattle.quote.proofs.quotes.quote_answer.Statement.{statement}
+use Rattle.quote.proofs.quotes.quote_answer.Tie as tie
+use Rattle.quote.proofs.quotes.quote_answer.Reads as reads
+use Rattle.quote.proofs.quotes.quote_answer.Lts as lts
+use Rattle.quote.proofs.quotes.refused_quote.Reads as refused-quote-reads
+use Rattle.stage.proofs.writer.write_stage.Reads as write-stage-reads
+
+write-stage-requires : tie.Need-write-stage-requires
+write-stage-requires c κs = search needs
+
+enum-known-written : tie.Need-enum-known-written
+enum-known-written c = search needs
+
+enum-known-written-2 : tie.Need-enum-known-written-2
+enum-known-written-2 c = search needs
+
+refused-quote-requires : tie.Need-refused-quote-requires
+refused-quote-requires c κs = search needs
+
+same-length : tie.Need-same-length
+same-length c = search needs
+
+returns : tie.Need-returns
+unfolding withStage
+returns c = let w = c .before .before .before .before .before .write-stage .ensures in (rw (sym (w .0) ∙ c .before .written .given .1), w .1)
+
+same-length-2 : tie.Need-same-length-2
+same-length-2 c = search needs
+
+returns-2 : tie.Need-returns-2
+unfolding withStage
+returns-2 c = let w = c .before .before .before .before .before .before .write-stage .ensures in (rw (sym (w .0) ∙ c .before .before .written2 .given .1) (c .refused-quote .ensures), w .1)
+
+pub quote-answer-spec : {M : Type 1} → statement M
+quote-answer-spec =
+    tie.close
+    (tie.spec
+    write-stage-requires
+    enum-known-written
+    enum-known-written-2
+    refused-quote-requires
+    same-length
+    returns
+    same-length-2
+    returns-2)

@@ -1,0 +1,4 @@
+-- The quote and its promise (demand 3); the audit.
+pub mod Quote
+pub mod Promised
+pub mod Audit

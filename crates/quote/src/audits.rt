@@ -1,0 +1,66 @@
+// The audit: whether a stage keeps to a sheet.
+use crate::Audited;
+use base::Refusal;
+use relation::Relation;
+use relation::patterns::patterns_of;
+use relation::patterns::value_of;
+use relation::values::contains;
+use stage::reader::Answer;
+use stage::reader::read_stage;
+ghost use mathlib.Core.Path.{_≡_};
+ghost use Prim.Native.Nat.{_≤_, _^_};
+ghost use Rattle.table.specs.Bits.{all};
+ghost use Rattle.relation.specs.Source.{value};
+ghost use Rattle.relation.specs.Tests.{ofSets, wires};
+ghost use Rattle.stage.specs.Read.{readStage};
+ghost use Rattle.quote.specs.Audit.{stageAnswer, auditedStage};
+
+// Whether the value that the tables drive lies in the set of every pattern.
+fn allowed_everywhere(n: u8, sets: [u16; 16], tables: [u16; 4]) -> bool
+    requires { ⌜ n ≤ 4 ⌝ }
+    ensures { λ r. ⌜ r ≡ all (2 ^ n) (λ p. ofSets sets p (value 4 (wires tables) p)) ⌝ }
+{
+    let count = patterns_of(n);
+    for p in 0..count {
+        let set = sets[p as usize];
+        if !contains(set, value_of(tables, p)) {
+            return false;
+        }
+    }
+    true
+}
+
+// What a stage sheet's answer is to the audit, where it is a refusal.
+fn refused_stage(answer: Answer) -> Audited
+    ensures { λ r. ⌜ r ≡ stageAnswer answer ⌝ }
+{
+    match answer {
+        Answer::Refused(refusal) => Audited::StageRefused(refusal),
+        Answer::Accepted => Audited::StageRefused(Refusal::at(Refusal::SIZES_DIFFER, 0)),
+    }
+}
+
+// The audit of a stage sheet against a relation. A stage sheet that is refused ends it there.
+pub fn audit_stage(relation: Relation, s: &[u8]) -> Audited
+    ensures { λ r. ⌜ r ≡ auditedStage relation (readStage (now (s .entry))) ⌝ }
+{
+    let read = read_stage(s);
+    let answer = read.answer;
+    let Answer::Accepted = answer else {
+        return refused_stage(answer);
+    };
+    if read.n != relation.n {
+        return Audited::StageRefused(Refusal::at(Refusal::SIZES_DIFFER, 0));
+    }
+    if read.m != relation.m {
+        return Audited::StageRefused(Refusal::at(Refusal::SIZES_DIFFER, 0));
+    }
+    let n = read.n;
+    let sets = relation.sets;
+    let tables = read.tables;
+    if allowed_everywhere(n, sets, tables) {
+        Audited::Fits(read.cells as u32)
+    } else {
+        Audited::Differs(read.cells as u32)
+    }
+}

@@ -1,0 +1,58 @@
+// The quote, from a unit sheet to the smallest stage, and the audit of a stage.
+use base::Refusal;
+use search::Mark;
+use sheet::Answer;
+ghost use mathlib.Core.Path.{_≡_};
+ghost use lib.ListN.{length};
+ghost use Rattle.quote.specs.Quote.{quotedOf, bufferQuoted};
+ghost use Rattle.quote.specs.Promised.{Promised};
+ghost use Rattle.quote.specs.Audit.{auditedOf};
+
+mod quotes; // the quote
+mod audits; // the audit
+
+// The reply of a quote: the cells, the floor (lower bound), the visits and the mark of the search, and the length of the stage written. On a refusal
+// the mark has it and the numbers are 0.
+pub struct Quoted {
+    pub cells: u32,
+    pub floor: u32,
+    pub visits: u32,
+    pub length: usize,
+    pub mark: Mark,
+}
+
+// The reply of an audit: whether the stage's value lies in R(p) for every p, with the stage's cells; or which of the two sheets is refused.
+pub enum Audited {
+    Fits(u32),
+    Differs(u32),
+    SheetRefused(Refusal),
+    StageRefused(Refusal),
+}
+
+// The smallest stage for a unit sheet, written at the start of the lent buffer, or the best found under the budget; or the refusal, which writes nothing.
+pub fn quote(sheet: &[u8], budget: u32, buffer: &mut [u8]) -> Quoted
+    ensures reply { λ r. ⌜ r ≡ quotedOf (now (sheet .entry)) budget (length (now (buffer .entry))) ⌝ }
+    ensures bytes { λ _. ⌜ now (buffer .exit) ≡ bufferQuoted (now (sheet .entry)) budget (now (buffer .entry)) ⌝ }
+    ensures promise { λ r. ⌜ Promised (now (sheet .entry)) budget r (now (buffer .exit)) ⌝ }
+{
+    let formed = unit::form(sheet);
+    let answer = formed.answer;
+    let relation = formed.relation;
+    match answer {
+        Answer::Accepted => quotes::quote_relation(relation, budget, buffer),
+        Answer::Refused(refusal) => quotes::refused_quote(refusal),
+    }
+}
+
+// Whether a stage keeps to a unit sheet, and its cells. The sheet is judged before the stage.
+pub fn audit(sheet: &[u8], stage: &[u8]) -> Audited
+    ensures { λ r. ⌜ r ≡ auditedOf (now (sheet .entry)) (now (stage .entry)) ⌝ }
+{
+    let formed = unit::form(sheet);
+    let answer = formed.answer;
+    let relation = formed.relation;
+    match answer {
+        Answer::Accepted => audits::audit_stage(relation, stage),
+        Answer::Refused(refusal) => Audited::SheetRefused(refusal),
+    }
+}

@@ -1,0 +1,59 @@
+// The quote: the sheet is read, its relation searched, and the stage written at the start of the lent buffer.
+use crate::Quoted;
+use base::Refusal;
+use relation::Relation;
+use search::Answer;
+use search::Mark;
+use stage::writer::Written;
+use stage::writer::write_stage;
+ghost use mathlib.Core.Path.{_≡_};
+ghost use lib.ListN.{length};
+ghost use Rattle.stage.specs.Written.{writtenOf, bufferAfter};
+ghost use Rattle.quote.specs.Quote.{refusedQuote, withStage, searched, bufferSearched};
+
+pub fn refused_quote(refusal: Refusal) -> Quoted
+    ensures { λ r. ⌜ r ≡ refusedQuote refusal ⌝ }
+{
+    Quoted {
+        cells: 0,
+        floor: 0,
+        visits: 0,
+        length: 0,
+        mark: Mark::Refused(refusal),
+    }
+}
+
+// The stage of an answer's tables, written.
+fn quote_answer(n: u8, m: u8, answer: Answer, buffer: &mut [u8]) -> Quoted
+    ensures { λ r. ⌜ (r ≡ withStage answer (writtenOf n m (answer .tables) (length (now (buffer .entry)))))
+        × (now (buffer .exit) ≡ bufferAfter n m (answer .tables) (now (buffer .entry))) ⌝ }
+{
+    let tables = answer.tables;
+    let mark = answer.mark;
+    let written = write_stage(n, m, tables, buffer);
+    match written {
+        Written::Length(length) => Quoted {
+            cells: answer.cells,
+            floor: answer.floor,
+            visits: answer.visits,
+            length,
+            mark,
+        },
+        Written::Refused(refusal) => refused_quote(refusal),
+    }
+}
+
+// The relation searched, and the stage found written.
+pub fn quote_relation(relation: Relation, budget: u32, buffer: &mut [u8]) -> Quoted
+    ensures { λ r. ⌜ (r ≡ searched relation budget (length (now (buffer .entry)))) × (now (buffer .exit) ≡ bufferSearched relation budget (now (buffer .entry))) ⌝ }
+{
+    let n = relation.n;
+    let m = relation.m;
+    let answer = search::search(relation, budget);
+    let mark = answer.mark;
+    match mark {
+        Mark::Best => quote_answer(n, m, answer, buffer),
+        Mark::Stopped => quote_answer(n, m, answer, buffer),
+        Mark::Refused(refusal) => refused_quote(refusal),
+    }
+}

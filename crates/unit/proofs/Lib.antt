@@ -1,0 +1,13 @@
+-- Laws of the second stage and of the relation of a sheet.
+pub mod Bits
+pub mod Signals
+pub mod Placed
+pub mod Members
+pub mod Codings
+pub mod Allowed
+pub mod Told
+pub mod Forming
+pub mod Said
+pub mod Choice
+pub mod Rivals
+pub mod Rows

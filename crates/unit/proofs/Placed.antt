@@ -1,0 +1,93 @@
+-- What is known of a sheet that was read: sizes, gates and outputs are in place.
+use Prim.Native.Nat.{ℕ, _+_, _<_, _≤_}
+use mathlib.Core.Path.{_≡_, sym, _∙_, subst}
+use mathlib.Core.List.{List}
+use native.Mathlib.Nat.{lt-of-lt-of-le}
+use native.Mathlib.Omega.{arith}
+use lib.Dec.{ltb}
+use lib.ListN.{length, getD}
+use Rattle.base.specs.Sizes.{maxInputs, maxWires}
+use Rattle.table.specs.Bits.{bit, row}
+use Rattle.table.proofs.Bits.{bit-lt}
+use Rattle.base.proofs.Tests.{cond-has}
+use Rattle.base.proofs.Rows.{row-entry}
+use Rattle.sheet.specs.declared.Command.{Command}
+use Rattle.sheet.specs.declared.Sheet.{Sheet}
+use Rattle.sheet.specs.Commands.{LogicGate, noGate, wiresOf, gatesOf, outputsOf, signalsMade}
+use Rattle.sheet.specs.Gathered.{gathered, maxGates, maxOutputs, gateAt}
+use Rattle.sheet.proofs.Sound.{Sound, sound}
+use Rattle.sheet.proofs.Each.{each-getD}
+use Rattle.sheet.proofs.Wiring.{Wired}
+use Rattle.sheet.proofs.Fields.{inputs-field, wires-field, gates-field, outputs-field, kind-field, left-field, right-field, output-field}
+use Rattle.unit.specs.Gates.{signalsOn}
+use Rattle.unit.specs.Parts.{Held}
+use Rattle.unit.proofs.Signals.{AllBits, upTo, upTo-cong, gates-upTo}
+
+-- the gate in place i
+abbrev pub gateIn : List ℕ → List ℕ → List ℕ → ℕ → LogicGate
+gateIn kinds lefts rights i = record { kind = getD kinds i 0; left = getD lefts i 0; right = getD rights i 0 }
+
+abbrev pub gateOf : Sheet → ℕ → LogicGate
+gateOf sheet = gateIn (sheet .kinds) (sheet .lefts) (sheet .rights)
+
+-- the wires are bits
+pub wires-bits : (m v : ℕ) → AllBits (row m (bit v))
+wires-bits m v q = rw (row-entry m (bit v) q) (cond-has (λ x. x < 2) (ltb q m) (λ _. bit-lt v q) (λ _. omega arith))
+
+pub record Placed (sheet : Sheet) : Type 0 where
+  pub few-inputs : sheet .n ≤ maxInputs
+  pub few-wires : sheet .m ≤ maxWires
+  pub few-gates : sheet .«gate_count» ≤ maxGates
+  pub wired : (i : ℕ) → i < sheet .«gate_count» → Wired (sheet .m) i (gateOf sheet i)
+  pub few-outputs : sheet .«output_count» ≤ maxOutputs
+  pub made : (i : ℕ) → i < sheet .«output_count» → getD (sheet .signals) i 0 < sheet .m + sheet .«gate_count»
+
+same-gate : (k a b : ℕ) (g : LogicGate) → k ≡ g .kind → a ≡ g .left → b ≡ g .right → _≡_ {A = LogicGate} (record { kind = k; left = a; right = b }) g
+same-gate k a b g e l r = rw (e, l, r)
+
+module _ (cs : List Command) (s : Sound cs) where
+  gate-is : (i : ℕ) → i < length (gatesOf cs) → gateOf (gathered cs) i ≡ gateAt i cs
+  gate-is i h =
+      let b : i < maxGates = lt-of-lt-of-le h (s .gates .few) in
+      same-gate _ _ _ (gateAt i cs) (kind-field cs i b) (left-field cs i b) (right-field cs i b)
+
+  placed-all : Placed (gathered cs)
+  placed-all =
+      record {
+        few-inputs = rw (inputs-field cs) (s .inputs-most);
+        few-wires = rw (wires-field cs) (s .wires-most);
+        few-gates = rw (gates-field cs) (s .gates .few);
+        wired = λ i h.
+            let l : i < length (gatesOf cs) = rw (gates-field cs) at h in
+            rw (wires-field cs, gate-is i l) (s .gates .wired i l);
+        few-outputs = rw (outputs-field cs) (s .outputs .few);
+        made = λ i h.
+            let l : i < length (outputsOf cs) = rw (outputs-field cs) at h in
+            rw (wires-field cs, gates-field cs, output-field cs i (lt-of-lt-of-le l (s .outputs .few)))
+            (each-getD (λ x. x < signalsMade cs) (outputsOf cs) 0 (s .outputs .made-before) i l);
+      }
+
+  -- the signals of the commands are those of the sheet's lists
+  signals-all : (v : ℕ) → signalsOn cs v ≡ upTo (row (gathered cs .m) (bit v)) (gateOf (gathered cs)) (gathered cs .«gate_count»)
+  unfolding signalsOn
+  signals-all v =
+      rw (wires-field cs, gates-field cs)
+      (gates-upTo (row (wiresOf cs) (bit v)) (gatesOf cs)
+      ∙ upTo-cong (row (wiresOf cs) (bit v)) (λ i. getD (gatesOf cs) i noGate) (gateOf (gathered cs)) (length (gatesOf cs)) (λ i l. sym (gate-is i l)))
+
+module _ {sheet : Sheet} (h : Held sheet) where
+  abbrev pub held-sound : Sound (h .commands)
+  held-sound = sound (h .bytes) (h .commands) (h .held)
+
+  pub placed : Placed sheet
+  placed = subst Placed (sym (h .gathers)) (placed-all (h .commands) held-sound)
+
+  pub signals-is : (v : ℕ) → signalsOn (h .commands) v ≡ upTo (row (sheet .m) (bit v)) (gateOf sheet) (sheet .«gate_count»)
+  signals-is v =
+      subst (λ x. signalsOn (h .commands) v ≡ upTo (row (x .m) (bit v)) (gateOf x) (x .«gate_count»)) (sym (h .gathers))
+      (signals-all (h .commands) held-sound v)
+
+  pub signals-made : signalsMade (h .commands) ≡ sheet .m + sheet .«gate_count»
+  signals-made =
+      subst (λ x. signalsMade (h .commands) ≡ x .m + x .«gate_count») (sym (h .gathers))
+      (sym (rw (wires-field (h .commands), gates-field (h .commands))))

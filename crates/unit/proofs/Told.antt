@@ -1,0 +1,154 @@
+-- The relation as numbers tells the relation of the commands, and its test finds what is empty.
+use Prim.Native.Nat.{ℕ, _^_, _<_, _≤_}
+use mathlib.Core.Path.{_≡_, sym, ap, subst, _∙_}
+use mathlib.Core.Logic.{⊎-elim, _↔_}
+use mathlib.Core.Bool.{Bool, false, cond, not, _&&_}
+use mathlib.Core.List.{List}
+use native.Mathlib.Omega.{arith}
+use lib.Dec.{T, not-T, eqb, leb, leb→le, ltb, nltb→le}
+use lib.ListN.{getD}
+use lib.Pow.{pow-mono}
+use borrow.Author.Tests.{lt-ltb, le-ltb, ne-eqb}
+use Rattle.base.specs.Refusals.{refusalAt, empty}
+use Rattle.base.specs.Sizes.{sizesOut, maxInputs, maxWires}
+use Rattle.base.proofs.Lowest.{lowest-none}
+use Rattle.base.proofs.Tests.{decide, and-false, cond-has, test-yes, test-no}
+use Rattle.table.specs.Bits.{bit, any, ofBits}
+use Rattle.table.specs.Tree.{Tree, follow}
+use Rattle.table.proofs.Bits.{any-cong, ofBits-lt}
+use Rattle.table.proofs.Trees.{follow-lt}
+use Rattle.relation.specs.declared.Checked.the-variants.{WellFormed, Refused}
+use Rattle.relation.specs.Source.{WellDefined}
+use Rattle.relation.specs.Tests.{ofSets, emptyPattern}
+use Rattle.relation.specs.Handed.{relationOf, widePattern, checkOf}
+use Rattle.relation.specs.Families.{Family}
+use Rattle.table.proofs.Bits.{zero-bit}
+use Rattle.base.proofs.Rows.{row-entry, take-entry}
+use Rattle.base.proofs.Lowest.{lowest-cong}
+use Rattle.relation.proofs.Fits.{Fit, check-none, check-passed}
+use Rattle.sheet.specs.declared.Command.{Command}
+use Rattle.sheet.specs.Commands.{inputsOf, wiresOf}
+use Rattle.sheet.specs.Gathered.{maxPatterns, maxValues}
+use Rattle.sheet.proofs.Sound.{Sound}
+use Rattle.unit.specs.Relation.{unitRelation}
+use Rattle.unit.specs.Formed.{setOn, relationIn}
+use Rattle.unit.proofs.Members.{told-all, told-below}
+
+module _ (cs : List Command) (s : Sound cs) where
+  patterns-fit : 2 ^ inputsOf cs ≤ maxPatterns
+  patterns-fit = pow-mono {i = inputsOf cs} {j = maxInputs} (s .inputs-most)
+
+  values-fit : 2 ^ wiresOf cs ≤ maxValues
+  values-fit = pow-mono {i = wiresOf cs} {j = maxWires} (s .wires-most)
+
+  -- no value from 2 ^ m up is in a set
+  past-values : (p v : ℕ) → 2 ^ wiresOf cs ≤ v → ltb v (2 ^ wiresOf cs) && unitRelation cs p v ≡ false
+  past-values p v l = rw (le-ltb v (2 ^ wiresOf cs) l)
+
+  set-below : (p : ℕ) → setOn cs p < 2 ^ (2 ^ wiresOf cs)
+  unfolding setOn
+  set-below p = told-below (λ v. ltb v (2 ^ wiresOf cs) && unitRelation cs p v) (2 ^ wiresOf cs) maxValues values-fit (past-values p)
+
+  set-test : (p v : ℕ) → eqb (bit (setOn cs p) v) 1 ≡ ltb v (2 ^ wiresOf cs) && unitRelation cs p v
+  unfolding setOn
+  set-test p = told-all (λ v. ltb v (2 ^ wiresOf cs) && unitRelation cs p v) maxValues (λ v l. past-values p v (omega (arith, values-fit)))
+
+  pub set-entry : (p : ℕ) → getD (relationIn cs .sets) p 0 ≡ cond (ltb p (2 ^ inputsOf cs)) (setOn cs p) 0
+  unfolding relationIn
+  set-entry p =
+      row-entry maxPatterns (λ p. cond (ltb p (2 ^ inputsOf cs)) (setOn cs p) 0) p
+      ∙ ⊎-elim (λ (l : T (ltb p maxPatterns)). rw (test-yes (ltb p maxPatterns) l))
+      (λ l.
+      let b : 2 ^ inputsOf cs ≤ p = omega (arith, nltb→le p maxPatterns l, patterns-fit) in
+      rw (test-no (ltb p maxPatterns) l, le-ltb p (2 ^ inputsOf cs) b))
+      (decide (ltb p maxPatterns))
+
+  -- the relation of the sets, for every pattern and value
+  pub sets-told : (p v : ℕ) → relationOf (relationIn cs) p v ≡ ltb p (2 ^ inputsOf cs) && (ltb v (2 ^ wiresOf cs) && unitRelation cs p v)
+  unfolding relationOf ofSets relationIn
+  sets-told p v =
+      ap (λ w. eqb (bit w v) 1) (take-entry (2 ^ inputsOf cs) (relationIn cs .sets) p)
+      ∙ ⊎-elim
+      (λ (l : T (ltb p (2 ^ inputsOf cs))).
+      rw (test-yes (ltb p (2 ^ inputsOf cs)) l) (ap (λ w. eqb (bit w v) 1) (set-entry p ∙ rw (test-yes (ltb p (2 ^ inputsOf cs)) l)) ∙ set-test p v))
+      (λ l. rw (test-no (ltb p (2 ^ inputsOf cs)) l, zero-bit v))
+      (decide (ltb p (2 ^ inputsOf cs)))
+
+  pub set-told : (p v : ℕ) → p < 2 ^ inputsOf cs → v < 2 ^ wiresOf cs → relationOf (relationIn cs) p v ≡ unitRelation cs p v
+  set-told p v l b = sets-told p v ∙ rw (lt-ltb p (2 ^ inputsOf cs) l, lt-ltb v (2 ^ wiresOf cs) b)
+
+  pub past-pattern : (p v : ℕ) → 2 ^ inputsOf cs ≤ p → relationOf (relationIn cs) p v ≡ false
+  past-pattern p v l = sets-told p v ∙ rw (le-ltb p (2 ^ inputsOf cs) l)
+
+  pub past-value : (p v : ℕ) → 2 ^ wiresOf cs ≤ v → relationOf (relationIn cs) p v ≡ false
+  past-value p v l = sets-told p v ∙ rw (past-values p v l) (and-false (ltb p (2 ^ inputsOf cs)))
+
+  -- the same families of trees are compatible, and the same patterns are empty
+  pub family-told : (x : ℕ → Tree) → Family (inputsOf cs) (wiresOf cs) (relationOf (relationIn cs)) x ↔ Family (inputsOf cs) (wiresOf cs) (unitRelation cs) x
+  family-told x = (
+    λ f. record { ordered = f .ordered; allowed = λ p l. subst T (set-told p (value p) l (small f p)) (f .allowed p l) },
+    λ f. record { ordered = f .ordered; allowed = λ p l. subst T (sym (set-told p (value p) l (small f p))) (f .allowed p l) },
+  )
+    where
+      value : ℕ → ℕ
+      value p = ofBits (wiresOf cs) (λ j. follow (inputsOf cs) p (x j))
+
+      small : {Q : ℕ → ℕ → Bool} → Family (inputsOf cs) (wiresOf cs) Q x → (p : ℕ) → value p < 2 ^ wiresOf cs
+      small f p = ofBits-lt (λ j. follow (inputsOf cs) p (x j)) (wiresOf cs) (λ j l. follow-lt (inputsOf cs) 0 (x j) p (f .ordered j l))
+
+  pub well-defined-told : WellDefined (inputsOf cs) (wiresOf cs) (relationOf (relationIn cs)) ↔ WellDefined (inputsOf cs) (wiresOf cs) (unitRelation cs)
+  well-defined-told = (
+    λ w p l. let u = w p l in (u .0, u .1, subst T (set-told p (u .0) l (u .1)) (u .2)),
+    λ w p l. let u = w p l in (u .0, u .1, subst T (sym (set-told p (u .0) l (u .1))) (u .2)),
+  )
+
+  pub empty-told : emptyPattern (inputsOf cs) (wiresOf cs) (relationOf (relationIn cs)) ≡ emptyPattern (inputsOf cs) (wiresOf cs) (unitRelation cs)
+  unfolding emptyPattern
+  empty-told =
+      lowest-cong (2 ^ inputsOf cs) (λ p. not (any (2 ^ wiresOf cs) (relationOf (relationIn cs) p))) (λ p. not (any (2 ^ wiresOf cs) (unitRelation cs p)))
+      (λ p l. ap not (any-cong (2 ^ wiresOf cs) (relationOf (relationIn cs) p) (unitRelation cs p) (λ v b. set-told p v l b)))
+
+  -- the test of the relation as numbers
+  sizes-in : sizesOut (inputsOf cs) (wiresOf cs) ≡ false
+  sizes-in =
+      rw (
+        ne-eqb (inputsOf cs) 0 (λ e. omega (arith, s .inputs-least)),
+        le-ltb maxInputs (inputsOf cs) (s .inputs-most),
+        ne-eqb (wiresOf cs) 0 (λ e. omega (arith, s .wires-least)),
+        le-ltb maxWires (wiresOf cs) (s .wires-most),
+      )
+
+  entry-below : (p : ℕ) → getD (relationIn cs .sets) p 0 < 2 ^ (2 ^ wiresOf cs)
+  entry-below p =
+      subst (λ x. x < 2 ^ (2 ^ wiresOf cs)) (sym (set-entry p))
+      (cond-has (λ x. x < 2 ^ (2 ^ wiresOf cs)) (ltb p (2 ^ inputsOf cs)) (λ _. set-below p) (λ _. omega (arith, set-below p)))
+
+  none-wide : widePattern (inputsOf cs) (wiresOf cs) (relationIn cs .sets) ≡ 2 ^ inputsOf cs
+  unfolding widePattern
+  none-wide =
+      lowest-none (2 ^ inputsOf cs) (λ p. leb (2 ^ (2 ^ wiresOf cs)) (getD (relationIn cs .sets) p 0))
+      (λ p l. not-T (leb (2 ^ (2 ^ wiresOf cs)) (getD (relationIn cs .sets) p 0))
+      (λ t. omega (arith, leb→le (2 ^ (2 ^ wiresOf cs)) (getD (relationIn cs .sets) p 0) t, entry-below p)))
+
+  pub refused-empty : emptyPattern (inputsOf cs) (wiresOf cs) (unitRelation cs) < 2 ^ inputsOf cs
+      → checkOf (relationIn cs) ≡ Refused (refusalAt empty (emptyPattern (inputsOf cs) (wiresOf cs) (unitRelation cs)))
+  unfolding relationIn
+  refused-empty l =
+      check-none (relationIn cs) sizes-in (omega (arith, none-wide)) (subst (λ x. x < 2 ^ inputsOf cs) (sym empty-told) l)
+      ∙ ap (λ p. Refused (refusalAt empty p)) empty-told
+
+  pub passes-whole : 2 ^ inputsOf cs ≤ emptyPattern (inputsOf cs) (wiresOf cs) (unitRelation cs) → checkOf (relationIn cs) ≡ WellFormed
+  unfolding relationIn
+  passes-whole l = check-passed (relationIn cs) sizes-in (omega (arith, none-wide)) (subst (λ x. 2 ^ inputsOf cs ≤ x) (sym empty-told) l)
+
+  -- a relation with no empty pattern is fit for the search
+  pub fit-told : WellDefined (inputsOf cs) (wiresOf cs) (unitRelation cs) → Fit (relationIn cs)
+  unfolding relationIn
+  fit-told w = record {
+    some-inputs = s .inputs-least;
+    few-inputs = s .inputs-most;
+    some-wires = s .wires-least;
+    few-wires = s .wires-most;
+    small = λ p _. entry-below p;
+    well-defined = well-defined-told .1 w;
+  }

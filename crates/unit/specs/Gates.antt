@@ -1,0 +1,47 @@
+-- Document 01, "Unit sheet": the soldered second stage, told by the commands.
+use Prim.Native.Nat.{ℕ, _+_, _*_, _%_, _-_, max}
+use mathlib.Core.Bool.{cond}
+use mathlib.Core.List.{List, [], _∷_, _++_, map}
+use lib.Dec.{eqb}
+use lib.ListN.{getD}
+use Rattle.table.specs.Bits.{bit, row}
+use Rattle.sheet.specs.declared.Command.{Command}
+use Rattle.sheet.specs.Commands.{LogicGate, wiresOf, gatesOf, outputsOf}
+
+-- two bits under each of the three plain kinds, and a bit inverted
+abbrev pub andBit : ℕ → ℕ → ℕ
+andBit a b = a * b
+
+abbrev pub orBit : ℕ → ℕ → ℕ
+orBit a b = max a b
+
+abbrev pub xorBit : ℕ → ℕ → ℕ
+xorBit a b = (a + b) % 2
+
+abbrev pub inverted : ℕ → ℕ
+inverted x = 1 - x
+
+-- "Kinds k: 00 AND, 01 OR, 02 XOR, 03 NAND, 04 NOR, 05 XNOR."
+unfoldable pub gateBit : ℕ → ℕ → ℕ → ℕ
+gateBit k a b =
+    cond (eqb k 0) (andBit a b)
+    (cond (eqb k 1) (orBit a b)
+    (cond (eqb k 2) (xorBit a b)
+    (cond (eqb k 3) (inverted (andBit a b)) (cond (eqb k 4) (inverted (orBit a b)) (inverted (xorBit a b))))))
+
+-- the signals so far, with one gate more
+abbrev pub withGate : List ℕ → LogicGate → List ℕ
+withGate s g = s ++ gateBit (g .kind) (getD s (g .left) 0) (getD s (g .right) 0) ∷ []
+
+-- "gates are numbered from m upward as they come"
+unfoldable pub withGates : List ℕ → List LogicGate → List ℕ
+withGates s [] = s
+withGates s (g ∷ gs) = withGates (withGate s g) gs
+
+-- "Signals 0 to m−1 are the wires", "wire j is bit j of v"
+unfoldable pub signalsOn : List Command → ℕ → List ℕ
+signalsOn cs v = withGates (row (wiresOf cs) (bit v)) (gatesOf cs)
+
+-- "Let G(v) be the list of outputs for wire value v."
+unfoldable pub outputsFor : List Command → ℕ → List ℕ
+outputsFor cs v = map (λ s. getD (signalsOn cs v) s 0) (outputsOf cs)

@@ -1,0 +1,6 @@
+-- The second stage of a unit, the relation of a sheet, and what a rival is.
+pub mod Gates
+pub mod Relation
+pub mod Rival
+pub mod Formed
+pub mod Parts

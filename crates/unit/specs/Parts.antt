@@ -1,0 +1,42 @@
+-- What the steps towards the relation give, for a sheet that was read, in terms of its commands.
+use Prim.Native.Nat.{ℕ, _<_}
+use mathlib.Core.Path.{_≡_}
+use mathlib.Core.List.{List}
+use lib.ListN.{length, getD}
+use Rattle.table.specs.Bits.{ofBits}
+use Rattle.relation.specs.declared.Relation.{Relation}
+use Rattle.relation.specs.declared.Checked.{Checked}
+use Rattle.relation.specs.declared.Checked.the-variants.{WellFormed, Refused}
+use Rattle.sheet.specs.declared.Answer.the-variants.{Accepted}
+use Rattle.sheet.specs.declared.Command.{Command}
+use Rattle.sheet.specs.declared.Sheet.{Sheet}
+use Rattle.sheet.specs.Commands.{signalsMade, outputsOf}
+use Rattle.sheet.specs.Gathered.{gathered, maxValues}
+use Rattle.sheet.specs.Reading.{holds, readingOf}
+use Rattle.unit.specs.declared.Formed.{Formed}
+use Rattle.unit.specs.Gates.{signalsOn, outputsFor}
+use Rattle.unit.specs.Formed.{turnedAway}
+
+-- a sheet that was gathered from the commands of an accepted reading
+pub record Held (sheet : Sheet) : Type 0 where
+  pub bytes : List ℕ
+  pub commands : List Command
+  pub held : readingOf bytes ≡ holds commands
+  pub gathers : sheet ≡ gathered commands
+
+-- the signals that there are, each at its place
+abbrev pub Signals : List Command → ℕ → List ℕ → Type 0
+Signals cs v signals = (s : ℕ) → s < signalsMade cs → getD signals s 0 ≡ getD (signalsOn cs v) s 0
+
+-- G(v) as one number: bit i is output i
+unfoldable pub codeOf : List Command → ℕ → ℕ
+codeOf cs v = ofBits (length (outputsOf cs)) (λ i. getD (outputsFor cs v) i 0)
+
+-- G(v) for every value, each at its place
+abbrev pub Codes : List Command → List ℕ → Type 0
+Codes cs codes = (v : ℕ) → v < maxValues → getD codes v 0 ≡ codeOf cs v
+
+-- a relation that was tested: refused or whole
+abbrev pub afterCheck : Relation → Checked → Formed
+afterCheck r WellFormed = record { relation = r; answer = Accepted }
+afterCheck r (Refused f) = turnedAway f

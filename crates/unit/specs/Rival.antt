@@ -1,0 +1,32 @@
+-- Document 01, "Quote, audit, program": "A rival in demand 3 is told by the sheet alone: one tree of 'Stage sheet' for each wire 0 to m−1."
+use Prim.Native.Nat.{ℕ, _^_, _<_}
+use mathlib.Core.Path.{_≡_}
+use mathlib.Core.List.{List, List·Memᴰ}
+use lib.ListN.{length, getD}
+use Rattle.table.specs.Bits.{bit, ofBits}
+use Rattle.table.specs.Tree.{Tree, con, Ordered, follow}
+use Rattle.sheet.specs.declared.Command.{Command}
+use Rattle.sheet.specs.declared.Command.the-variants.{Row, Limit}
+use Rattle.sheet.specs.Commands.{inputsOf, wiresOf}
+use Rattle.sheet.specs.Reading.{holds, readingOf}
+use Rattle.unit.specs.Gates.{outputsFor}
+
+-- "On pattern p each tree is followed to a constant .. The constants reached are the bits of its value v on p."
+unfoldable pub valueOn : ℕ → List Tree → ℕ → ℕ
+valueOn n trees p = ofBits (length trees) (λ j. follow n p (getD trees j (con 0)))
+
+-- the trees keep to what the commands say
+pub record Keeps (cs : List Command) (trees : List Tree) : Type 0 where
+  -- "one tree .. for each wire 0 to m−1"
+  pub one-each : length trees ≡ wiresOf cs
+  pub ordered : (j : ℕ) → j < wiresOf cs → Ordered (inputsOf cs) 0 (getD trees j (con 0))
+  -- "For every p, v is permitted": every command 06 p w has v
+  pub permitted : (p w : ℕ) → p < 2 ^ inputsOf cs → List·Memᴰ (Limit p w) cs → bit w (valueOn (inputsOf cs) trees p) ≡ 1
+  -- "where p has 02 with value u, the unit answers alike, that is G(v) = G(u)"
+  pub answers : (p u : ℕ) → p < 2 ^ inputsOf cs → List·Memᴰ (Row p u) cs → outputsFor cs (valueOn (inputsOf cs) trees p) ≡ outputsFor cs u
+
+-- a rival of the sheet in these bytes
+pub record Rival (bytes : List ℕ) (trees : List Tree) : Type 0 where
+  pub commands : List Command
+  pub held : readingOf bytes ≡ holds commands
+  pub keeps : Keeps commands trees

@@ -1,0 +1,62 @@
+// The second stage of a unit: its gates, its outputs for a wire value, and the relation that its sheet leaves to the first stage.
+use crate::sets::relation_of;
+use base::Refusal;
+use relation::Checked;
+use relation::Relation;
+use sheet::Answer;
+ghost use mathlib.Core.Path.{_≡_};
+ghost use Rattle.relation.specs.Handed.{checkOf};
+ghost use Rattle.unit.specs.Formed.{turnedAway, formedOf};
+ghost use Rattle.unit.specs.Parts.{afterCheck};
+
+mod gates; // gates.rt: signals and outputs for a wire value
+mod sets; // sets.rt: the relation, pattern by pattern
+
+// The relation of a sheet, or the refusal; the relation has no sizes and empty sets on a refusal.
+pub struct Formed {
+    pub relation: Relation,
+    pub answer: Answer,
+}
+
+fn turned_away(f: Refusal) -> Formed
+    ensures { λ r. ⌜ r ≡ turnedAway f ⌝ }
+{
+    let relation = Relation {
+        n: 0,
+        m: 0,
+        sets: [0; 16],
+    };
+    Formed {
+        relation,
+        answer: Answer::Refused(f),
+    }
+}
+
+// A relation with an empty pattern is refused: 10.
+fn judge(relation: Relation) -> Formed
+    ensures { λ r. ⌜ r ≡ afterCheck relation (checkOf relation) ⌝ }
+{
+    let checked = relation.check();
+    match checked {
+        Checked::WellFormed => Formed {
+            relation,
+            answer: Answer::Accepted,
+        },
+        Checked::Refused(f) => turned_away(f),
+    }
+}
+
+// Reads a whole sheet and forms its relation: any refusal of the reading, else 10 or the relation.
+pub fn form(s: &[u8]) -> Formed
+    ensures { λ r. ⌜ r ≡ formedOf (now (s .entry)) ⌝ }
+{
+    let reply = sheet::read_sheet(s);
+    let answer = reply.answer;
+    match answer {
+        Answer::Accepted => {
+            let sheet = reply.sheet;
+            judge(relation_of(sheet))
+        }
+        Answer::Refused(f) => turned_away(f),
+    }
+}

@@ -1,0 +1,250 @@
+//! One case: its record in `stdin` and the reply expected in `stdout`.
+//!
+//! Records follow each other with nothing between. Each begins with a kind
+//! byte; numbers of more than one byte come low byte first.
+//!
+//! * `Q` quote: budget (4 bytes), buffer length (1), sheet length (2), sheet.
+//! * `A` audit: sheet length (2), stage length (2), sheet, stage.
+//! * `S` search: n (1), m (1), budget (4), sixteen sets (2 each).
+//! * `W` write a stage: n (1), m (1), buffer length (1), four tables (2 each).
+//! * `R` read a stage: length (2), stage.
+//!
+//! Replies, a line each (a quote that is not refused has two):
+//!
+//! * `Q`: "cells C floor F visits V best" (or "stopped") and the stage as hex
+//!   pairs, " +"; or "refused N at P +".
+//! * `A`: "fits C", "differs C", "sheet refused N at P", "stage refused N at P".
+//! * `S`: "T0 T1 T2 T3 cells C floor F visits V best" (or "stopped"); or
+//!   "refused N at P".
+//! * `W`: "LENGTH PAIRS +"; or "refused N at P +".
+//! * `R`: "N M T0 T1 T2 T3 cells C"; or "refused N at P".
+//!
+//! Buffers start filled with EE. The + says that every byte of the buffer past
+//! the stage (on a refusal: every byte) still is EE.
+
+use crate::audit::{audit, Audit};
+use crate::pick::Picker;
+use crate::quote::quote;
+use crate::refusal::Refusal;
+use crate::relation::handed;
+use crate::search::{search, Answer};
+use crate::stage;
+
+/// What lent buffers are filled with at the start.
+const FILL: u8 = 0xEE;
+
+#[derive(Clone, PartialEq, Eq, Debug)]
+pub enum Case {
+    Quote { budget: u32, room: u8, sheet: Vec<u8> },
+    Audit { sheet: Vec<u8>, stage: Vec<u8> },
+    Search { n: u8, m: u8, budget: u32, sets: [u16; 16] },
+    Write { n: u8, m: u8, room: u8, tables: [u16; 4] },
+    Read { stage: Vec<u8> },
+}
+
+/// Whom a refusal belongs to, or what came out.
+#[derive(Clone, Copy, PartialEq, Eq, Debug)]
+pub enum Outcome {
+    Refused(Refusal),
+    StageRefused(Refusal),
+    Found(Answer),
+    Judged { fits: bool },
+    Written,
+    Read,
+}
+
+pub struct Reply {
+    pub text: String,
+    pub outcome: Outcome,
+}
+
+impl Case {
+    pub fn kind(&self) -> u8 {
+        match self {
+            Case::Quote { .. } => b'Q',
+            Case::Audit { .. } => b'A',
+            Case::Search { .. } => b'S',
+            Case::Write { .. } => b'W',
+            Case::Read { .. } => b'R',
+        }
+    }
+
+    /// Appends the record: the kind byte, then numbers low byte first.
+    pub fn record(&self, out: &mut Vec<u8>) {
+        out.push(self.kind());
+        match self {
+            Case::Quote { budget, room, sheet } => {
+                out.extend(budget.to_le_bytes());
+                out.push(*room);
+                out.extend(length(sheet));
+                out.extend(sheet);
+            }
+            Case::Audit { sheet, stage } => {
+                out.extend(length(sheet));
+                out.extend(length(stage));
+                out.extend(sheet);
+                out.extend(stage);
+            }
+            Case::Search { n, m, budget, sets } => {
+                out.extend([*n, *m]);
+                out.extend(budget.to_le_bytes());
+                out.extend(sets.iter().flat_map(|s| s.to_le_bytes()));
+            }
+            Case::Write { n, m, room, tables } => {
+                out.extend([*n, *m, *room]);
+                out.extend(tables.iter().flat_map(|t| t.to_le_bytes()));
+            }
+            Case::Read { stage } => {
+                out.extend(length(stage));
+                out.extend(stage);
+            }
+        }
+    }
+
+    /// The expected reply, lines with their line ends.
+    pub fn reply(&self, picker: &mut Picker) -> Reply {
+        match self {
+            Case::Quote { budget, room, sheet } => quote_reply(sheet, *budget, *room, picker),
+            Case::Audit { sheet, stage } => audit_reply(sheet, stage),
+            Case::Search { n, m, budget, sets } => search_reply(*n, *m, *budget, sets, picker),
+            Case::Write { n, m, room, tables } => write_reply(*n, *m, *room, tables),
+            Case::Read { stage } => read_reply(stage),
+        }
+    }
+}
+
+/// The cases of a sequence of records. Panics on anything else.
+pub fn read_records(mut bytes: &[u8]) -> Vec<Case> {
+    fn take<'a>(bytes: &mut &'a [u8], count: usize) -> &'a [u8] {
+        let (taken, rest) = bytes.split_at(count);
+        *bytes = rest;
+        taken
+    }
+    fn number(bytes: &mut &[u8], count: usize) -> u32 {
+        take(bytes, count).iter().rev().fold(0, |n, &b| n << 8 | u32::from(b))
+    }
+    let mut cases = Vec::new();
+    while !bytes.is_empty() {
+        let it = &mut bytes;
+        cases.push(match take(it, 1)[0] {
+            b'Q' => {
+                let (budget, room) = (number(it, 4), number(it, 1) as u8);
+                let length = number(it, 2) as usize;
+                Case::Quote { budget, room, sheet: take(it, length).to_vec() }
+            }
+            b'A' => {
+                let (sheet, stage) = (number(it, 2) as usize, number(it, 2) as usize);
+                Case::Audit { sheet: take(it, sheet).to_vec(), stage: take(it, stage).to_vec() }
+            }
+            b'S' => {
+                let (n, m, budget) = (number(it, 1) as u8, number(it, 1) as u8, number(it, 4));
+                Case::Search { n, m, budget, sets: [0; 16].map(|_: u16| number(it, 2) as u16) }
+            }
+            b'W' => {
+                let (n, m, room) = (number(it, 1) as u8, number(it, 1) as u8, number(it, 1) as u8);
+                Case::Write { n, m, room, tables: [0; 4].map(|_: u16| number(it, 2) as u16) }
+            }
+            b'R' => {
+                let length = number(it, 2) as usize;
+                Case::Read { stage: take(it, length).to_vec() }
+            }
+            kind => panic!("no kind {kind}"),
+        });
+    }
+    cases
+}
+
+fn length(bytes: &[u8]) -> [u8; 2] {
+    u16::try_from(bytes.len()).expect("short enough").to_le_bytes()
+}
+
+/// "+" where every byte is still as lent.
+fn untouched(bytes: &[u8]) -> &'static str {
+    if bytes.iter().all(|&b| b == FILL) {
+        "+"
+    } else {
+        "-"
+    }
+}
+
+fn pairs(bytes: &[u8]) -> String {
+    let pairs: Vec<String> = bytes.iter().map(|b| format!("{b:02X}")).collect();
+    pairs.join(" ")
+}
+
+fn refused(r: &Refusal) -> String {
+    format!("refused {} at {}", r.number, r.place)
+}
+
+/// "cells C floor F visits V best" (or "stopped").
+fn found(a: &Answer) -> String {
+    let mark = if a.stopped { "stopped" } else { "best" };
+    format!("cells {} floor {} visits {} {mark}", a.cells, a.floor, a.visits)
+}
+
+fn numbers(tables: &[u16; 4]) -> String {
+    let [a, b, c, d] = tables;
+    format!("{a} {b} {c} {d}")
+}
+
+fn quote_reply(sheet: &[u8], budget: u32, room: u8, picker: &mut Picker) -> Reply {
+    let mut buffer = vec![FILL; room.into()];
+    match quote(sheet, budget, &mut buffer, picker) {
+        Ok(q) => {
+            let (stage, later) = buffer.split_at(q.length);
+            let text = format!("{}\n{} {}\n", found(&q.answer), pairs(stage), untouched(later));
+            Reply { text, outcome: Outcome::Found(q.answer) }
+        }
+        Err(r) => {
+            let text = format!("{} {}\n", refused(&r), untouched(&buffer));
+            Reply { text, outcome: Outcome::Refused(r) }
+        }
+    }
+}
+
+fn audit_reply(sheet: &[u8], stage: &[u8]) -> Reply {
+    match audit(sheet, stage) {
+        Audit::Judged { fits, cells } => {
+            let word = if fits { "fits" } else { "differs" };
+            Reply { text: format!("{word} {cells}\n"), outcome: Outcome::Judged { fits } }
+        }
+        Audit::SheetRefused(r) => Reply { text: format!("sheet {}\n", refused(&r)), outcome: Outcome::Refused(r) },
+        Audit::StageRefused(r) => Reply { text: format!("stage {}\n", refused(&r)), outcome: Outcome::StageRefused(r) },
+    }
+}
+
+fn search_reply(n: u8, m: u8, budget: u32, sets: &[u16; 16], picker: &mut Picker) -> Reply {
+    match handed(n, m, sets) {
+        Ok(r) => {
+            let answer = search(&r, budget, picker);
+            let text = format!("{} {}\n", numbers(&answer.tables), found(&answer));
+            Reply { text, outcome: Outcome::Found(answer) }
+        }
+        Err(r) => Reply { text: format!("{}\n", refused(&r)), outcome: Outcome::Refused(r) },
+    }
+}
+
+fn write_reply(n: u8, m: u8, room: u8, tables: &[u16; 4]) -> Reply {
+    let mut buffer = vec![FILL; room.into()];
+    match stage::write(n, m, tables, &mut buffer) {
+        Ok(length) => {
+            let (stage, later) = buffer.split_at(length);
+            let text = format!("{length} {} {}\n", pairs(stage), untouched(later));
+            Reply { text, outcome: Outcome::Written }
+        }
+        Err(r) => {
+            let text = format!("{} {}\n", refused(&r), untouched(&buffer));
+            Reply { text, outcome: Outcome::Refused(r) }
+        }
+    }
+}
+
+fn read_reply(bytes: &[u8]) -> Reply {
+    match stage::read(bytes) {
+        Ok(s) => {
+            let text = format!("{} {} {} cells {}\n", s.n, s.m, numbers(&s.tables()), s.cells());
+            Reply { text, outcome: Outcome::Read }
+        }
+        Err(r) => Reply { text: format!("{}\n", refused(&r)), outcome: Outcome::Refused(r) },
+    }
+}

@@ -1,0 +1,61 @@
+//! `trials write DIR` writes DIR/stdin and DIR/stdout; `trials count` prints
+//! how many cases there are of each kind and refusal.
+
+use std::path::Path;
+use std::process::ExitCode;
+use trials::check::Checker;
+use trials::pick::Picker;
+use trials::plan::cases;
+use trials::tally::Tally;
+
+fn main() -> ExitCode {
+    let arguments: Vec<String> = std::env::args().skip(1).collect();
+    let words: Vec<&str> = arguments.iter().map(String::as_str).collect();
+    match words[..] {
+        ["write", directory] => write(Path::new(directory)),
+        ["count"] => count(),
+        _ => {
+            eprintln!("trials write DIR | trials count");
+            ExitCode::from(2)
+        }
+    }
+}
+
+/// Every reply is held against the second solver before anything is written.
+fn write(directory: &Path) -> ExitCode {
+    let mut picker = Picker::new();
+    let mut checker = Checker::default();
+    let mut input = Vec::new();
+    let mut output = String::new();
+    for case in cases() {
+        let reply = case.reply(&mut picker);
+        checker.check(&case, &reply.outcome);
+        case.record(&mut input);
+        output.push_str(&reply.text);
+    }
+    let written = std::fs::create_dir_all(directory)
+        .and_then(|()| std::fs::write(directory.join("stdin"), input))
+        .and_then(|()| std::fs::write(directory.join("stdout"), output));
+    match written {
+        Ok(()) => ExitCode::SUCCESS,
+        Err(error) => {
+            eprintln!("{}: {error}", directory.display());
+            ExitCode::FAILURE
+        }
+    }
+}
+
+fn count() -> ExitCode {
+    let mut picker = Picker::new();
+    let mut checker = Checker::default();
+    let mut tally = Tally::default();
+    for case in cases() {
+        let outcome = case.reply(&mut picker).outcome;
+        checker.check(&case, &outcome);
+        tally.add(&case, &outcome);
+    }
+    print!("{}", tally.report());
+    let (held, left) = (checker.checked.held, checker.checked.left);
+    println!("searches held against the second solver: {held}, too long for it: {left}");
+    ExitCode::SUCCESS
+}

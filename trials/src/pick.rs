@@ -1,0 +1,96 @@
+//! Document 01, "Search": projection, pick and floor, as literally defined.
+
+use crate::cells::{cells, full};
+use crate::relation::Relation;
+use std::collections::HashMap;
+
+/// The projection on one wire: where 0 occurs and where 1 occurs.
+#[derive(Clone, Copy, PartialEq, Eq, Hash, Debug)]
+pub struct Projection {
+    pub n: u32,
+    pub zeros: u16,
+    pub ones: u16,
+}
+
+pub fn project(r: &Relation, wire: u32) -> Projection {
+    let mut it = Projection { n: r.n, zeros: 0, ones: 0 };
+    for p in 0..r.patterns() {
+        for v in 0..1u32 << r.m {
+            if r.sets[p] >> v & 1 == 1 {
+                if v >> wire & 1 == 1 {
+                    it.ones |= 1 << p;
+                } else {
+                    it.zeros |= 1 << p;
+                }
+            }
+        }
+    }
+    it
+}
+
+/// Whether every bit of the table occurs in the projection.
+pub fn fits(it: &Projection, table: u16) -> bool {
+    table & !it.ones == 0 && !table & full(it.n) & !it.zeros == 0
+}
+
+/// All tables of n inputs, by (cells, number).
+pub fn tables_by_cells(n: u32) -> Vec<u16> {
+    let mut all: Vec<u16> = (0..=full(n)).collect();
+    all.sort_by_key(|&t| (cells(n, t), t));
+    all
+}
+
+/// Finds picks; remembers those found, since the same ones come up often.
+pub struct Picker {
+    by_cells: Vec<u16>,
+    found: HashMap<Projection, u16>,
+}
+
+impl Default for Picker {
+    fn default() -> Self {
+        Picker::new()
+    }
+}
+
+impl Picker {
+    pub fn new() -> Picker {
+        Picker { by_cells: tables_by_cells(4), found: HashMap::new() }
+    }
+
+    /// The pick: fewest cells, then the smallest number.
+    pub fn pick(&mut self, it: &Projection) -> u16 {
+        if let Some(&table) = self.found.get(it) {
+            return table;
+        }
+        let table = if it.n == 4 { self.first_that_fits(it) } else { try_every_table(it) };
+        self.found.insert(*it, table);
+        table
+    }
+
+    fn first_that_fits(&self, it: &Projection) -> u16 {
+        *self.by_cells.iter().find(|&&t| fits(it, t)).expect("a well-defined relation has a pick")
+    }
+
+    /// The picks of all wires; 0 past wire m-1.
+    pub fn picks(&mut self, r: &Relation) -> [u16; 4] {
+        let mut tables = [0; 4];
+        for j in 0..r.m {
+            tables[j as usize] = self.pick(&project(r, j));
+        }
+        tables
+    }
+}
+
+/// Up to three inputs: look at every table.
+fn try_every_table(it: &Projection) -> u16 {
+    let mut best: Option<(u32, u16)> = None;
+    for table in 0..=full(it.n) {
+        if fits(it, table) {
+            let price = (cells(it.n, table), table);
+            if best.is_none_or(|b| price < b) {
+                best = Some(price);
+            }
+        }
+    }
+    best.expect("a well-defined relation has a pick").1
+}

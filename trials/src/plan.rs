@@ -1,0 +1,474 @@
+//! All cases, in order: the bench rows, then what is drawn from the seed.
+
+use crate::case::Case;
+use crate::draw::damage::damage;
+use crate::draw::relations::{half_dense, junk_past_the_last, malformed, sets, thin};
+use crate::draw::sheet_faults::{plant, soup};
+use crate::draw::sheets::{draft, draft_of, hard_draft, hard_draft_of, Draft};
+use crate::draw::{bad_size, high_bit, sizes, stage_faults, stages};
+use crate::fast;
+use crate::random::Random;
+use crate::relation::{handed, of_unit, Relation};
+use crate::rows::rows;
+use crate::sheet;
+use crate::stage::bytes_of;
+
+const SEED: u64 = 0x5EED_2013_0F57_A6E5;
+
+/// How many of each are drawn.
+const GOOD_QUOTES: usize = 3_000;
+const HARD_QUOTES: usize = 1_300;
+const LONG_QUOTES: usize = 24;
+const FAULTY_QUOTES: usize = 3_600;
+const DAMAGED_QUOTES: usize = 1_700;
+const AUDITS: usize = 4_800;
+const SEARCHES: usize = 5_000;
+const LONG_SEARCHES: usize = 110;
+const STOPPED_SEARCHES: usize = 8;
+const MALFORMED_SEARCHES: usize = 1_300;
+const WRITES: usize = 3_000;
+const READS: usize = 2_400;
+const FAULTY_READS: usize = 3_200;
+
+/// The longest sheet or stage of a case.
+const LONGEST: usize = 400;
+
+/// A search that takes more visits than this is long. There are few of them,
+/// so that all cases run in seconds.
+const LONG: u32 = 250;
+/// No search among the cases takes more visits than this.
+const MOST_VISITS: u32 = 30_000;
+
+pub fn cases() -> Vec<Case> {
+    let mut cases: Vec<Case> = rows().into_iter().map(|(_, case)| case).collect();
+    let mut planner = Planner { rng: Random::new(SEED) };
+    let mut many = |count: usize, draw: &mut dyn FnMut(&mut Planner) -> Case| {
+        for _ in 0..count {
+            cases.push(draw(&mut planner));
+        }
+    };
+    many(GOOD_QUOTES, &mut Planner::good_quote);
+    many(HARD_QUOTES, &mut Planner::hard_quote);
+    many(LONG_QUOTES, &mut Planner::long_quote);
+    many(FAULTY_QUOTES, &mut Planner::faulty_quote);
+    many(DAMAGED_QUOTES, &mut Planner::damaged_quote);
+    many(AUDITS, &mut Planner::audit);
+    many(SEARCHES, &mut Planner::search);
+    many(LONG_SEARCHES, &mut Planner::long_search);
+    many(STOPPED_SEARCHES, &mut Planner::stopped_search);
+    many(MALFORMED_SEARCHES, &mut Planner::malformed_search);
+    many(WRITES, &mut Planner::write);
+    many(READS, &mut Planner::read);
+    many(FAULTY_READS, &mut Planner::faulty_read);
+    cases
+}
+
+fn well_defined(n: u8, m: u8, sets: &[u16; 16]) -> Relation {
+    handed(n, m, sets).expect("drawn to be well defined")
+}
+
+/// Whether the search does not end with its first answer.
+fn is_open(r: &Relation) -> bool {
+    fast::search(r.n, &r.sets, 1).visits > 0
+}
+
+struct Planner {
+    rng: Random,
+}
+
+impl Planner {
+    // Budgets and buffers.
+
+    /// Any budget, for input that is refused.
+    fn any_budget(&mut self) -> u32 {
+        self.rng.of(&[0, 1, 2, 10_000, u32::MAX])
+    }
+
+    /// A budget for a relation: 0, 1, few, just enough, one too few, many. How
+    /// long the search is, the fast one tells.
+    fn budget(&mut self, r: &Relation) -> u32 {
+        let probe = fast::search(r.n, &r.sets, LONG + 1);
+        let visits = probe.visits;
+        let budget = match self.rng.below(12) {
+            0 => 0,
+            1 => 1,
+            2 => self.rng.within(2, 9) as u32,
+            3 => self.rng.within(10, 60) as u32,
+            4 | 5 => 10_000,
+            6 | 7 => u32::MAX,
+            8 => visits,
+            9 => visits.saturating_sub(1),
+            10 => visits + 1,
+            _ => self.rng.below(visits as usize + 1) as u32,
+        };
+        if visits.min(budget) > LONG {
+            return self.rng.within(0, 60) as u32;
+        }
+        budget
+    }
+
+    /// A buffer length around the need.
+    fn room(&mut self, need: usize) -> u8 {
+        let rng = &mut self.rng;
+        let room = match rng.below(12) {
+            0..=3 => 255,
+            4 | 5 => need,
+            6 => need - 1,
+            7 => need + 1,
+            8 => rng.within(need.saturating_sub(4), need + 4),
+            9 => rng.below(need),
+            10 => rng.within(need, 255),
+            _ => rng.of(&[0, 1, need / 2, 196]),
+        };
+        room.min(255) as u8
+    }
+
+    // Quotes.
+
+    fn good_quote(&mut self) -> Case {
+        let sheet = draft(&mut self.rng).sheet(&mut self.rng);
+        self.quote_of(sheet)
+    }
+
+    /// Parities, and mostly such that the first answer is not the end of it.
+    fn hard_quote(&mut self) -> Case {
+        loop {
+            let sheet = hard_draft(&mut self.rng).sheet(&mut self.rng);
+            let formed = sheet::read(&sheet).and_then(|unit| of_unit(&unit));
+            if formed.is_ok_and(|r| is_open(&r)) || self.rng.once_in(6) {
+                return self.quote_of(sheet);
+            }
+        }
+    }
+
+    /// A quote of many visits, with the program's budget or a larger one.
+    fn long_quote(&mut self) -> Case {
+        loop {
+            let (n, m) = (self.rng.of(&[3, 4]), self.rng.of(&[3, 4]));
+            let sheet = hard_draft_of(&mut self.rng, n, m).sheet(&mut self.rng);
+            let Ok(r) = sheet::read(&sheet).and_then(|unit| of_unit(&unit)) else { continue };
+            if (LONG + 1..=10_000).contains(&fast::search(r.n, &r.sets, MOST_VISITS).visits) {
+                return Case::Quote { budget: self.rng.of(&[10_000, u32::MAX]), room: 255, sheet };
+            }
+        }
+    }
+
+    /// A quote of any sheet, good or not.
+    fn quote_of(&mut self, sheet: Vec<u8>) -> Case {
+        assert!(sheet.len() <= LONGEST);
+        match sheet::read(&sheet).and_then(|unit| of_unit(&unit)) {
+            Ok(r) => {
+                let budget = self.budget(&r);
+                let answer = fast::search(r.n, &r.sets, budget);
+                let room = self.room((4 + 3 * r.m + 3 * answer.cells) as usize);
+                Case::Quote { budget, room, sheet }
+            }
+            Err(_) => Case::Quote { budget: self.any_budget(), room: self.rng.of(&[0, 1, 16, 196]), sheet },
+        }
+    }
+
+    /// A draft whose sheet is not long.
+    fn short_draft(&mut self, inputs: &[u8]) -> Draft {
+        loop {
+            let n = self.rng.of(inputs);
+            let m = self.rng.within(1, 4) as u8;
+            let it = draft_of(&mut self.rng, n, m);
+            if it.gates.len() <= 6 {
+                return it;
+            }
+        }
+    }
+
+    /// A sheet with one fault or several.
+    fn faulty_sheet(&mut self) -> Vec<u8> {
+        loop {
+            let mut numbers = vec![self.rng.within(1, 10) as u8];
+            while self.rng.once_in(4) {
+                numbers.push(self.rng.within(1, 10) as u8);
+            }
+            // Cutting leaves pieces that nothing more can be planted in, and
+            // what comes after the end is put there last but one.
+            numbers.sort_by_key(|&number| match number {
+                1 => 2,
+                4 => 1,
+                _ => 0,
+            });
+            numbers.dedup();
+            // More patterns where the place is a pattern.
+            let inputs: &[u8] = if matches!(numbers[0], 9 | 10) { &[2, 3, 4, 4, 4] } else { &[1, 2, 3, 4] };
+            let mut commands = self.short_draft(inputs).commands(&mut self.rng);
+            for number in numbers {
+                plant(&mut self.rng, number, &mut commands);
+            }
+            let sheet = commands.concat();
+            if sheet.len() <= LONGEST {
+                return sheet;
+            }
+        }
+    }
+
+    fn faulty_quote(&mut self) -> Case {
+        let sheet = if self.rng.once_in(12) { soup(&mut self.rng) } else { self.faulty_sheet() };
+        self.quote_of(sheet)
+    }
+
+    fn damaged_quote(&mut self) -> Case {
+        let sheet = self.short_draft(&[1, 2, 3, 4]).sheet(&mut self.rng);
+        let hurt = damage(&mut self.rng, &sheet);
+        self.quote_of(hurt)
+    }
+
+    // Audits.
+
+    fn audit(&mut self) -> Case {
+        let sheet = match self.rng.below(12) {
+            0 => self.faulty_sheet(),
+            1 => {
+                let sheet = self.short_draft(&[1, 2, 3, 4]).sheet(&mut self.rng);
+                damage(&mut self.rng, &sheet)
+            }
+            _ => self.short_draft(&[1, 2, 3, 4]).sheet(&mut self.rng),
+        };
+        let stage = match sheet::read(&sheet).and_then(|unit| of_unit(&unit)) {
+            Ok(r) => self.stage_for(&r),
+            Err(_) => {
+                let (n, m) = sizes(&mut self.rng);
+                self.any_stage(n, m)
+            }
+        };
+        Case::Audit { sheet, stage }
+    }
+
+    /// A stage that fits the relation, nearly fits, or does not.
+    fn stage_for(&mut self, r: &Relation) -> Vec<u8> {
+        let (n, m) = (r.n as u8, r.m as u8);
+        match self.rng.below(12) {
+            0 | 1 => {
+                let found = fast::search(r.n, &r.sets, 20);
+                bytes_of(r.n, r.m, &found.tables)
+            }
+            2..=4 => {
+                let tables = self.compatible(r);
+                stages::padded(&mut self.rng, n, m, &tables)
+            }
+            5 | 6 => {
+                let tables = self.compatible(r);
+                let mut stage = stages::padded(&mut self.rng, n, m, &tables);
+                stages::turn_a_constant(&mut self.rng, &mut stage);
+                stage
+            }
+            7 => {
+                // Other sizes.
+                let (n, m) = match self.rng.below(3) {
+                    0 => (n, m % 4 + 1),
+                    1 => (n % 4 + 1, m),
+                    _ => sizes(&mut self.rng),
+                };
+                stages::stage(&mut self.rng, n, m).concat()
+            }
+            _ => self.any_stage(n, m),
+        }
+    }
+
+    /// Any function compatible with the relation.
+    fn compatible(&mut self, r: &Relation) -> [u16; 4] {
+        let mut tables = [0; 4];
+        for p in 0..r.patterns() {
+            let values: Vec<u16> = (0..16).filter(|v| r.sets[p] >> v & 1 == 1).collect();
+            let v = self.rng.of(&values);
+            for (j, table) in tables.iter_mut().enumerate() {
+                *table |= (v >> j & 1) << p;
+            }
+        }
+        tables
+    }
+
+    /// A stage of those sizes: good, with a fault, or damaged.
+    fn any_stage(&mut self, n: u8, m: u8) -> Vec<u8> {
+        let rng = &mut self.rng;
+        match rng.below(4) {
+            0 => stages::stage(rng, n, m).concat(),
+            1 => {
+                let stage = stages::stage(rng, n, m).concat();
+                damage(rng, &stage)
+            }
+            _ => {
+                let number = rng.of(&stage_faults::NUMBERS);
+                stage_faults::faulty(rng, number, n, m).concat()
+            }
+        }
+    }
+
+    // Searches.
+
+    fn search(&mut self) -> Case {
+        let (n, m) = sizes(&mut self.rng);
+        let mut drawn = sets(&mut self.rng, n, m);
+        // Half of those that end with the first answer are drawn again.
+        let mut r = well_defined(n, m, &drawn);
+        if !is_open(&r) && self.rng.once_in(2) {
+            drawn = sets(&mut self.rng, n, m);
+            r = well_defined(n, m, &drawn);
+        }
+        let budget = self.budget(&r);
+        if self.rng.once_in(2) {
+            junk_past_the_last(&mut self.rng, n, &mut drawn);
+        }
+        Case::Search { n, m, budget, sets: drawn }
+    }
+
+    /// A search of many visits: to its end, one visit short of it, or neither.
+    fn long_search(&mut self) -> Case {
+        loop {
+            let (n, m, sets) = if self.rng.once_in(3) {
+                (4, 4, half_dense(&mut self.rng, 4, 4).sets)
+            } else {
+                let (n, m) = (self.rng.of(&[3, 4]), self.rng.of(&[3, 4]));
+                (n, m, sets(&mut self.rng, n, m))
+            };
+            let r = well_defined(n, m, &sets);
+            let probe = fast::search(r.n, &r.sets, MOST_VISITS);
+            let whole = probe.visits;
+            // Few of the longest.
+            if probe.stopped || whole <= LONG || whole > 4_000 && !self.rng.once_in(4) {
+                continue;
+            }
+            let any = self.rng.within(0, whole as usize) as u32;
+            let budget = self.rng.of(&[u32::MAX, u32::MAX, u32::MAX, 10_000, 10_000, whole, whole - 1, any]);
+            return Case::Search { n, m, budget, sets };
+        }
+    }
+
+    /// A search that is stopped at 10,000 visits.
+    fn stopped_search(&mut self) -> Case {
+        loop {
+            let mut sets = [0; 16];
+            for set in &mut sets {
+                while *set == 0 {
+                    *set = thin(&mut self.rng, 5);
+                }
+            }
+            if fast::search(4, &sets, 10_000).stopped {
+                return Case::Search { n: 4, m: 4, budget: 10_000, sets };
+            }
+        }
+    }
+
+    fn malformed_search(&mut self) -> Case {
+        // Many patterns, for many places.
+        let n = self.rng.of(&[1, 2, 3, 3, 4, 4, 4]);
+        let m = self.rng.of(&[1, 2, 3, 4]);
+        let (n, m, sets) = malformed(&mut self.rng, n, m);
+        let budget = match handed(n, m, &sets) {
+            Ok(r) => self.budget(&r),
+            Err(_) => self.any_budget(),
+        };
+        Case::Search { n, m, budget, sets }
+    }
+
+    // Stages.
+
+    fn write(&mut self) -> Case {
+        let (mut n, mut m) = sizes(&mut self.rng);
+        let mut tables = [0; 4];
+        for table in tables.iter_mut().take(m.into()) {
+            *table = stages::table(&mut self.rng, n.into());
+        }
+        let need = bytes_of(n.into(), m.into(), &tables).len();
+        if self.rng.once_in(2) {
+            // Past wire m-1 anything may stand.
+            for table in tables.iter_mut().skip(m.into()) {
+                *table = self.rng.word();
+            }
+        }
+        let mut room = self.room(need);
+        if self.rng.once_in(10) && n < 4 {
+            for _ in 0..self.rng.of(&[1, 1, 2]) {
+                let j = self.rng.below(m.into());
+                tables[j] |= high_bit(&mut self.rng, 1 << n);
+            }
+            room = self.rng.of(&[0, room, 255]);
+        }
+        if self.rng.once_in(12) {
+            match self.rng.below(3) {
+                0 => n = bad_size(&mut self.rng),
+                1 => m = bad_size(&mut self.rng),
+                _ => (n, m) = (bad_size(&mut self.rng), bad_size(&mut self.rng)),
+            }
+        }
+        Case::Write { n, m, room, tables }
+    }
+
+    fn read(&mut self) -> Case {
+        let (n, m) = sizes(&mut self.rng);
+        let stage = if self.rng.once_in(3) {
+            let mut tables = [0; 4];
+            for table in tables.iter_mut().take(m.into()) {
+                *table = stages::table(&mut self.rng, n.into());
+            }
+            stages::padded(&mut self.rng, n, m, &tables)
+        } else {
+            stages::stage(&mut self.rng, n, m).concat()
+        };
+        Case::Read { stage }
+    }
+
+    fn faulty_read(&mut self) -> Case {
+        let (n, m) = sizes(&mut self.rng);
+        let stage = match self.rng.below(16) {
+            0 => {
+                let length = self.rng.below(12);
+                (0..length).map(|_| crate::draw::damage::small(&mut self.rng)).collect()
+            }
+            1..=5 => {
+                let stage = stages::stage(&mut self.rng, n, m).concat();
+                damage(&mut self.rng, &stage)
+            }
+            _ => {
+                let number = self.rng.of(&stage_faults::NUMBERS);
+                stage_faults::faulty(&mut self.rng, number, n, m).concat()
+            }
+        };
+        assert!(stage.len() <= LONGEST);
+        Case::Read { stage }
+    }
+}
+
+#[cfg(test)]
+mod tests {
+    use super::*;
+    use crate::case::read_records;
+    use crate::check::Checker;
+    use crate::pick::Picker;
+    use crate::tally::Tally;
+
+    /// Every case is held against the second solver; there are enough cases,
+    /// and enough of every refusal.
+    #[test]
+    fn every_case_holds() {
+        let mut picker = Picker::new();
+        let mut checker = Checker::default();
+        let mut tally = Tally::default();
+        for case in cases() {
+            let outcome = case.reply(&mut picker).outcome;
+            checker.check(&case, &outcome);
+            tally.add(&case, &outcome);
+        }
+        assert!(tally.cases() >= 20_000);
+        for number in 0..14 {
+            assert!(tally.refusals(number) >= 100, "refusal {number}: {}", tally.refusals(number));
+        }
+        assert!(checker.checked.held > 5_000);
+    }
+
+    #[test]
+    fn the_draw_is_fixed_and_the_records_tell_it() {
+        let cases = cases();
+        let mut input = Vec::new();
+        for case in &cases {
+            case.record(&mut input);
+        }
+        assert_eq!(read_records(&input), cases);
+        assert_eq!(self::cases(), cases);
+    }
+}

@@ -1,0 +1,22 @@
+//! Document 01, "Quote": sheet in, stage out.
+
+use crate::pick::Picker;
+use crate::refusal::Refusal;
+use crate::search::{search, Answer};
+use crate::{relation, sheet, stage};
+
+/// What the quote tells, beside the bytes it writes.
+#[derive(Clone, Copy, PartialEq, Eq, Debug)]
+pub struct Quote {
+    pub answer: Answer,
+    pub length: usize,
+}
+
+/// Reads, searches, and writes the stage at the start of the buffer.
+pub fn quote(sheet: &[u8], budget: u32, buffer: &mut [u8], picker: &mut Picker) -> Result<Quote, Refusal> {
+    let unit = sheet::read(sheet)?;
+    let r = relation::of_unit(&unit)?;
+    let answer = search(&r, budget, picker);
+    let length = stage::write(r.n as u8, r.m as u8, &answer.tables, buffer)?;
+    Ok(Quote { answer, length })
+}
