@@ -2,7 +2,7 @@
 use Prim.Native.Nat.{ℕ, zero, suc, _-_, _^_, _<_}
 use mathlib.Core.Path.{_≡_, refl, sym, ap, ap₂, subst, _∙_}
 use mathlib.Core.Logic.{⊎-elim}
-use mathlib.Core.Bool.{Bool, true, false, _&&_}
+use mathlib.Core.Bool.{_&&_, and-assoc}
 use mathlib.Core.List.{List, [], _∷_}
 use native.Mathlib.Nat.{lt-of-lt-of-le, lt-of-le-of-lt}
 use native.Mathlib.Omega.{arith}
@@ -30,11 +30,11 @@ use Rattle.unit.specs.Parts.{Codes}
 use Rattle.unit.proofs.Codings.{code-test}
 use Rattle.unit.proofs.Members.{told, told-is, told-test}
 
-and-assoc : (a b c : Bool) → (a && b) && c ≡ a && (b && c)
-and-assoc true b c = refl
-and-assoc false b c = refl
+-- the values with the outputs of u, from the numbers that tell the outputs
+abbrev pub sameAs : List ℕ → ℕ → ℕ
+sameAs codes u = told maxValues (λ v. eqb (getD codes v 0) (getD codes u 0))
 
--- all values of m wires
+-- the set of the first k values
 ones-is : (k : ℕ) → ofBits k (λ _. 1) ≡ 2 ^ k - 1
 unfolding ofBits sum
 ones-is zero = refl
@@ -43,12 +43,11 @@ ones-is (suc k) = omega (arith, ones-is k, pow-pos k)
 ones-bit : (k v : ℕ) → v < k → bit (2 ^ k - 1) v ≡ 1
 ones-bit k v l = ap (λ x. bit x v) (sym (ones-is k)) ∙ bit-ofBits (λ _. 1) k (λ _ _. omega arith) v l
 
--- a value of m wires is one below 2 ^ m
 ones-below : (k v : ℕ) → bit (2 ^ k - 1) v ≡ 1 → v < k
 ones-below k v e =
     ⊎-elim (λ l. ltb→lt v k l) (λ l. absurd (omega (arith, bit-past (2 ^ k - 1) k v (ones-lt k) (nltb→le v k l), e))) (decide (ltb v k))
 
--- in each of the sets
+-- a value is permitted where it is in each of the sets
 pub permits-each : (v : ℕ) (ws : List ℕ) → T (permits ws v) → Each (λ w. bit w v ≡ 1) ws
 unfolding permits
 permits-each v [] t = tt
@@ -88,15 +87,15 @@ module _ (cs : List Command) (s : Sound cs) (p : ℕ) where
       told-is (λ v. ltb v (2 ^ wiresOf cs) && unitRelation cs p v) maxValues (limitOn p cs) limit-lt
       (λ v l. limit-test v ∙ rw (e, and-true (permits (limitsOn p cs) v)))
 
-  -- a pattern with the present value u: of those the ones with its outputs
+  -- a pattern with the present value u: of those the ones with the outputs of u
   module _ (codes : List ℕ) (is : Codes cs codes) (u : ℕ) (room : u < maxValues) where
     same-test : (v : ℕ) → v < maxValues → eqb (getD codes v 0) (getD codes u 0) ≡ sameList (outputsFor cs v) (outputsFor cs u)
     same-test v l = ap₂ eqb (is v l) (is u room) ∙ code-test cs v u
 
-    alike-permitted : rowsOn p cs ≡ u ∷ [] → bitAnd (limitOn p cs) (told maxValues (λ v. eqb (getD codes v 0) (getD codes u 0))) ≡ setOn cs p
+    alike-permitted : rowsOn p cs ≡ u ∷ [] → bitAnd (limitOn p cs) (sameAs codes u) ≡ setOn cs p
     unfolding setOn unitRelation alike
     alike-permitted e =
-        let w = told maxValues (λ v. eqb (getD codes v 0) (getD codes u 0)) in
+        let w = sameAs codes u in
         told-is (λ v. ltb v (2 ^ wiresOf cs) && unitRelation cs p v) maxValues (bitAnd (limitOn p cs) w) (lt-of-le-of-lt (and-le-l (limitOn p cs) w) limit-lt)
         (λ v l.
         test-and (limitOn p cs) w v
@@ -119,10 +118,10 @@ module _ (cs : List Command) (s : Sound cs) (p : ℕ) where
         go (impossible r d) = limit-field cs p room ∙ all-permitted r
 
     pub set-marked : (codes : List ℕ) → Codes cs codes → getD (gathered cs .marks) p 0 ≡ rowMark
-        → bitAnd (getD (gathered cs .limits) p 0) (told maxValues (λ v. eqb (getD codes v 0) (getD codes (getD (gathered cs .values) p 0) 0))) ≡ setOn cs p
+        → bitAnd (getD (gathered cs .limits) p 0) (sameAs codes (getD (gathered cs .values) p 0)) ≡ setOn cs p
     set-marked codes is e = go (s .each-pattern p l)
       where
-        go : Given p cs → bitAnd (getD (gathered cs .limits) p 0) (told maxValues (λ v. eqb (getD codes v 0) (getD codes (getD (gathered cs .values) p 0) 0))) ≡ setOn cs p
+        go : Given p cs → bitAnd (getD (gathered cs .limits) p 0) (sameAs codes (getD (gathered cs .values) p 0)) ≡ setOn cs p
         go (present v r d b) = rw (limit-field cs p room, present-value cs p room v r) (alike-permitted codes is v (value-room v b) r)
         go (impossible r d) = absurd (omega (arith, e, impossible-mark cs p room d))
 

@@ -9,19 +9,17 @@ use borrow.Author.Tests.{lt-ltb, le-ltb}
 use Rattle.base.specs.declared.Refusal.{Refusal}
 use Rattle.base.specs.Refusals.{refusalAt, empty}
 use Rattle.base.proofs.Tests.{decide}
-use Rattle.relation.specs.Tests.{emptyPattern}
 use Rattle.relation.specs.Handed.{checkOf}
 use Rattle.sheet.specs.declared.Command.{Command}
 use Rattle.sheet.specs.declared.Answer.the-variants.{Accepted, Refused}
 use Rattle.sheet.specs.declared.Reply.{Reply}
-use Rattle.sheet.specs.Commands.{inputsOf, wiresOf}
+use Rattle.sheet.specs.Commands.{inputsOf}
 use Rattle.sheet.specs.Gathered.{gathered}
 use Rattle.sheet.specs.Reading.{Reading, holds, refused, readingOf, replyOf}
 use Rattle.sheet.proofs.Sound.{sound}
-use Rattle.unit.specs.Relation.{unitRelation}
 use Rattle.unit.specs.Formed.{relationIn, turnedAway, formedFrom, formedOf}
 use Rattle.unit.specs.Parts.{Held, afterCheck}
-use Rattle.unit.proofs.Told.{refused-empty, passes-whole}
+use Rattle.unit.proofs.Told.{emptyIn, refused-empty, passes-whole}
 
 pub apart : {A : Type 0} (f : Refusal) → Accepted ≡ Refused f → A
 apart f e = let z : _≡_ {A = ℕ} 0 1 = cc in absurd (omega arith)
@@ -55,21 +53,21 @@ module _ (bytes : List ℕ) where
   formed-refused f e = rw e
 
   module _ (cs : List Command) (e : readingOf bytes ≡ holds cs) where
-    pub formed-empty : emptyPattern (inputsOf cs) (wiresOf cs) (unitRelation cs) < 2 ^ inputsOf cs
-        → formedOf bytes ≡ turnedAway (refusalAt empty (emptyPattern (inputsOf cs) (wiresOf cs) (unitRelation cs)))
+    pub formed-empty : emptyIn cs < 2 ^ inputsOf cs
+        → formedOf bytes ≡ turnedAway (refusalAt empty (emptyIn cs))
     unfolding formedOf formedFrom
-    formed-empty l = rw (e, lt-ltb (emptyPattern (inputsOf cs) (wiresOf cs) (unitRelation cs)) (2 ^ inputsOf cs) l)
+    formed-empty l = rw (e, lt-ltb (emptyIn cs) (2 ^ inputsOf cs) l)
 
-    pub formed-whole : 2 ^ inputsOf cs ≤ emptyPattern (inputsOf cs) (wiresOf cs) (unitRelation cs)
+    pub formed-whole : 2 ^ inputsOf cs ≤ emptyIn cs
         → formedOf bytes ≡ record { relation = relationIn cs; answer = Accepted }
     unfolding formedOf formedFrom
-    formed-whole l = rw (e, le-ltb (emptyPattern (inputsOf cs) (wiresOf cs) (unitRelation cs)) (2 ^ inputsOf cs) l)
+    formed-whole l = rw (e, le-ltb (emptyIn cs) (2 ^ inputsOf cs) l)
 
     -- what the test of the relation gives is what forming it gives
     pub after-check : afterCheck (relationIn cs) (checkOf (relationIn cs)) ≡ formedOf bytes
     after-check =
         let s = sound bytes cs e in
-        let p = emptyPattern (inputsOf cs) (wiresOf cs) (unitRelation cs) in
+        let p = emptyIn cs in
         ⊎-elim (λ t. let l = ltb→lt p (2 ^ inputsOf cs) t in rw (refused-empty cs s l) (sym (formed-empty l)))
         (λ t. let l = nltb→le p (2 ^ inputsOf cs) t in rw (passes-whole cs s l) (sym (formed-whole l)))
         (decide (ltb p (2 ^ inputsOf cs)))

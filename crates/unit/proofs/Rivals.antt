@@ -11,7 +11,6 @@ use Rattle.base.proofs.Tests.{decide, and-intro, and-left, and-right}
 use Rattle.table.specs.Bits.{bit, ofBits}
 use Rattle.table.specs.Tree.{Tree, con, follow}
 use Rattle.relation.specs.Source.{WellDefined}
-use Rattle.relation.specs.Tests.{emptyPattern}
 use Rattle.relation.specs.Handed.{relationOf}
 use Rattle.relation.specs.Families.{Family}
 use Rattle.relation.proofs.Decide.{well-defined-or, empty-not}
@@ -28,7 +27,7 @@ use Rattle.unit.specs.Rival.{valueOn, Keeps, Rival}
 use Rattle.unit.specs.Formed.{relationIn, turnedAway, formedOf}
 use Rattle.unit.proofs.Codings.{same-list, list-same}
 use Rattle.unit.proofs.Allowed.{permits-each, each-permits}
-use Rattle.unit.proofs.Told.{family-told}
+use Rattle.unit.proofs.Told.{emptyIn, family-told}
 use Rattle.unit.proofs.Forming.{apart, formed-empty, formed-whole}
 use Rattle.unit.proofs.Said.{limits-said, said-limits, rows-said, said-rows}
 use Rattle.unit.proofs.Choice.{listed, listed-length, listed-at, family-same, family-value, chosen, chosen-family}
@@ -99,7 +98,7 @@ module _ (cs : List Command) where
             answers = λ p u l i. related p (valueOn (inputsOf cs) trees p) .0 (in-set p l) .1 u i;
           }
 
-  pub empty-no-rival : (trees : List Tree) → emptyPattern (inputsOf cs) (wiresOf cs) (unitRelation cs) < 2 ^ inputsOf cs → Keeps cs trees → ⊥
+  pub empty-no-rival : (trees : List Tree) → emptyIn cs < 2 ^ inputsOf cs → Keeps cs trees → ⊥
   empty-no-rival trees l k =
       empty-not (inputsOf cs) (wiresOf cs) (unitRelation cs) l
       (family-value (inputsOf cs) (wiresOf cs) (unitRelation cs) (byWire trees) (rival-family trees .0 k .1))
@@ -134,13 +133,13 @@ module _ (bytes : List ℕ) (cs : List Command) (e : readingOf bytes ≡ holds c
     λ f. keeps-rival trees .0 (rival-family cs trees .1 (f .0, family-told cs (sound bytes cs e) (byWire trees) .0 (f .1))),
   )
 
-  pub some-rival : 2 ^ inputsOf cs ≤ emptyPattern (inputsOf cs) (wiresOf cs) (unitRelation cs) → (trees : List Tree) × Rival bytes trees
+  pub some-rival : 2 ^ inputsOf cs ≤ emptyIn cs → (trees : List Tree) × Rival bytes trees
   some-rival l =
       ⊎-elim (λ w. let k = some-keeps cs w in (k .0, keeps-rival (k .0) .0 (k .1))) (λ b. absurd (omega arith))
       (well-defined-or (inputsOf cs) (wiresOf cs) (unitRelation cs))
 
   -- "R(p) is empty" for some p exactly where no rival exists
-  pub no-rival : (emptyPattern (inputsOf cs) (wiresOf cs) (unitRelation cs) < 2 ^ inputsOf cs) ↔ ((trees : List Tree) → Rival bytes trees → ⊥)
+  pub no-rival : (emptyIn cs < 2 ^ inputsOf cs) ↔ ((trees : List Tree) → Rival bytes trees → ⊥)
   no-rival = (
     λ l trees r. empty-no-rival cs trees l (keeps-rival trees .1 r),
     λ none.
@@ -151,7 +150,7 @@ module _ (bytes : List ℕ) (cs : List Command) (e : readingOf bytes ≡ holds c
   -- a sheet that is read is refused with 10 exactly where no rival exists
   pub refused-ten : ((trees : List Tree) → Rival bytes trees → ⊥) ↔ ((p : ℕ) × (formedOf bytes ≡ turnedAway (refusalAt empty p)))
   refused-ten =
-      let q = emptyPattern (inputsOf cs) (wiresOf cs) (unitRelation cs) in (
+      let q = emptyIn cs in (
         λ none. (q, formed-empty bytes cs e (no-rival .1 none)),
         λ t.
             ⊎-elim (λ b. no-rival .0 (ltb→lt q (2 ^ inputsOf cs) b))

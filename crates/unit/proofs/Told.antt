@@ -34,6 +34,10 @@ use Rattle.unit.specs.Relation.{unitRelation}
 use Rattle.unit.specs.Formed.{setOn, relationIn}
 use Rattle.unit.proofs.Members.{told-all, told-below}
 
+-- the lowest pattern whose R(p) is empty; 2 ^ n where there is none
+abbrev pub emptyIn : List Command → ℕ
+emptyIn cs = emptyPattern (inputsOf cs) (wiresOf cs) (unitRelation cs)
+
 module _ (cs : List Command) (s : Sound cs) where
   patterns-fit : 2 ^ inputsOf cs ≤ maxPatterns
   patterns-fit = pow-mono {i = inputsOf cs} {j = maxInputs} (s .inputs-most)
@@ -102,7 +106,7 @@ module _ (cs : List Command) (s : Sound cs) where
     λ w p l. let u = w p l in (u .0, u .1, subst T (sym (set-told p (u .0) l (u .1))) (u .2)),
   )
 
-  pub empty-told : emptyPattern (inputsOf cs) (wiresOf cs) (relationOf (relationIn cs)) ≡ emptyPattern (inputsOf cs) (wiresOf cs) (unitRelation cs)
+  pub empty-told : emptyPattern (inputsOf cs) (wiresOf cs) (relationOf (relationIn cs)) ≡ emptyIn cs
   unfolding emptyPattern
   empty-told =
       lowest-cong (2 ^ inputsOf cs) (λ p. not (any (2 ^ wiresOf cs) (relationOf (relationIn cs) p))) (λ p. not (any (2 ^ wiresOf cs) (unitRelation cs p)))
@@ -130,14 +134,14 @@ module _ (cs : List Command) (s : Sound cs) where
       (λ p l. not-T (leb (2 ^ (2 ^ wiresOf cs)) (getD (relationIn cs .sets) p 0))
       (λ t. omega (arith, leb→le (2 ^ (2 ^ wiresOf cs)) (getD (relationIn cs .sets) p 0) t, entry-below p)))
 
-  pub refused-empty : emptyPattern (inputsOf cs) (wiresOf cs) (unitRelation cs) < 2 ^ inputsOf cs
-      → checkOf (relationIn cs) ≡ Refused (refusalAt empty (emptyPattern (inputsOf cs) (wiresOf cs) (unitRelation cs)))
+  pub refused-empty : emptyIn cs < 2 ^ inputsOf cs
+      → checkOf (relationIn cs) ≡ Refused (refusalAt empty (emptyIn cs))
   unfolding relationIn
   refused-empty l =
       check-none (relationIn cs) sizes-in (omega (arith, none-wide)) (subst (λ x. x < 2 ^ inputsOf cs) (sym empty-told) l)
       ∙ ap (λ p. Refused (refusalAt empty p)) empty-told
 
-  pub passes-whole : 2 ^ inputsOf cs ≤ emptyPattern (inputsOf cs) (wiresOf cs) (unitRelation cs) → checkOf (relationIn cs) ≡ WellFormed
+  pub passes-whole : 2 ^ inputsOf cs ≤ emptyIn cs → checkOf (relationIn cs) ≡ WellFormed
   unfolding relationIn
   passes-whole l = check-passed (relationIn cs) sizes-in (omega (arith, none-wide)) (subst (λ x. 2 ^ inputsOf cs ≤ x) (sym empty-told) l)
 

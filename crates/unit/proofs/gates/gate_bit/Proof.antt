@@ -30,7 +30,7 @@ returns c =
     let a = c .before .args in
     let p = c .before .pre in
     let e = bits-are (a .a) (a .b) (p .0) (p .1) in
-    gate-made (a .kind) (a .a) (a .b) (p .0) (p .1) (simp (c .match .keys1, e .0, e .1, e .2))
+    gate-made (a .kind) (a .a) (a .b) (p .0) (p .1) (simp (c .match .keys1, e .0))
 
 returns-2 : tie.Need-returns-2
 unfolding gateBit
@@ -38,7 +38,7 @@ returns-2 c =
     let a = c .before .args in
     let p = c .before .pre in
     let e = bits-are (a .a) (a .b) (p .0) (p .1) in
-    gate-made (a .kind) (a .a) (a .b) (p .0) (p .1) (simp (c .match .keys2, e .0, e .1, e .2))
+    gate-made (a .kind) (a .a) (a .b) (p .0) (p .1) (simp (c .match .keys2, e .1))
 
 returns-3 : tie.Need-returns-3
 unfolding gateBit
@@ -46,7 +46,7 @@ returns-3 c =
     let a = c .before .args in
     let p = c .before .pre in
     let e = bits-are (a .a) (a .b) (p .0) (p .1) in
-    gate-made (a .kind) (a .a) (a .b) (p .0) (p .1) (simp (c .match .keys3, e .0, e .1, e .2))
+    gate-made (a .kind) (a .a) (a .b) (p .0) (p .1) (simp (c .match .keys3, e .2))
 
 returns-4 : tie.Need-returns-4
 unfolding gateBit
@@ -54,7 +54,7 @@ returns-4 c =
     let a = c .before .args in
     let p = c .before .pre in
     let e = bits-are (a .a) (a .b) (p .0) (p .1) in
-    gate-made (a .kind) (a .a) (a .b) (p .0) (p .1) (simp (c .match .keys4, e .0, e .1, e .2))
+    gate-made (a .kind) (a .a) (a .b) (p .0) (p .1) (simp (c .match .keys4, e .0))
 
 returns-5 : tie.Need-returns-5
 unfolding gateBit
@@ -62,7 +62,7 @@ returns-5 c =
     let a = c .before .args in
     let p = c .before .pre in
     let e = bits-are (a .a) (a .b) (p .0) (p .1) in
-    gate-made (a .kind) (a .a) (a .b) (p .0) (p .1) (simp (c .match .keys5, e .0, e .1, e .2))
+    gate-made (a .kind) (a .a) (a .b) (p .0) (p .1) (simp (c .match .keys5, e .1))
 
 returns-6 : tie.Need-returns-6
 unfolding gateBit
@@ -72,7 +72,7 @@ returns-6 c =
     let e = bits-are (a .a) (a .b) (p .0) (p .1) in
     let r = c .match .rest in
     gate-made (a .kind) (a .a) (a .b) (p .0) (p .1)
-    (simp (ne-eqb _ _ (r .0 .0 .0 .0 .1), ne-eqb _ _ (r .0 .0 .0 .1), ne-eqb _ _ (r .0 .0 .1), ne-eqb _ _ (r .0 .1), ne-eqb _ _ (r .1), e .0, e .1, e .2))
+    (simp (ne-eqb _ _ (r .0 .0 .0 .0 .1), ne-eqb _ _ (r .0 .0 .0 .1), ne-eqb _ _ (r .0 .0 .1), ne-eqb _ _ (r .0 .1), ne-eqb _ _ (r .1), e .2))
 
 pub gate-bit-spec : {M : Type 1} → statement M
 gate-bit-spec =

@@ -4,7 +4,6 @@ use mathlib.Core.Path.{_≡_, sym, ap, subst, _∙_}
 use mathlib.Core.List.{List}
 use native.Mathlib.Omega.{arith}
 use lib.Bits.{bitAnd}
-use lib.Dec.{eqb}
 use lib.ListN.{getD}
 use Rattle.sheet.specs.declared.Sheet.{Sheet}
 use Rattle.sheet.specs.Commands.{inputsOf}
@@ -12,9 +11,8 @@ use Rattle.sheet.specs.Gathered.{maxPatterns, maxValues, rowMark}
 use Rattle.sheet.proofs.Fields.{inputs-field, pattern-room}
 use Rattle.unit.specs.Formed.{setOn}
 use Rattle.unit.specs.Parts.{Held, Codes}
-use Rattle.unit.proofs.Members.{told}
 use Rattle.unit.proofs.Placed.{held-sound}
-use Rattle.unit.proofs.Allowed.{set-unmarked, set-marked, value-below}
+use Rattle.unit.proofs.Allowed.{sameAs, set-unmarked, set-marked, value-below}
 use borrow.Author.Needs.{needs}
 use Rattle.unit.proofs.sets.set_on.Statement.{statement}
 use Rattle.unit.proofs.sets.set_on.Tie as tie
@@ -32,12 +30,12 @@ module _ {sheet : Sheet} (h : Held sheet) (p : ℕ) (l : p < 2 ^ sheet .n) where
       (set-unmarked (h .commands) (held-sound h) p inside)
 
   marked : (codes : List ℕ) → Codes (h .commands) codes → getD (sheet .marks) p 0 ≡ rowMark
-      → bitAnd (getD (sheet .limits) p 0) (told maxValues (λ v. eqb (getD codes v 0) (getD codes (getD (sheet .values) p 0) 0))) ≡ setOn (h .commands) p
+      → bitAnd (getD (sheet .limits) p 0) (sameAs codes (getD (sheet .values) p 0)) ≡ setOn (h .commands) p
   marked codes is =
       subst
       (λ (x : Sheet).
       getD (x .marks) p 0 ≡ rowMark
-      → bitAnd (getD (x .limits) p 0) (told maxValues (λ v. eqb (getD codes v 0) (getD codes (getD (x .values) p 0) 0))) ≡ setOn (h .commands) p)
+      → bitAnd (getD (x .limits) p 0) (sameAs codes (getD (x .values) p 0)) ≡ setOn (h .commands) p)
       (sym (h .gathers))
       (set-marked (h .commands) (held-sound h) p inside codes is)
 

@@ -1,0 +1,5 @@
+pub mod Stores
+pub mod Decimal
+pub mod Pairs
+pub mod Longest
+pub mod Rows

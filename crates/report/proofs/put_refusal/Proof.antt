@@ -1,0 +1,45 @@
+-- `put_refusal` meets its contract: two numbers, each after its name, and the end of the line.
+use native.Mathlib.Omega.{arith}
+use Rattle.report.specs.Lines.{refusalLine}
+use Rattle.report.proofs.Stores.{put-then}
+use borrow.Author.Needs.{needs}
+use Rattle.report.proofs.put_refusal.Statement.{statement}
+use Rattle.report.proofs.put_refusal.Tie as tie
+
+slice-aggregate-put-named : tie.Need-slice-aggregate-put-named
+slice-aggregate-put-named c = search needs
+
+put-named-requires : tie.Need-put-named-requires
+put-named-requires c κs = search needs
+
+slice-aggregate-put-named-2 : tie.Need-slice-aggregate-put-named-2
+slice-aggregate-put-named-2 c = search needs
+
+put-named-requires-2 : tie.Need-put-named-requires-2
+put-named-requires-2 c κs = search needs
+
+put-byte-requires : tie.Need-put-byte-requires
+put-byte-requires c κs = search needs
+
+same-length : tie.Need-same-length
+same-length c = search needs
+
+returns : tie.Need-returns
+unfolding refusalLine
+returns c =
+    let x = c .before .before .before .before .before .before .before .before .before .before .before .put-named .ensures in
+    let y = c .before .before .before .before .before .before .put-named2 .ensures in
+    let z = c .before .before .put-byte .ensures in
+    (put-then (put-then (x .0) (y .0)) z, omega (arith, x .1, y .1, z .past))
+
+pub put-refusal-spec : {M : Type 1} → statement M
+put-refusal-spec =
+    tie.close
+    (tie.spec
+    slice-aggregate-put-named
+    put-named-requires
+    slice-aggregate-put-named-2
+    put-named-requires-2
+    put-byte-requires
+    same-length
+    returns)

@@ -1,0 +1,81 @@
+-- `report` meets its contract: the lines by the mark of the reply.
+use native.Mathlib.Nat.{zero-add}
+use mathlib.Core.Path.{_∙_}
+use Rattle.report.specs.Lines.{countsOf, resultLines, linesWith, linesOf}
+use borrow.Author.Needs.{needs}
+use Rattle.report.proofs.report.Statement.{statement}
+use Rattle.report.proofs.report.Tie as tie
+
+enum-told : tie.Need-enum-told
+enum-told c = search needs
+
+slice-aggregate-put-result : tie.Need-slice-aggregate-put-result
+slice-aggregate-put-result c = search needs
+
+put-result-requires : tie.Need-put-result-requires
+put-result-requires c κs = search needs
+
+enum-told-2 : tie.Need-enum-told-2
+enum-told-2 c = search needs
+
+slice-aggregate-put-result-2 : tie.Need-slice-aggregate-put-result-2
+slice-aggregate-put-result-2 c = search needs
+
+put-result-requires-2 : tie.Need-put-result-requires-2
+put-result-requires-2 c κs = search needs
+
+enum-known-mark : tie.Need-enum-known-mark
+enum-known-mark c = search needs
+
+cast-put-refusal : tie.Need-cast-put-refusal
+cast-put-refusal c = search needs
+
+put-refusal-requires : tie.Need-put-refusal-requires
+put-refusal-requires c κs = search needs
+
+same-length : tie.Need-same-length
+same-length c = search needs
+
+returns : tie.Need-returns
+unfolding linesOf linesWith resultLines countsOf
+returns c =
+    let p = c .before .before .put-result .ensures in
+    rw (c .before .before .before .before .before .enum-told .given .1) (p .0 .past ∙ zero-add _, p .0 .stored, p .1)
+
+same-length-2 : tie.Need-same-length-2
+same-length-2 c = search needs
+
+returns-2 : tie.Need-returns-2
+unfolding linesOf linesWith resultLines countsOf
+returns-2 c =
+    let p = c .before .before .put-result2 .ensures in
+    rw (c .before .before .before .before .before .enum-told2 .given .1) (p .0 .past ∙ zero-add _, p .0 .stored, p .1)
+
+same-length-3 : tie.Need-same-length-3
+same-length-3 c = search needs
+
+returns-3 : tie.Need-returns-3
+unfolding linesOf linesWith
+returns-3 c =
+    let p = c .before .before .put-refusal .ensures in
+    rw (c .before .before .before .before .before .before .mark .given .1) (p .0 .past ∙ zero-add _, p .0 .stored, p .1)
+
+pub report-spec : {M : Type 1} → statement M
+report-spec =
+    tie.close
+    (tie.spec
+    enum-told
+    slice-aggregate-put-result
+    put-result-requires
+    enum-told-2
+    slice-aggregate-put-result-2
+    put-result-requires-2
+    enum-known-mark
+    cast-put-refusal
+    put-refusal-requires
+    same-length
+    returns
+    same-length-2
+    returns-2
+    same-length-3
+    returns-3)
