@@ -5,10 +5,10 @@ use mathlib.Core.Logic.{⊎-elim}
 use mathlib.Core.Bool.{cond}
 use mathlib.Core.List.{List, [], _∷_, _++_}
 use native.Mathlib.Omega.{arith}
-use native.Mathlib.Nat.{not-suc-le-zero}
+use native.Mathlib.Nat.{not-suc-le-zero, add-zero, add-suc, suc-add}
 use lib.Dec.{T, T-not, eqb, eqb→eq, ltb, ltb→lt, nltb→le}
 use lib.ListN.{length, getD, set, take, List·getD-append, List·getD-eq-default, length-append, length-set, length-take}
-use lib.Seq.{getD-at, getD-set-same, getD-set-other, getD-take, ext-getD}
+use lib.Seq.{sets, getD-at, getD-set-same, getD-set-other, getD-take, ext-getD}
 use Rattle.base.specs.Rows.{row}
 use Rattle.base.proofs.Tests.{decide, below-suc, eq-test, test-yes, test-no}
 
@@ -74,3 +74,10 @@ take-entry k l p =
     ⊎-elim (λ (h : T (ltb p k)). rw (test-yes (ltb p k) h) (getD-take k l p 0 (ltb→lt p k h)))
     (λ h. let b = nltb→le p k h in rw (test-no (ltb p k) h) (List·getD-eq-default (take k l) 0 (omega (arith, length-take k l))))
     (decide (ltb p k))
+
+-- two texts stored one after the other
+pub sets-append : (l : List ℕ) (i : ℕ) (a b : List ℕ) → sets l i (a ++ b) ≡ sets (sets l i a) (i + length a) b
+sets-append l i [] b = rw (add-zero i)
+sets-append l i (x ∷ a) b =
+    let e : suc i + length a ≡ i + suc (length a) = omega arith in
+    sets-append (set l i x) (suc i) a b ∙ ap (λ (j : ℕ). sets (sets (set l i x) (suc i) a) j b) e

@@ -1,4 +1,5 @@
 // The sets of all sixteen patterns (input vertices) together.
+// Inner functions: the search and the audit meet what they require, wires below 4, bits below 2 and patterns below 16.
 ghost use mathlib.Core.Path.{_≡_};
 ghost use Prim.Native.Nat.{_<_, _≤_, _^_};
 ghost use Rattle.table.specs.Bits.{bit};

@@ -1,4 +1,5 @@
 // Sets of wire values (output vertices) as numbers: bit v is value v, and wire j is bit j of a value.
+// Inner functions: the search and the audit meet what they require, wires below 4, bits below 2 and patterns below 16.
 ghost use mathlib.Core.Path.{_≡_};
 ghost use Prim.Native.Nat.{_<_};
 ghost use Rattle.relation.specs.Tests.{occurs, free};

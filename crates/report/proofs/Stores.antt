@@ -1,4 +1,5 @@
 -- Laws of text put into a buffer: one text after another.
+use Rattle.base.proofs.Rows.{sets-append}
 use Prim.Native.Nat.{ℕ, suc, _+_, _≤_}
 use mathlib.Core.Path.{_≡_, refl, sym, ap, _∙_}
 use mathlib.Core.List.{List, [], _∷_, _++_}
@@ -7,13 +8,6 @@ use native.Mathlib.Nat.{add-zero}
 use lib.ListN.{length, set, take, drop, length-append}
 use lib.Seq.{sets, sets-eq, take-at}
 use Rattle.report.specs.Put.{Put}
-
--- a run of stores after a run of stores
-sets-append : (l : List ℕ) (i : ℕ) (a b : List ℕ) → sets l i (a ++ b) ≡ sets (sets l i a) (i + length a) b
-sets-append l i [] b = rw (add-zero i)
-sets-append l i (x ∷ a) b =
-    let e : suc i + length a ≡ i + suc (length a) = omega arith in
-    sets-append (set l i x) (suc i) a b ∙ ap (λ (j : ℕ). sets (sets (set l i x) (suc i) a) j b) e
 
 -- no text
 pub put-none : {l : List ℕ} {at : ℕ} → Put l at [] l at

@@ -11,6 +11,7 @@ use lib.Dec.{eqb, nleb→lt}
 use lib.ListN.{length, getD, set, take, drop, length-append, drop-of-length-le}
 use lib.Seq.{sets, sets-eq, drop-cons, getD-take, length-take-le}
 use borrow.Author.Tests.{eq-eqb, ne-eqb}
+use Rattle.base.proofs.Rows.{sets-append}
 use Rattle.base.specs.declared.Refusal.{Refusal}
 use Rattle.base.proofs.Tests.{decide}
 use Rattle.base.proofs.Lowest.{lowest-below}
@@ -19,13 +20,6 @@ use Rattle.table.specs.Tree.{Tree, sel, reduced}
 use Rattle.stage.specs.Bytes.{treeBytes, wireBytes, stageBytes}
 use Rattle.stage.specs.Written.{stageTrees, wireOf, wiresOf, stageOf, tableOut, firstOut, writtenOf, bufferAfter}
 use Rattle.stage.specs.declared.writer.Written.the-variants.{Length, Refused}
-
--- a run of stores after a run of stores
-pub sets-append : (l : List ℕ) (i : ℕ) (a b : List ℕ) → sets l i (a ++ b) ≡ sets (sets l i a) (i + length a) b
-sets-append l i [] b = rw (add-zero i)
-sets-append l i (x ∷ a) b =
-    let e : suc i + length a ≡ i + suc (length a) = omega arith in
-    sets-append (set l i x) (suc i) a b ∙ ap (λ (j : ℕ). sets (sets (set l i x) (suc i) a) j b) e
 
 -- the reduced tree of a table of w inputs by the table's halves
 abbrev split : Tree → Tree → ℕ → ℕ → ℕ → Tree
