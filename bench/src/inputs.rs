@@ -1,0 +1,53 @@
+//! The relations and sheets that are timed, drawn from a fixed seed.
+
+use trials::draw::relations::thin;
+use trials::draw::sheets::{draft_of, Draft};
+use trials::random::Random;
+use trials::sheet::all_values;
+
+/// Draws the sets of a relation of n inputs and m wires.
+type Draw = fn(&mut Random, u8, u8) -> [u16; 16];
+
+pub const FAMILIES: [(&str, Draw); 5] = [
+    ("random 1/4", |rng, n, m| random(rng, n, m, 4)),
+    ("random 1/2", |rng, n, m| random(rng, n, m, 8)),
+    ("random 3/4", |rng, n, m| random(rng, n, m, 12)),
+    ("units", |rng, n, m| unit(rng, n, m).sets()),
+    ("parity", parity),
+];
+
+/// Each value with density/16; an empty set is drawn again.
+fn random(rng: &mut Random, n: u8, m: u8, density: usize) -> [u16; 16] {
+    let mut sets = [0; 16];
+    for set in sets.iter_mut().take(1 << n) {
+        while *set == 0 {
+            *set = thin(rng, density) & all_values(m.into());
+        }
+    }
+    sets
+}
+
+/// A unit, drawn as the sheets of the trials are, that is not refused.
+fn unit(rng: &mut Random, n: u8, m: u8) -> Draft {
+    loop {
+        let draft = draft_of(rng, n, m);
+        if draft.sets()[..1 << n].iter().all(|&set| set != 0) {
+            return draft;
+        }
+    }
+}
+
+/// The second stage is the parity of the wires: all even values or all odd ones.
+fn parity(rng: &mut Random, n: u8, m: u8) -> [u16; 16] {
+    const EVEN: u16 = 0x9669;
+    let mut sets = [0; 16];
+    for set in sets.iter_mut().take(1 << n) {
+        *set = rng.of(&[EVEN, !EVEN]) & all_values(m.into());
+    }
+    sets
+}
+
+/// The bytes of a unit's sheet.
+pub fn sheet(rng: &mut Random, n: u8, m: u8) -> Vec<u8> {
+    unit(rng, n, m).sheet(rng)
+}

@@ -1,0 +1,78 @@
+//! The library's calls through the C boundary, as `include/dagmetzi.h` declares them.
+
+/// The calls as C sees them: a slice is a pointer and a length.
+mod c {
+    extern "C" {
+        pub fn dagmetzi_quote(
+            sheet: *const u8,
+            sheet_length: usize,
+            budget: u32,
+            buffer: *mut u8,
+            buffer_length: usize,
+            reply: *mut u64,
+        ) -> u32;
+
+        pub fn dagmetzi_audit(
+            sheet: *const u8,
+            sheet_length: usize,
+            stage: *const u8,
+            stage_length: usize,
+            reply: *mut u64,
+        ) -> u32;
+
+        pub fn dagmetzi_search(n: u8, m: u8, sets: *const u16, budget: u32, tables: *mut u16, reply: *mut u64) -> u32;
+    }
+}
+
+/// Outcomes of a search and of a quote, of an audit, and of a refusal.
+pub const BEST: u64 = 0;
+pub const STOPPED: u64 = 1;
+pub const FITS: u64 = 0;
+pub const DIFFERS: u64 = 1;
+pub const REFUSED: u64 = 2;
+pub const STAGE_REFUSED: u64 = 3;
+
+/// What replies are filled with before a call, so that a number left unwritten is seen.
+const FILL: u64 = 0xEEEE_EEEE_EEEE_EEEE;
+
+/// What a call returns, and the six numbers of its reply.
+#[derive(Clone, Copy, PartialEq, Eq, Debug)]
+pub struct Told {
+    pub refusal: u32,
+    pub outcome: u64,
+    pub cells: u64,
+    pub floor: u64,
+    pub visits: u64,
+    pub length: u64,
+    pub place: u64,
+}
+
+fn told(refusal: u32, reply: [u64; 6]) -> Told {
+    let [outcome, cells, floor, visits, length, place] = reply;
+    Told { refusal, outcome, cells, floor, visits, length, place }
+}
+
+pub fn quote(sheet: &[u8], budget: u32, buffer: &mut [u8]) -> Told {
+    let mut reply = [FILL; 6];
+    // SAFETY: a slice is never null, what is written is borrowed apart from the rest, and a reply has six numbers.
+    let refusal = unsafe {
+        c::dagmetzi_quote(sheet.as_ptr(), sheet.len(), budget, buffer.as_mut_ptr(), buffer.len(), reply.as_mut_ptr())
+    };
+    told(refusal, reply)
+}
+
+pub fn audit(sheet: &[u8], stage: &[u8]) -> Told {
+    let mut reply = [FILL; 6];
+    // SAFETY: as above.
+    let refusal =
+        unsafe { c::dagmetzi_audit(sheet.as_ptr(), sheet.len(), stage.as_ptr(), stage.len(), reply.as_mut_ptr()) };
+    told(refusal, reply)
+}
+
+pub fn search(n: u8, m: u8, sets: &[u16; 16], budget: u32) -> (Told, [u16; 4]) {
+    let mut reply = [FILL; 6];
+    let mut tables = [0xEEEE; 4];
+    // SAFETY: as above; there are 16 sets and 4 tables.
+    let refusal = unsafe { c::dagmetzi_search(n, m, sets.as_ptr(), budget, tables.as_mut_ptr(), reply.as_mut_ptr()) };
+    (told(refusal, reply), tables)
+}

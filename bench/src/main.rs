@@ -1,0 +1,63 @@
+//! Prints the library's times beside those of the tuned Rust search, on the same relations in the same run.
+
+mod clock;
+mod inputs;
+mod rows;
+mod timing;
+
+use inputs::{sheet, FAMILIES};
+use rows::{Quotes, Searches, BUDGET};
+use trials::random::Random;
+
+const SIZES: [(u8, u8); 4] = [(2, 2), (3, 3), (4, 3), (4, 4)];
+
+/// How many relations or sheets a row has.
+const COUNT: usize = 100;
+const ROUNDS: usize = 25;
+
+fn header() {
+    println!("The library, through the C boundary, beside the tuned Rust search: release builds, the same relations,");
+    println!("the same run, thread CPU time, the least of {ROUNDS} rounds; {COUNT} relations or sheets to a row.");
+    println!("Buffers were warm: each relation was searched once by both before timing, and the replies agreed.");
+    println!("The library tests each relation that it is handed; the Rust search does not. Budget {BUDGET}.");
+    println!("The ratio is the library's time over Rust's.");
+}
+
+fn print_searches(searches: &[Searches]) {
+    println!("\nSearches. A visit: what a search takes longer than with budget 0, over its visits.");
+    println!("                                        us a search                 ns a visit");
+    println!("size   relations     visits    library      Rust  ratio    library      Rust  ratio");
+    for row in searches {
+        println!("{}", row.line());
+    }
+}
+
+fn print_quotes(quotes: &[Quotes]) {
+    println!("\nQuotes of the units' sheets. On Rust's side the tuned search stands between the reader and the writer");
+    println!("of the trials, which are not tuned.");
+    println!("                         us a sheet");
+    println!("size       bytes    library      Rust  ratio");
+    for row in quotes {
+        println!("{}", row.line());
+    }
+}
+
+/// A round goes through all rows. So the rounds of a row are spread over the run, and where something else slows the
+/// machine for a while, the row has others.
+fn main() {
+    let mut rng = Random::new(20_131_111);
+    let (mut searches, mut quotes) = (Vec::new(), Vec::new());
+    for (n, m) in SIZES {
+        for (name, draw) in FAMILIES {
+            searches.push(Searches::new(name, (n, m), (0..COUNT).map(|_| draw(&mut rng, n, m)).collect()));
+        }
+        quotes.push(Quotes::new((n, m), (0..COUNT).map(|_| sheet(&mut rng, n, m)).collect()));
+    }
+    for _ in 0..ROUNDS {
+        searches.iter_mut().for_each(Searches::round);
+        quotes.iter_mut().for_each(Quotes::round);
+    }
+    header();
+    print_searches(&searches);
+    print_quotes(&quotes);
+}

@@ -1,0 +1,95 @@
+//! The rows of the tables: what is timed together. Each reply is compared once, before the timing.
+
+use crate::timing::{columns, Timing};
+use trials::{fast, relation, stage};
+
+/// The budget of the program.
+pub const BUDGET: u32 = 10_000;
+/// A row with fewer visits a search than this tells nothing of the time of a visit.
+const FEW: f64 = 2.0;
+
+/// Searches of relations of n inputs and m wires, at the budget and at budget 0.
+pub struct Searches {
+    name: &'static str,
+    n: u8,
+    m: u8,
+    drawn: Vec<[u16; 16]>,
+    visits: u64,
+    whole: Timing,
+    start: Timing,
+}
+
+impl Searches {
+    pub fn new(name: &'static str, (n, m): (u8, u8), drawn: Vec<[u16; 16]>) -> Searches {
+        let visits = drawn.iter().map(|sets| compared_search(n, m, sets)).sum();
+        Searches { name, n, m, drawn, visits, whole: Timing::new(), start: Timing::new() }
+    }
+
+    pub fn round(&mut self) {
+        let (n, m) = (self.n, self.m);
+        for (timing, budget) in [(&mut self.whole, BUDGET), (&mut self.start, 0)] {
+            timing.round(
+                &self.drawn,
+                |sets| bench::search(n, m, sets, budget).0.visits,
+                |sets| fast::search(n.into(), sets, budget).visits.into(),
+            );
+        }
+    }
+
+    pub fn line(&self) -> String {
+        let visits = self.visits as f64 / self.drawn.len() as f64;
+        let a_visit = [0, 1].map(|side| (self.whole.least[side] - self.start.least[side]) / visits);
+        let last = if visits < FEW { String::new() } else { columns(a_visit, 1.0) };
+        let first = columns(self.whole.least, 1e3);
+        format!("({},{})  {:10} {visits:9.1}  {first}  {last}", self.n, self.m, self.name).trim_end().to_string()
+    }
+}
+
+/// The visits of a search by both.
+fn compared_search(n: u8, m: u8, sets: &[u16; 16]) -> u64 {
+    let (told, tables) = bench::search(n, m, sets, BUDGET);
+    let a = fast::search(n.into(), sets, BUDGET);
+    let same = (told.refusal, told.cells, told.floor, told.visits, told.outcome)
+        == (0, a.cells.into(), a.floor.into(), a.visits.into(), a.stopped.into());
+    assert!(same && tables == a.tables, "the two searches differ on {n} {m} {sets:?}");
+    told.visits
+}
+
+/// Quotes of sheets of n inputs and m wires.
+pub struct Quotes {
+    size: (u8, u8),
+    drawn: Vec<Vec<u8>>,
+    whole: Timing,
+}
+
+impl Quotes {
+    pub fn new(size: (u8, u8), drawn: Vec<Vec<u8>>) -> Quotes {
+        for sheet in &drawn {
+            let (mut ours, mut theirs) = ([0; 196], [0; 196]);
+            let lengths = (bench::quote(sheet, BUDGET, &mut ours).length, rust_quote(sheet, &mut theirs));
+            assert!(lengths.0 == lengths.1 && ours == theirs, "the two quotes differ on {sheet:?}");
+        }
+        Quotes { size, drawn, whole: Timing::new() }
+    }
+
+    pub fn round(&mut self) {
+        self.whole.round(
+            &self.drawn,
+            |sheet| bench::quote(sheet, BUDGET, &mut [0; 196]).length,
+            |sheet| rust_quote(sheet, &mut [0; 196]),
+        );
+    }
+
+    pub fn line(&self) -> String {
+        let bytes = self.drawn.iter().map(Vec::len).sum::<usize>() as f64 / self.drawn.len() as f64;
+        format!("({},{})  {bytes:9.1}  {}", self.size.0, self.size.1, columns(self.whole.least, 1e3))
+    }
+}
+
+/// The reader, relation and writer of the trials about the tuned search: the length written.
+fn rust_quote(sheet: &[u8], buffer: &mut [u8]) -> u64 {
+    let unit = trials::sheet::read(sheet).expect("drawn to be read");
+    let r = relation::of_unit(&unit).expect("drawn to be well defined");
+    let answer = fast::search(r.n, &r.sets, BUDGET);
+    stage::write(r.n as u8, r.m as u8, &answer.tables, buffer).expect("long enough") as u64
+}

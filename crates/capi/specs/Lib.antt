@@ -1,0 +1,2 @@
+-- What the exported calls tell: a refusal's number, and six numbers.
+pub mod Told

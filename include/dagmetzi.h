@@ -1,0 +1,84 @@
+/* Dagmetzi: the smallest first stage of a two-stage converter.
+ *
+ * Each call returns 0, or the number of its refusal (document 01, "Refusals"), and leaves DAGMETZI_NUMBERS numbers in
+ * `reply`. A refused call leaves `buffer` as it was, and 0 for the cells, the floor, the visits and the length.
+ *
+ * What a caller owes: no pointer is null, not even beside a length of 0, and each is aligned for what it points to. All
+ * that is lent can be read, and `buffer`, `tables` and `reply` can be written. These three share no byte with each
+ * other or with the rest of what is lent, and nothing else reads or writes them, or writes the rest, until the call
+ * returns. Any bytes, sizes, sets and budgets are taken. Nothing is kept between calls, so threads may call at once.
+ *
+ * The archive is for x86-64 Linux.
+ */
+#ifndef DAGMETZI_H
+#define DAGMETZI_H
+
+#include <stddef.h>
+#include <stdint.h>
+
+#ifdef __cplusplus
+extern "C" {
+#endif
+
+/* The numbers of a reply, by index. */
+enum {
+    DAGMETZI_OUTCOME = 0, /* one of the outcomes below */
+    DAGMETZI_CELLS = 1,   /* cells of the stage: found, written, or audited */
+    DAGMETZI_FLOOR = 2,   /* no stage has fewer cells than this; 0 in an audit */
+    DAGMETZI_VISITS = 3,  /* parts expanded by the search, at most the budget; 0 in an audit */
+    DAGMETZI_LENGTH = 4,  /* bytes written at the start of `buffer`; 0 in a search and in an audit */
+    DAGMETZI_PLACE = 5,   /* the place that a refusal names */
+    DAGMETZI_NUMBERS = 6
+};
+
+/* The outcomes. */
+enum {
+    DAGMETZI_BEST = 0,         /* search, quote: no stage has fewer cells */
+    DAGMETZI_STOPPED = 1,      /* search, quote: the budget was used up first */
+    DAGMETZI_FITS = 0,         /* audit: the stage keeps to the sheet */
+    DAGMETZI_DIFFERS = 1,      /* audit: on some pattern it does not */
+    DAGMETZI_REFUSED = 2,      /* the sheet, the relation or the buffer is refused */
+    DAGMETZI_STAGE_REFUSED = 3 /* audit: the stage is refused */
+};
+
+/* The refusals. Unless said, the place is the first byte of the command. */
+enum {
+    DAGMETZI_CUT_SHORT = 1,      /* the bytes end inside a command, or where one is due */
+    DAGMETZI_UNKNOWN = 2,        /* no command begins with this byte */
+    DAGMETZI_OUT_OF_RANGE = 3,   /* an operand; of a relation: its sizes (place 0), or a set (place: the pattern) */
+    DAGMETZI_TRAILING = 4,       /* bytes after the end; place: the first of them */
+    DAGMETZI_OUT_OF_TURN = 5,    /* a command, or a stage's wire, where another is due */
+    DAGMETZI_NO_SIGNAL = 6,      /* a signal that is not made yet */
+    DAGMETZI_REPEATED = 7,       /* the pattern has a value already, or is impossible already */
+    DAGMETZI_TOO_MANY = 8,       /* the 33rd gate or the 9th output */
+    DAGMETZI_MISSING_ROW = 9,    /* a pattern with no value that is not impossible; place: the lowest */
+    DAGMETZI_EMPTY = 10,         /* no value is left for a pattern; place: the lowest */
+    DAGMETZI_NOT_ASCENDING = 11, /* a selector input that is not above its parent's */
+    DAGMETZI_SHORT_BUFFER = 12,  /* the buffer is shorter than the stage; place: the length needed */
+    DAGMETZI_SIZES_DIFFER = 13   /* audit: the stage has another n or m than the sheet; place 0 */
+};
+
+/* No stage has more bytes than this: a buffer of this length is never too short. */
+#define DAGMETZI_LONGEST_STAGE 196
+
+/* The smallest stage of a unit sheet, or the best found under the budget, written at the start of `buffer`; later bytes
+ * stay. */
+uint32_t dagmetzi_quote(const uint8_t *sheet, size_t sheet_length, uint32_t budget, uint8_t *buffer,
+                        size_t buffer_length, uint64_t reply[DAGMETZI_NUMBERS]);
+
+/* Whether a stage keeps to a unit sheet, and its cells. The sheet is judged before the stage. */
+uint32_t dagmetzi_audit(const uint8_t *sheet, size_t sheet_length, const uint8_t *stage, size_t stage_length,
+                        uint64_t reply[DAGMETZI_NUMBERS]);
+
+/* The smallest stage of a relation of n inputs and m wires (1 to 4 each), or the best found under the budget. Bit v of
+ * sets[p] says that the wires may have value v on pattern p; the sets from 2 to the power n up are not read. `tables`
+ * is given a table for each wire, and 0 past the last: bit p of a table is the wire on pattern p. On a refusal all four
+ * are 0. */
+uint32_t dagmetzi_search(uint8_t n, uint8_t m, const uint16_t sets[16], uint32_t budget, uint16_t tables[4],
+                         uint64_t reply[DAGMETZI_NUMBERS]);
+
+#ifdef __cplusplus
+}
+#endif
+
+#endif
