@@ -1,9 +1,9 @@
 -- The entry: a relation that passes its test is searched as it stands, and the answer is the reply of document 01.
-use Prim.Native.Nat.{ℕ, _^_, _≤_}
-use mathlib.Core.Path.{_≡_, refl, sym, ap, ap₂, subst, _∙_}
+use Prim.Native.Nat.{ℕ, _≤_}
+use mathlib.Core.Path.{_≡_, refl, ap, subst, _∙_}
 use mathlib.Core.Bool.{true, false}
-use mathlib.Core.List.{List}
-use lib.ListN.{length, getD, take}
+use mathlib.Core.List.{List, [], _∷_}
+use lib.ListN.{length}
 use Rattle.base.specs.declared.Refusal.{Refusal}
 use Rattle.relation.specs.declared.Relation.{Relation}
 use Rattle.relation.specs.declared.Checked.the-variants.{WellFormed, Refused as Turned}
@@ -19,13 +19,23 @@ use Rattle.search.specs.declared.Answer.{Answer}
 use Rattle.search.specs.Search.{floor, start, searchPart, run}
 use Rattle.search.specs.TreeBoard.{tree}
 use Rattle.search.specs.Reply.{markOf, answerOf, refusedWith, afterCheck, searchOf}
-use Rattle.search.specs.Kept.{Sized, Sets}
+use Rattle.search.specs.Kept.{Sized, Sets, Held, Kept, stateOf}
+
+-- the whole relation as the search holds it
+pub held-whole : (w : Part) {n m : ℕ} {sets : List ℕ} → Kept w → w .n ≡ n → w .m ≡ m → w .sets ≡ sets → Held n m sets (w .zeros) (w .ones) (w .ranks)
+held-whole w {n} {m} {sets} k en em es =
+    subst (λ x. Held x m sets (w .zeros) (w .ones) (w .ranks)) en
+    (subst (λ x. Held (w .n) x sets (w .zeros) (w .ones) (w .ranks)) em (subst (λ x. Held (w .n) (w .m) x (w .zeros) (w .ones) (w .ranks)) es k))
 
 -- what the parts of the run make together
-pub ran : (n m budget : ℕ) (sets : List ℕ) (w : Part) (st s : State) → w .n ≡ n → w .m ≡ m → w .sets ≡ sets → st ≡ start (tree n m) (ofSets sets)
-    → s ≡ searchPart (tree (w .n) (w .m)) budget (ofSets (w .sets)) st → s ≡ run (tree n m) budget (ofSets sets)
+started : (n m : ℕ) (R : Rel) (st : State) → st ≡ start (tree n m) R → stateOf (st .tables) (st .cells ∷ 0 ∷ 0 ∷ []) ≡ start (tree n m) R
+unfolding start
+started n m R st e = rw e refl
+
+pub ran : (n m budget : ℕ) (R : Rel) (st s : State) → st ≡ start (tree n m) R → s ≡ searchPart (tree n m) budget R (stateOf (st .tables) (st .cells ∷ 0 ∷ 0 ∷ []))
+    → s ≡ run (tree n m) budget R
 unfolding run
-ran n m budget sets w st s en em es est e = cc
+ran n m budget R st s est e = e ∙ ap (searchPart (tree n m) budget R) (started n m R st est)
 
 pub stopped-answer : (n m : ℕ) (R : Rel) (s t : State) (f : ℕ) → s ≡ t → s .stopped ≡ true → f ≡ floor (tree n m) R
     → _≡_ {A = Answer} (record { tables = s .tables; cells = s .cells; floor = f; visits = s .visits; mark = Stopped }) (answerOf n m R t)

@@ -5,5 +5,7 @@ pub mod Families
 pub mod Keeping
 pub mod Opening
 pub mod Steps
+pub mod Branching
+pub mod Changes
 pub mod FirstAnswer
 pub mod Entry

@@ -1,8 +1,8 @@
 -- The pair to split at: what the nested loops find is the lowest pattern in conflict and its lowest open wire.
-use Prim.Native.Nat.{ℕ, zero, suc, _^_, _<_, _≤_}
-use mathlib.Core.Path.{_≡_, refl, sym, ap, ap₂, subst, _∙_}
-use mathlib.Core.Logic.{_⊎_, inl, inr, ⊎-elim}
-use mathlib.Core.Bool.{Bool, true, false, cond, not}
+use Prim.Native.Nat.{ℕ, _^_, _<_, _≤_}
+use mathlib.Core.Path.{_≡_, refl, sym, ap, ap₂, _∙_}
+use mathlib.Core.Logic.{_⊎_, ⊎-elim}
+use mathlib.Core.Bool.{Bool, false, cond, not}
 use mathlib.Core.List.{List}
 use native.Mathlib.Omega.{arith}
 use lib.Dec.{T, T-not, not-T, ltb, nltb→le, ltb→lt}
@@ -10,19 +10,18 @@ use lib.ListN.{getD, List·getD-eq-default}
 use Rattle.base.specs.Sizes.{maxWires}
 use Rattle.base.specs.Lowest.{lowest}
 use Rattle.base.proofs.Tests.{cond-has, decide, test-yes, test-no}
-use Rattle.base.proofs.Lowest.{lowest-at}
-use Rattle.table.specs.Bits.{bit, row}
+use Rattle.base.proofs.Lowest.{lowest-at, lowest-below}
+use Rattle.table.specs.Bits.{row}
 use Rattle.table.proofs.Bits.{row-at, row-length}
 use Rattle.relation.specs.Source.{Rel, Tables, value}
 use Rattle.relation.specs.Tests.{ofSets, wires, free, freeWire, fits, compatible, conflict}
 use Rattle.relation.specs.Masks.{member}
 use Rattle.relation.proofs.Decide.{compatible-at, compatible-test, conflict-is, freeWire-is}
 use Rattle.relation.proofs.Sets.{member-sets, free-four, value-four}
-use Rattle.search.specs.declared.Open.{Open}
 use Rattle.search.specs.declared.Open.the-variants.{Pair, Closed}
 use Rattle.search.specs.Search.{tablesOf, pick, picks}
 use Rattle.search.specs.TreeBoard.{tree}
-use Rattle.search.specs.Kept.{Sized, Sets, openOf}
+use Rattle.search.specs.Kept.{Sized, Sets, Settled, openOf}
 use Rattle.search.proofs.Picks.{wires-tables, pick-fits}
 
 -- a reply's tables past the last wire are 0
@@ -98,6 +97,16 @@ module _ (n m : ℕ) (sz : Sized n m) (sets : List ℕ) (ok : Sets n m sets) (ta
       let w = freeWire-is n m R (wires tables) (ok .defined)
       (λ j l. rw (are, wires-tables n m (sz .wires) (pick (tree n m) R) j l) (pick-fits (tree n m) R (ok .defined) j)) p (at .0) (at .1) in
       let v = rw (told .2) at w in (at .0, v .0, v .1)
+
+  -- and below it nothing is in conflict
+  pub found-below : (p j : ℕ) → openOf n m (ofSets sets) (wires tables) ≡ Pair p j → p < 2 ^ n → Settled m sets tables p
+  unfolding conflict
+  found-below p j e lp q l =
+      let R = ofSets sets in
+      let told = pair-told n m R (wires tables) p j e in
+      ⊎-elim (λ t. t)
+      (λ t. absurd (omega (arith, told .1, lowest-below (2 ^ n) (λ p. not (R p (value m (wires tables) p))) q (omega arith) t)))
+      (decide (R q (value m (wires tables) q)))
 
   pub found-closed : openOf n m (ofSets sets) (wires tables) ≡ Closed → T (compatible n m (ofSets sets) (wires tables))
   unfolding openOf

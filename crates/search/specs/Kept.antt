@@ -2,16 +2,18 @@
 use Prim.Native.Nat.{ℕ, _^_, _/_, _%_, _<_, _≤_}
 use mathlib.Core.Path.{_≡_}
 use mathlib.Core.Bool.{cond}
+use lib.Dec.{T, eqb}
 use mathlib.Core.List.{List}
 use lib.ListN.{length, getD}
 use Rattle.base.specs.Sizes.{maxInputs, maxWires}
 use Rattle.table.specs.Bits.{bit, sum, row}
 use Rattle.table.specs.Pick.{pickOf, rank, tableSpace}
 use Rattle.table.specs.Blocks.{Covered}
-use Rattle.relation.specs.Source.{Rel, Tables, WellDefined}
-use Rattle.relation.specs.Tests.{ofSets, occurs, compatible, conflict, freeWire}
+use Rattle.relation.specs.Source.{Rel, Tables, WellDefined, value}
+use Rattle.relation.specs.Tests.{ofSets, wires, occurs, compatible, conflict, freeWire}
 use Rattle.relation.specs.Masks.{member, maskOf, cut}
 use Rattle.search.specs.declared.Part.{Part}
+use Rattle.search.specs.declared.State.{State}
 use Rattle.search.specs.declared.Open.{Open}
 use Rattle.search.specs.declared.Open.the-variants.{Pair, Closed}
 
@@ -35,12 +37,27 @@ masksOf sets b = row maxWires (λ j. maskOf sets j b)
 unfoldable pub ranksOf : ℕ → List ℕ → List ℕ
 ranksOf n sets = row maxWires (λ j. rank n (pickOf n (maskOf sets j 0) (maskOf sets j 1)))
 
-pub record Kept (part : Part) : Type 0 where
-  pub sized : Sized (part .n) (part .m)
-  pub sets : Sets (part .n) (part .m) (part .sets)
-  pub zeros : part .zeros ≡ masksOf (part .sets) 0
-  pub ones : part .ones ≡ masksOf (part .sets) 1
-  pub ranks : part .ranks ≡ ranksOf (part .n) (part .sets)
+pub record Held (n m : ℕ) (s z o r : List ℕ) : Type 0 where
+  pub sized : Sized n m
+  pub sets : Sets n m s
+  pub zeros : z ≡ masksOf s 0
+  pub ones : o ≡ masksOf s 1
+  pub ranks : r ≡ ranksOf n s
+
+abbrev pub Kept : Part → Type 0
+Kept part = Held (part .n) (part .m) (part .sets) (part .zeros) (part .ones) (part .ranks)
+
+-- the tables' values are allowed on the patterns below k
+abbrev pub Settled : ℕ → List ℕ → List ℕ → ℕ → Type 0
+Settled m sets tables k = (q : ℕ) → q < k → T (ofSets sets q (value m (wires tables) q))
+
+-- what the search lends as a state: the best tables so far; the best cells so far, the visits charged, and 1 once a part was left
+abbrev pub stateOf : List ℕ → List ℕ → State
+stateOf best tally = record { tables = best; cells = getD tally 0 0; visits = getD tally 1 0; stopped = eqb (getD tally 2 0) 1 }
+
+-- the tables of two lists of ranks have the same bits on the patterns below k
+abbrev pub AlikeBelow : List ℕ → List ℕ → ℕ → Type 0
+AlikeBelow before ranks k = (j q : ℕ) → j < maxWires → q < k → bit (getD before j 0 % tableSpace) q ≡ bit (getD ranks j 0 % tableSpace) q
 
 -- the tables and the cells of four ranks
 unfoldable pub tablesIn : List ℕ → List ℕ

@@ -1,74 +1,94 @@
 // Visiting a part and splitting a part, which call on each other. Each split closes an open pair of pattern and wire.
+// The sets are lent down: a split narrows the set of its pattern and puts it back, so that no part is copied. Lent too are the best tables so far and
+// the tally: the best cells so far, the visits charged, and 1 once a part was left.
 use crate::Open;
-use crate::Part;
-use crate::State;
 use crate::conflicts::first_open;
-use crate::parts::part_with;
+use crate::parts::cut_masks;
+use crate::parts::ranks_again;
+use crate::ranks::first_change;
 use crate::ranks::floor_of;
 use crate::ranks::tables_of;
+use relation::values::with_bit;
 ghost use mathlib.Core.Path.{_≡_};
-ghost use Prim.Native.Nat.{_+_, _<_, _^_};
+ghost use Prim.Native.Nat.{_<_, _≤_, _^_};
 ghost use lib.Dec.{T};
+ghost use lib.ListN.{length};
 ghost use Rattle.table.specs.Blocks.{Blocks};
 ghost use Rattle.relation.specs.Tests.{ofSets, free};
-ghost use Rattle.search.specs.Search.{halted, charged, split as splitOf, searchPart};
+ghost use Rattle.search.specs.Search.{split as splitOf, searchPart};
 ghost use Rattle.search.specs.TreeBoard.{tree};
-ghost use Rattle.search.specs.Kept.{Kept};
+ghost use Rattle.search.specs.Kept.{Held, Settled, cellsIn, tablesIn, stateOf};
 
-// A part is left.
-fn stop(s: State) -> State
-    ensures { λ r. ⌜ r ≡ halted s ⌝ }
+// Steps 1 to 4 of the search for one part. Its picks are allowed on the patterns below `from`.
+pub fn visit(
+    e: &[u16; 256],
+    sets: &mut [u16; 16],
+    best: &mut [u16; 4],
+    tally: &mut [u32; 3],
+    n: u8,
+    m: u8,
+    zeros: [u16; 4],
+    ones: [u16; 4],
+    ranks: [u32; 4],
+    floor: u32,
+    from: u8,
+    budget: u32,
+)
+    requires { ⌜ Blocks (now e) × Held n m (now sets) zeros ones ranks × (floor ≡ cellsIn ranks) × (from ≤ 2 ^ n) × Settled m (now sets) (tablesIn ranks) from × (length (now tally) ≡ 3) ⌝ }
+    ensures { λ _. ⌜ (now (sets .exit) ≡ now (sets .entry)) × (stateOf (now (best .exit)) (now (tally .exit)) ≡ searchPart (tree n m) budget (ofSets (now (sets .entry))) (stateOf (now (best .entry)) (now (tally .entry)))) × (length (now (tally .exit)) ≡ 3) ⌝ }
 {
-    let mut next = s;
-    next.stopped = true;
-    next
-}
-
-// One visit more.
-fn charge(s: State) -> State
-    requires { ⌜ s .visits + 1 < 2 ^ 32 ⌝ }
-    ensures { λ r. ⌜ r ≡ charged s ⌝ }
-{
-    let mut next = s;
-    next.visits += 1;
-    next
-}
-
-// Steps 1 to 4 of the search for one part.
-pub fn visit(e: &[u16; 256], part: Part, budget: u32, s: State) -> State
-    requires { ⌜ Blocks (now e) × Kept part ⌝ }
-    ensures { λ r. ⌜ r ≡ searchPart (tree (part .n) (part .m)) budget (ofSets (part .sets)) s ⌝ }
-{
-    let ranks = part.ranks;
-    let floor = floor_of(ranks);
-    if s.cells <= floor {
-        return s;
+    if tally[0] <= floor {
+        return;
     }
-    if budget <= s.visits {
-        return stop(s);
+    if budget <= tally[1] {
+        tally[2] = 1;
+        return;
     }
-    let next = charge(s);
+    tally[1] += 1;
     let tables = tables_of(ranks);
-    let sets = part.sets;
-    let found = first_open(part.n, part.m, sets, tables);
+    let found = first_open(n, m, from, sets, tables);
     match found {
-        Open::Closed => State {
-            tables,
-            cells: floor,
-            visits: next.visits,
-            stopped: next.stopped,
-        },
-        Open::Pair(p, j) => split(e, part, p, j, budget, next),
+        Open::Closed => {
+            *best = tables;
+            tally[0] = floor;
+        }
+        Open::Pair(p, j) => {
+            split(e, sets, best, tally, n, m, zeros, ones, ranks, p, j, budget);
+        }
     }
 }
 
-// The part with wire j at 0 on pattern p, then the part with it at 1.
-fn split(e: &[u16; 256], part: Part, p: u8, j: u8, budget: u32, s: State) -> State
-    requires { ⌜ Blocks (now e) × Kept part × (p < 2 ^ part .n) × (j < part .m) × T (free (part .m) (ofSets (part .sets) p) j) ⌝ }
-    ensures { λ r. ⌜ r ≡ splitOf (tree (part .n) (part .m)) budget (searchPart (tree (part .n) (part .m)) budget) (ofSets (part .sets)) p j s ⌝ }
+// The part with wire j at 0 on pattern p, then the part with it at 1. A part that will be discarded is not visited.
+fn split(
+    e: &[u16; 256],
+    sets: &mut [u16; 16],
+    best: &mut [u16; 4],
+    tally: &mut [u32; 3],
+    n: u8,
+    m: u8,
+    zeros: [u16; 4],
+    ones: [u16; 4],
+    ranks: [u32; 4],
+    p: u8,
+    j: u8,
+    budget: u32,
+)
+    requires { ⌜ Blocks (now e) × Held n m (now sets) zeros ones ranks × (p < 2 ^ n) × (j < m) × T (free m (ofSets (now sets) p) j) × Settled m (now sets) (tablesIn ranks) p × (length (now tally) ≡ 3) ⌝ }
+    ensures { λ _. ⌜ (now (sets .exit) ≡ now (sets .entry)) × (stateOf (now (best .exit)) (now (tally .exit)) ≡ splitOf (tree n m) budget (searchPart (tree n m) budget) (ofSets (now (sets .entry))) p j (stateOf (now (best .entry)) (now (tally .entry)))) × (length (now (tally .exit)) ≡ 3) ⌝ }
 {
-    let zero = part_with(e, part, p, j, 0);
-    let one = part_with(e, part, p, j, 1);
-    let first = visit(e, zero, budget, s);
-    visit(e, one, budget, first)
+    let at = p as usize;
+    let set = sets[at];
+    for b in 0..2u8 {
+        let part = with_bit(set, j, b);
+        sets[at] = part;
+        let z = cut_masks(zeros, p, part, 0);
+        let o = cut_masks(ones, p, part, 1);
+        let r = ranks_again(e, n, ranks, p, part, z, o);
+        let floor = floor_of(r);
+        if floor < tally[0] {
+            let from = first_change(ranks, r, p);
+            visit(e, sets, best, tally, n, m, z, o, r, floor, from, budget);
+        }
+    }
+    sets[at] = set;
 }

@@ -9,16 +9,16 @@ ghost use Prim.Native.Nat.{_<_, _≤_, _^_};
 ghost use Rattle.relation.specs.Tests.{ofSets, wires};
 ghost use Rattle.search.specs.Search.{picks};
 ghost use Rattle.search.specs.TreeBoard.{tree};
-ghost use Rattle.search.specs.Kept.{Sized, Sets, openOf};
+ghost use Rattle.search.specs.Kept.{Sized, Sets, Settled, openOf};
 
 // The lowest pattern on which the picks' value is not allowed, and the lowest wire open there. A pattern in conflict has an open wire, since every pick
-// fits its projection.
-pub fn first_open(n: u8, m: u8, sets: [u16; 16], tables: [u16; 4]) -> Open
-    requires { ⌜ Sized n m × Sets n m sets × (tables ≡ picks (tree n m) (ofSets sets)) ⌝ }
-    ensures { λ r. ⌜ r ≡ openOf n m (ofSets sets) (wires tables) ⌝ }
+// fits its projection. Patterns below `from` are known to be without conflict.
+pub fn first_open(n: u8, m: u8, from: u8, sets: &[u16; 16], tables: [u16; 4]) -> Open
+    requires { ⌜ Sized n m × Sets n m (now sets) × (tables ≡ picks (tree n m) (ofSets (now sets))) × (from ≤ 2 ^ n) × Settled m (now sets) tables from ⌝ }
+    ensures { λ r. ⌜ r ≡ openOf n m (ofSets (now (sets .entry))) (wires tables) ⌝ }
 {
     let count = patterns_of(n);
-    let mut p: u8 = 0;
+    let mut p: u8 = from;
     let mut j: u8 = 0;
     'patterns: while p < count {
         let set = sets[p as usize];

@@ -67,22 +67,42 @@ fn search_sets(n: u8, m: u8, sets: [u16; 16], budget: u32) -> Answer
     let whole = parts::whole(&table, n, m, sets);
     let ranks = whole.ranks;
     let start = quick_solver::quick(&table, n, m, sets);
-    let s = branches::visit(&table, whole, budget, start);
-    let tables = s.tables;
-    if s.stopped {
+    let zeros = whole.zeros;
+    let ones = whole.ones;
+    let floor = ranks::floor_of(ranks);
+    let mut own = sets;
+    let mut tables = start.tables;
+    let mut tally = [start.cells, 0, 0];
+    branches::visit(
+        &table,
+        &mut own,
+        &mut tables,
+        &mut tally,
+        n,
+        m,
+        zeros,
+        ones,
+        ranks,
+        floor,
+        0,
+        budget,
+    );
+    let cells = tally[0];
+    let visits = tally[1];
+    if tally[2] == 1 {
         Answer {
             tables,
-            cells: s.cells,
-            floor: ranks::floor_of(ranks),
-            visits: s.visits,
+            cells,
+            floor,
+            visits,
             mark: Mark::Stopped,
         }
     } else {
         Answer {
             tables,
-            cells: s.cells,
-            floor: s.cells,
-            visits: s.visits,
+            cells,
+            floor: cells,
+            visits,
             mark: Mark::Best,
         }
     }

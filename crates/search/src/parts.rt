@@ -3,19 +3,15 @@
 use crate::Part;
 use crate::ranks::table_of;
 use relation::patterns::bit_of;
-use relation::patterns::cut_mask;
 use relation::patterns::mask;
 use relation::values::has;
-use relation::values::with_bit;
 use table::picks::pick;
 ghost use mathlib.Core.Path.{_≡_};
+ghost use mathlib.Core.Bool.{cond};
 ghost use Prim.Native.Nat.{_<_, _≤_, _^_};
-ghost use lib.Dec.{T};
-ghost use lib.ListN.{getD};
 ghost use Rattle.table.specs.Blocks.{Blocks, Covered};
 ghost use Rattle.table.specs.Pick.{pickOf, rank};
-ghost use Rattle.relation.specs.Tests.{ofSets, free};
-ghost use Rattle.relation.specs.Masks.{maskOf, narrowed};
+ghost use Rattle.relation.specs.Masks.{maskOf, cut};
 ghost use Rattle.search.specs.Kept.{Sized, Sets, masksOf, ranksOf, cutMasks, rankAgain, ranksAgain, MasksCover, Kept};
 
 fn masks_of(sets: [u16; 16], b: u8) -> [u16; 4]
@@ -68,7 +64,23 @@ pub fn whole(e: &[u16; 256], n: u8, m: u8, sets: [u16; 16]) -> Part
     }
 }
 
-fn cut_masks(masks: [u16; 4], p: u8, set: u16, b: u8) -> [u16; 4]
+// The pattern that is lost, as a mask: none where it is kept.
+fn lost(p: u8, kept: bool) -> u16
+    requires { ⌜ p < 16 ⌝ }
+    ensures { λ r. ⌜ r ≡ cond kept 0 (2 ^ p) ⌝ }
+{
+    if kept { 0 } else { 1 << p }
+}
+
+// A mask with pattern p taken out, unless it is kept. Made without a branch: which wires keep a pattern is not to be foretold.
+fn cut_mask(x: u16, p: u8, kept: bool) -> u16
+    requires { ⌜ p < 16 ⌝ }
+    ensures { λ r. ⌜ r ≡ cut x p kept ⌝ }
+{
+    x - (x & lost(p, kept))
+}
+
+pub fn cut_masks(masks: [u16; 4], p: u8, set: u16, b: u8) -> [u16; 4]
     requires { ⌜ (p < 16) × (b < 2) ⌝ }
     ensures { λ r. ⌜ r ≡ cutMasks masks p set b ⌝ }
 {
@@ -101,7 +113,7 @@ fn rank_again(
     }
 }
 
-fn ranks_again(
+pub fn ranks_again(
     e: &[u16; 256],
     n: u8,
     ranks: [u32; 4],
@@ -119,30 +131,4 @@ fn ranks_again(
         rank_again(e, n, ranks[2], p, 2, set, zeros[2], ones[2]),
         rank_again(e, n, ranks[3], p, 3, set, zeros[3], ones[3]),
     ]
-}
-
-// The part with wire j at b on pattern p, where the pair is open.
-pub fn part_with(e: &[u16; 256], part: Part, p: u8, j: u8, b: u8) -> Part
-    requires { ⌜ Blocks (now e) × Kept part × (p < 2 ^ part .n) × (j < part .m) × T (free (part .m) (ofSets (part .sets) p) j) × (b < 2) ⌝ }
-    ensures { λ r. ⌜ Kept r × (r .n ≡ part .n) × (r .m ≡ part .m) × (r .sets ≡ narrowed (part .sets) p j b) ⌝ }
-{
-    let n = part.n;
-    let mut sets = part.sets;
-    let zeros_before = part.zeros;
-    let ones_before = part.ones;
-    let ranks_before = part.ranks;
-    let at = p as usize;
-    let set = with_bit(sets[at], j, b);
-    sets[at] = set;
-    let zeros = cut_masks(zeros_before, p, set, 0);
-    let ones = cut_masks(ones_before, p, set, 1);
-    let ranks = ranks_again(e, n, ranks_before, p, set, zeros, ones);
-    Part {
-        n,
-        m: part.m,
-        sets,
-        zeros,
-        ones,
-        ranks,
-    }
 }

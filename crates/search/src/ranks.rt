@@ -1,8 +1,8 @@
 // A pick as one number, its rank: cells * 65536 + table. What knows this form stands here and in the crate `table`.
 ghost use mathlib.Core.Path.{_≡_};
-ghost use Prim.Native.Nat.{_/_, _%_, _<_};
+ghost use Prim.Native.Nat.{_/_, _%_, _<_, _≤_};
 ghost use Rattle.table.specs.Pick.{tableSpace};
-ghost use Rattle.search.specs.Kept.{tablesIn, cellsIn};
+ghost use Rattle.search.specs.Kept.{tablesIn, cellsIn, AlikeBelow};
 
 pub fn table_of(rank: u32) -> u16
     ensures { λ r. ⌜ r ≡ rank % tableSpace ⌝ }
@@ -31,4 +31,17 @@ pub fn floor_of(ranks: [u32; 4]) -> u32
     ensures { λ r. ⌜ r ≡ cellsIn ranks ⌝ }
 {
     cells_of(ranks[0]) + cells_of(ranks[1]) + cells_of(ranks[2]) + cells_of(ranks[3])
+}
+
+// The lowest pattern on which a pick changed, or p where none did below p. The bits of the cells lie above all patterns.
+pub fn first_change(before: [u32; 4], ranks: [u32; 4], p: u8) -> u8
+    requires { ⌜ p < 16 ⌝ }
+    ensures { λ r. ⌜ (r ≤ p) × AlikeBelow before ranks r ⌝ }
+{
+    let changed = (before[0] ^ ranks[0])
+        | (before[1] ^ ranks[1])
+        | (before[2] ^ ranks[2])
+        | (before[3] ^ ranks[3]);
+    let low = u32::trailing_zeros(changed);
+    if low < p as u32 { low as u8 } else { p }
 }

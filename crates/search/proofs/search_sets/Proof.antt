@@ -1,21 +1,15 @@
-use mathlib.Core.Path.{_≡_, ap, sym, _∙_}
+use mathlib.Core.Path.{refl}
+use native.Mathlib.Omega.{arith}
+use borrow.Author.Tests.{eq-eqb, ne-eqb}
 use Rattle.relation.specs.Tests.{ofSets}
 use Rattle.search.specs.Search.{run}
-use Rattle.search.specs.Kept.{cellsIn}
-use Rattle.search.proofs.Keeping.{kept-floor}
-use Rattle.search.proofs.Entry.{ran, stopped-answer, best-answer}
 use Rattle.search.specs.TreeBoard.{tree}
-use Rattle.search.specs.Kept.{ranksOf}
+use Rattle.search.specs.Kept.{stateOf}
+use Rattle.search.proofs.Branching.{floor-is}
+use Rattle.search.proofs.Entry.{held-whole, ran, stopped-answer, best-answer}
 use borrow.Author.Needs.{needs}
 use Rattle.search.proofs.search_sets.Statement.{statement}
 use Rattle.search.proofs.search_sets.Tie as tie
-use Rattle.search.proofs.search_sets.Reads as reads
-use Rattle.search.proofs.search_sets.Lts as lts
-use Rattle.search.proofs.branches.visit.Reads as visit-reads
-use Rattle.search.proofs.parts.whole.Reads as whole-reads
-use Rattle.search.proofs.quick_solver.quick.Reads as quick-reads
-use Rattle.search.proofs.ranks.floor_of.Reads as floor-of-reads
-use Rattle.table.proofs.picks.blocks.Reads as blocks-reads
 
 blocks-requires : tie.Need-blocks-requires
 blocks-requires c κs = search needs
@@ -26,31 +20,44 @@ whole-requires c κs = search needs
 quick-requires : tie.Need-quick-requires
 quick-requires c κs = search needs
 
-visit-requires : tie.Need-visit-requires
-visit-requires c κs = search needs
-
 floor-of-requires : tie.Need-floor-of-requires
 floor-of-requires c κs = search needs
 
+visit-requires : tie.Need-visit-requires
+visit-requires c κs =
+    let w = c .before .before .before .before .before .before .before .before .before .before .before .whole in
+    (c .before .before .before .before .before .before .before .before .before .before .before .before .before .blocks2 .ensures, held-whole (w .result) (w .ensures .0) (w .ensures .1) (w .ensures .2) (w .ensures .3), c .before .before .before .before .before .floor-of .ensures, omega arith, λ q l. absurd (omega arith), refl)
+
+array-read-cells : tie.Need-array-read-cells
+array-read-cells c = search needs
+
+array-read-visits : tie.Need-array-read-visits
+array-read-visits c = search needs
+
+array-read-if1 : tie.Need-array-read-if1
+array-read-if1 c = search needs
+
 returns : tie.Need-returns
 returns c =
-    let d = c .before .before .before in
-    let a = d .before .before .before .before .before .before .before .before .args in
-    let q = d .before .before .before .before .before .before .before .before .pre in
-    let w = d .before .before .before .before .before .whole in
-    let e = w .ensures in
-    let s = ran (a .n) (a .m) (a .budget) (a .sets) (w .result) (d .before .before .quick .result) (d .visit .result) (e .1) (e .2) (e .3) (d .before .before .quick .ensures) (d .visit .ensures) in
-    let f = c .floor-of .ensures ∙ ap cellsIn (e .0 .ranks ∙ cc) ∙ kept-floor (a .n) (a .m) (q .0) (a .sets) (q .1) in
-    stopped-answer (a .n) (a .m) (ofSets (a .sets)) (d .visit .result) (run (tree (a .n) (a .m)) (a .budget) (ofSets (a .sets))) (c .floor-of .result) s (c .before .if1 .taken) f
+    let a = c .before .before .before .before .before .before .before .before .before .before .before .before .before .before .before .before .args in
+    let w = c .before .before .before .before .before .before .before .before .before .before .before .before .before .whole in
+    let st = c .before .before .before .before .before .before .before .before .before .before .quick in
+    let v = c .before .visit in
+    let R = ofSets (a .sets) in
+    let s = stateOf (v .last .1 .1 .0) (v .last .1 .1 .1 .0) in
+    let e = ran (a .n) (a .m) (a .budget) R (st .result) s (st .ensures) (v .ensures .1) in
+    let f = floor-is (held-whole (w .result) (w .ensures .0) (w .ensures .1) (w .ensures .2) (w .ensures .3)) (c .before .before .before .before .before .before .before .floor-of .ensures) in
+    stopped-answer (a .n) (a .m) R s (run (tree (a .n) (a .m)) (a .budget) R) (c .before .before .before .before .before .before .before .floor-of .result) e (eq-eqb _ _ (c .if1 .taken)) f
 
 returns-2 : tie.Need-returns-2
 returns-2 c =
-    let d = c .before .before in
-    let a = d .before .before .before .before .before .before .before .before .args in
-    let w = d .before .before .before .before .before .whole in
-    let e = w .ensures in
-    let s = ran (a .n) (a .m) (a .budget) (a .sets) (w .result) (d .before .before .quick .result) (d .visit .result) (e .1) (e .2) (e .3) (d .before .before .quick .ensures) (d .visit .ensures) in
-    best-answer (a .n) (a .m) (ofSets (a .sets)) (d .visit .result) (run (tree (a .n) (a .m)) (a .budget) (ofSets (a .sets))) s (c .if1 .left)
+    let a = c .before .before .before .before .before .before .before .before .before .before .before .before .before .before .before .before .args in
+    let st = c .before .before .before .before .before .before .before .before .before .before .quick in
+    let v = c .before .visit in
+    let R = ofSets (a .sets) in
+    let s = stateOf (v .last .1 .1 .0) (v .last .1 .1 .1 .0) in
+    let e = ran (a .n) (a .m) (a .budget) R (st .result) s (st .ensures) (v .ensures .1) in
+    best-answer (a .n) (a .m) R s (run (tree (a .n) (a .m)) (a .budget) R) e (ne-eqb _ _ (c .if1 .left))
 
 pub search-sets-spec : {M : Type 1} → statement M
 search-sets-spec =
@@ -59,7 +66,10 @@ search-sets-spec =
     blocks-requires
     whole-requires
     quick-requires
-    visit-requires
     floor-of-requires
+    visit-requires
+    array-read-cells
+    array-read-visits
+    array-read-if1
     returns
     returns-2)

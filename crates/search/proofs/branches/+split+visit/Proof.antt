@@ -1,230 +1,326 @@
--- `visit` and `split` meet their contracts: a visit is steps 1 to 4, a split closes an open pair.
-use Prim.Native.Nat.{ℕ, _+_, _*_, _<_}
-use mathlib.Core.Path.{_≡_, sym, ap, subst, _∙_}
+use Prim.Native.Nat.{ℕ, _+_, _*_, _-_, _<_, _≤_}
+use mathlib.Core.Path.{_≡_, refl, sym, ap, ap₂, subst, _∙_}
+use mathlib.Core.Logic.{⊎-elim}
 use native.Mathlib.Omega.{arith}
 use borrow.Author.Needs.{needs}
+use lib.ListN.{length, getD, set, length-set}
+use lib.Seq.{set-getD}
+use Rattle.relation.specs.Tests.{ofSets, wires, openPairs}
+use Rattle.search.specs.Search.{split as splitOf, searchPart}
+use Rattle.search.specs.TreeBoard.{tree}
+use Rattle.search.specs.Kept.{Settled, stateOf}
+use Rattle.search.proofs.Opening.{found-open, found-below}
+use Rattle.search.proofs.Steps.{discards, halts, improves, splits}
+use Rattle.search.proofs.Branching.{treated, treated-both, floor-is, tables-are, pattern-lt, next-pairs, next-cover, next-held, next-settled, next-same, next-treated, next-discards, halted-tally, charged-tally, improved-tally}
 use borrow.Fn.Kinds.{In}
 use borrow.Fn.PlainCycle.{Measures, is, falls, and}
-use Rattle.relation.specs.Tests.{ofSets, keep, wires, openPairs}
-use Rattle.relation.specs.Masks.{narrowed}
-use Rattle.search.specs.declared.Part.{Part}
-use Rattle.search.specs.declared.State.{State}
-use Rattle.search.specs.Search.{picks, floor, split as splitOf, searchPart, charged, improved}
-use Rattle.search.specs.TreeBoard.{tree}
-use Rattle.search.specs.Kept.{Kept, tablesIn, cellsIn, openOf}
-use Rattle.search.proofs.Keeping.{kept-tables, kept-floor, with-keep}
-use Rattle.search.proofs.Opening.{found-open}
-use Rattle.search.proofs.Steps.{discards, halts, improves, splits, fewer-open}
 use Rattle.search.proofs.branches.split.Reads as split
 use Rattle.search.proofs.branches.split.Kinds as split-kinds
 use Rattle.search.proofs.branches.+split+visit.Lts-split as split-lts
 use Rattle.search.proofs.branches.visit.Reads as visit
 use Rattle.search.proofs.branches.visit.Kinds as visit-kinds
 use Rattle.search.proofs.branches.+split+visit.Lts-visit as visit-lts
-use Rattle.search.proofs.branches.charge.Reads as charge-reads
-use Rattle.search.proofs.branches.stop.Reads as stop-reads
+use Rattle.relation.proofs.values.with_bit.Reads as with-bit-reads
 use Rattle.search.proofs.conflicts.first_open.Reads as first-open-reads
-use Rattle.search.proofs.parts.part_with.Reads as part-with-reads
+use Rattle.search.proofs.parts.cut_masks.Reads as cut-masks-reads
+use Rattle.search.proofs.parts.ranks_again.Reads as ranks-again-reads
 use Rattle.search.proofs.ranks.floor_of.Reads as floor-of-reads
+use Rattle.search.proofs.ranks.first_change.Reads as first-change-reads
 use Rattle.search.proofs.ranks.tables_of.Reads as tables-of-reads
 use Rattle.search.proofs.branches.+split+visit.{statement}
 use Rattle.search.proofs.branches.+split+visit.Tie.{close}
 
--- the open pairs of a part
-abbrev open-pairs : Part → ℕ
-open-pairs part = openPairs (part .n) (part .m) (ofSets (part .sets))
+abbrev μ-split : Measures 4 split-kinds.ps ℕ
+μ-split κs a = 2 * openPairs (a .1 .1 .1 .1 .0) (a .1 .1 .1 .1 .1 .0) (ofSets (a .1 .0 .now))
 
-abbrev μ-split : Measures 1 split-kinds.ps ℕ
-μ-split κs a = 2 * open-pairs (a .1 .0)
+abbrev μ-visit : Measures 4 visit-kinds.ps ℕ
+μ-visit κs a = 2 * openPairs (a .1 .1 .1 .1 .0) (a .1 .1 .1 .1 .1 .0) (ofSets (a .1 .0 .now)) + 1
 
-abbrev μ-visit : Measures 1 visit-kinds.ps ℕ
-μ-visit κs a = 2 * open-pairs (a .1 .0) + 1
+abbrev split-at : ℕ → In 4 split-kinds.ps
+split-at t = and 4 split-kinds.ps (is 4 split-kinds.ps μ-split t) split.Pre
 
-abbrev split-at : ℕ → In 1 split-kinds.ps
-split-at t = and 1 split-kinds.ps (is 1 split-kinds.ps μ-split t) split.Pre
+abbrev split-below : ℕ → In 4 split-kinds.ps
+split-below t = and 4 split-kinds.ps (falls 4 split-kinds.ps _<_ μ-split t) split.Pre
 
-abbrev split-below : ℕ → In 1 split-kinds.ps
-split-below t = and 1 split-kinds.ps (falls 1 split-kinds.ps _<_ μ-split t) split.Pre
+abbrev visit-at : ℕ → In 4 visit-kinds.ps
+visit-at t = and 4 visit-kinds.ps (is 4 visit-kinds.ps μ-visit t) visit.Pre
 
-abbrev visit-at : ℕ → In 1 visit-kinds.ps
-visit-at t = and 1 visit-kinds.ps (is 1 visit-kinds.ps μ-visit t) visit.Pre
+abbrev visit-below : ℕ → In 4 visit-kinds.ps
+visit-below t = and 4 visit-kinds.ps (falls 4 visit-kinds.ps _<_ μ-visit t) visit.Pre
 
-abbrev visit-below : ℕ → In 1 visit-kinds.ps
-visit-below t = and 1 visit-kinds.ps (falls 1 visit-kinds.ps _<_ μ-visit t) visit.Pre
+abbrev split-Inv-loop : split-lts.InvT-loop
+split-Inv-loop e sets₀ best₀ tally₀ n m zeros ones ranks p j budget at own b₀ sets best tally b =
+    (b ≤ 2)
+    × ((x : ℕ) → set sets p x ≡ set sets₀ p x)
+    × (stateOf best tally ≡ treated n m budget (ofSets sets₀) p j (stateOf best₀ tally₀) b)
+    × (length tally ≡ 3)
+
+abbrev split-μ-loop : split-lts.MeasureT-loop
+split-μ-loop e sets₀ best₀ tally₀ n m zeros ones ranks p j budget at set b₀ sets best tally b = 2 - b
 
 abbrev split-claims : ℕ → split-lts.Claims
-split-claims t = (part-with-reads.Asked, part-with-reads.Learnt, visit-below t, visit.Post)
-
-abbrev visit-claims : ℕ → visit-lts.Claims
-visit-claims t = (
+split-claims t = (
+  with-bit-reads.Asked,
+  with-bit-reads.Learnt,
+  cut-masks-reads.Asked,
+  cut-masks-reads.Learnt,
+  ranks-again-reads.Asked,
+  ranks-again-reads.Learnt,
   floor-of-reads.Asked,
   floor-of-reads.Learnt,
-  stop-reads.Asked,
-  stop-reads.Learnt,
-  charge-reads.Asked,
-  charge-reads.Learnt,
-  tables-of-reads.Asked,
-  tables-of-reads.Learnt,
-  first-open-reads.Asked,
-  first-open-reads.Learnt,
-  split-below t,
-  split.Post,
+  first-change-reads.Asked,
+  first-change-reads.Learnt,
+  visit-below t,
+  visit.Post,
 )
 
--- what `part_with` ensures of a part of a split, for the measure and for the search of it
-with-pairs : (part r : Part) (p j b : ℕ) → r .n ≡ part .n → r .m ≡ part .m → r .sets ≡ narrowed (part .sets) p j b
-    → open-pairs r ≡ openPairs (part .n) (part .m) (ofSets (narrowed (part .sets) p j b))
-with-pairs part r p j b en em es = cc
+abbrev visit-claims : ℕ → visit-lts.Claims
+visit-claims t = (tables-of-reads.Asked, tables-of-reads.Learnt, first-open-reads.Asked, first-open-reads.Learnt, split-below t, split.Post)
 
-with-search : (part r : Part) (budget p j b : ℕ) (s : State) → r .n ≡ part .n → r .m ≡ part .m → r .sets ≡ narrowed (part .sets) p j b
-    → ofSets (narrowed (part .sets) p j b) ≡ keep (ofSets (part .sets)) p j b
-    → searchPart (tree (r .n) (r .m)) budget (ofSets (r .sets)) s ≡ searchPart (tree (part .n) (part .m)) budget (keep (ofSets (part .sets)) p j b) s
-with-search part r budget p j b s en em es ek = cc
+split-mul-set : (t : ℕ) → split-lts.Need-mul-set (split-claims t) (split-at t) split.Post split-Inv-loop split-μ-loop
+split-mul-set t c = omega arith
 
-split-part-with-requires : (t : ℕ) → split-lts.Need-part-with-requires (split-claims t) (split-at t) split.Post
-split-part-with-requires t c κs = let q = c .pre .1 in (q .0, q .1, q .2, q .3, q .4, omega arith)
+split-element-copy-out-set : (t : ℕ) → split-lts.Need-element-copy-out-set (split-claims t) (split-at t) split.Post split-Inv-loop split-μ-loop
+split-element-copy-out-set t c = let q = c .pre .1 in pattern-lt (q .1 .sized) (q .2)
 
-split-part-with-requires-2 : (t : ℕ) → split-lts.Need-part-with-requires-2 (split-claims t) (split-at t) split.Post
-split-part-with-requires-2 t c κs = let q = c .before .pre .1 in (q .0, q .1, q .2, q .3, q .4, omega arith)
+split-loop-holds : (t : ℕ) → split-lts.Need-loop-holds (split-claims t) (split-at t) split.Post split-Inv-loop split-μ-loop
+unfolding treated
+split-loop-holds t c = (omega arith, λ x. refl, refl, c .before .pre .1 .6)
 
-split-visit-requires : (t : ℕ) → split-lts.Need-visit-requires (split-claims t) (split-at t) split.Post
+split-with-bit-requires : (t : ℕ) → split-lts.Need-with-bit-requires (split-claims t) (split-at t) split.Post split-Inv-loop split-μ-loop
+split-with-bit-requires t c κs = let q = c .before .before .before .pre .1 in (omega (arith, q .3, q .1 .sized .wires), omega (arith, c .loop-test .taken))
+
+split-mul-sets : (t : ℕ) → split-lts.Need-mul-sets (split-claims t) (split-at t) split.Post split-Inv-loop split-μ-loop
+split-mul-sets t c = omega arith
+
+split-element-write-sets : (t : ℕ) → split-lts.Need-element-write-sets (split-claims t) (split-at t) split.Post split-Inv-loop split-μ-loop
+split-element-write-sets t c = let q = c .before .before .before .before .pre .1 in pattern-lt (q .1 .sized) (q .2)
+
+split-cut-masks-requires : (t : ℕ) → split-lts.Need-cut-masks-requires (split-claims t) (split-at t) split.Post split-Inv-loop split-μ-loop
+split-cut-masks-requires t c κs = let q = c .before .before .before .before .pre .1 in (pattern-lt (q .1 .sized) (q .2), omega arith)
+
+split-cut-masks-requires-2 : (t : ℕ) → split-lts.Need-cut-masks-requires-2 (split-claims t) (split-at t) split.Post split-Inv-loop split-μ-loop
+split-cut-masks-requires-2 t c κs = let q = c .before .before .before .before .before .pre .1 in (pattern-lt (q .1 .sized) (q .2), omega arith)
+
+split-ranks-again-requires : (t : ℕ) → split-lts.Need-ranks-again-requires (split-claims t) (split-at t) split.Post split-Inv-loop split-μ-loop
+split-ranks-again-requires t c κs =
+    let a = c .before .before .before .before .before .before .args in
+    let q = c .before .before .before .before .before .before .pre .1 in
+    let l = c .before .before .before .before .loop in
+    let w = c .before .before .with-bit in
+    let S = a .sets .now in
+    let N = set (l .sets) (a .p) (w .result) in
+    let lb = c .before .before .before .loop-test .taken in
+    (q .0, q .1 .sized .one, q .1 .sized .inputs, pattern-lt (q .1 .sized) (q .2), next-cover (a .n) (a .m) S (a .zeros) (a .ones) (a .ranks) (q .1) (a .p) (a .j) (q .2) (q .3) (q .4) (l .b) lb (w .result) (w .ensures) N (l .inv .1 (w .result)) (c .before .cut-masks .ensures) (c .cut-masks2 .ensures))
+
+split-floor-of-requires : (t : ℕ) → split-lts.Need-floor-of-requires (split-claims t) (split-at t) split.Post split-Inv-loop split-μ-loop
+split-floor-of-requires t c κs = search needs
+
+split-element-copy-out-if1 : (t : ℕ) → split-lts.Need-element-copy-out-if1 (split-claims t) (split-at t) split.Post split-Inv-loop split-μ-loop
+split-element-copy-out-if1 t c = search needs
+
+split-first-change-requires : (t : ℕ) → split-lts.Need-first-change-requires (split-claims t) (split-at t) split.Post split-Inv-loop split-μ-loop
+split-first-change-requires t c κs = let q = c .before .before .before .before .before .before .before .before .before .before .pre .1 in pattern-lt (q .1 .sized) (q .2)
+
+split-visit-requires : (t : ℕ) → split-lts.Need-visit-requires (split-claims t) (split-at t) split.Post split-Inv-loop split-μ-loop
 split-visit-requires t c κs =
-    let a = c .before .before .args in
-    let q = c .before .before .pre .1 in
-    let r = c .before .part-with in
-    let e = with-pairs (a .part) (r .result) (a .p) (a .j) 0 (r .ensures .1) (r .ensures .2) (r .ensures .3) in
-    let f = fewer-open (a .part .n) (a .part .m) (q .1 .sized) (a .part .sets) (q .1 .sets) (a .p) (a .j) 0 (q .2) (q .3) (q .4) (omega arith) in
-    (omega (arith, e, f, c .before .before .pre .0), (q .0, r .ensures .0))
+    let a = c .before .before .before .before .before .before .before .before .before .before .before .before .before .before .args in
+    let q = c .before .before .before .before .before .before .before .before .before .before .before .before .before .before .pre .1 in
+    let l = c .before .before .before .before .before .before .before .before .before .before .before .before .loop in
+    let w = c .before .before .before .before .before .before .before .before .before .before .with-bit in
+    let S = a .sets .now in
+    let N = set (l .sets) (a .p) (w .result) in
+    let lb = c .before .before .before .before .before .before .before .before .before .before .before .loop-test .taken in
+    let ez = c .before .before .before .before .before .before .before .before .before .cut-masks .ensures in
+    let eo = c .before .before .before .before .before .before .before .before .cut-masks2 .ensures in
+    let er = c .before .before .before .before .before .before .before .ranks-again .ensures in
+    let f = c .before .before .before .first-change in
+    let fewer = next-pairs (a .n) (a .m) S (a .zeros) (a .ones) (a .ranks) (q .1) (a .p) (a .j) (q .2) (q .3) (q .4) (l .b) lb (w .result) (w .ensures) N (l .inv .1 (w .result)) in (
+      omega (arith, fewer, c .before .before .before .before .before .before .before .before .before .before .before .before .before .before .pre .0),
+      (q .0, next-held (a .n) (a .m) S (a .zeros) (a .ones) (a .ranks) (q .1) (a .p) (a .j) (q .2) (q .3) (q .4) (l .b) lb (w .result) (w .ensures) N (l .inv .1 (w .result)) ez eo er, c .before .before .before .before .before .before .floor-of .ensures, omega (arith, f .ensures .0, q .2), next-settled (a .n) (a .m) S (a .zeros) (a .ones) (a .ranks) (q .1) (a .p) (a .j) (q .2) (q .3) (q .4) (l .b) lb (w .result) (w .ensures) N (l .inv .1 (w .result)) (q .5) (c .before .before .before .before .before .before .before .ranks-again .result) (f .result) (f .ensures .0) (f .ensures .1), l .inv .3),
+    )
 
-split-visit-requires-2 : (t : ℕ) → split-lts.Need-visit-requires-2 (split-claims t) (split-at t) split.Post
-split-visit-requires-2 t c κs =
-    let a = c .before .before .before .args in
-    let q = c .before .before .before .pre .1 in
-    let r = c .before .part-with2 in
-    let e = with-pairs (a .part) (r .result) (a .p) (a .j) 1 (r .ensures .1) (r .ensures .2) (r .ensures .3) in
-    let f = fewer-open (a .part .n) (a .part .m) (q .1 .sized) (a .part .sets) (q .1 .sets) (a .p) (a .j) 1 (q .2) (q .3) (q .4) (omega arith) in
-    (omega (arith, e, f, c .before .before .before .pre .0), (q .0, r .ensures .0))
+split-add-b : (t : ℕ) → split-lts.Need-add-b (split-claims t) (split-at t) split.Post split-Inv-loop split-μ-loop
+split-add-b t c = omega arith
 
-split-returns : (t : ℕ) → split-lts.Need-returns (split-claims t) (split-at t) split.Post
-unfolding splitOf
+split-loop-less : (t : ℕ) → split-lts.Need-loop-less (split-claims t) (split-at t) split.Post split-Inv-loop split-μ-loop
+split-loop-less t c = omega (arith, c .before .before .before .before .before .before .before .loop-test .taken)
+
+split-loop-again : (t : ℕ) → split-lts.Need-loop-again (split-claims t) (split-at t) split.Post split-Inv-loop split-μ-loop
+split-loop-again t c =
+    let a = c .before .before .before .before .before .before .before .before .before .before .args in
+    let q = c .before .before .before .before .before .before .before .before .before .before .pre .1 in
+    let l = c .before .before .before .before .before .before .before .before .loop in
+    let w = c .before .before .before .before .before .before .with-bit in
+    let S = a .sets .now in
+    let N = set (l .sets) (a .p) (w .result) in
+    let lb = c .before .before .before .before .before .before .before .loop-test .taken in
+    let i = c .if1 in
+    let s = stateOf (l .best) (l .tally) in
+    let s₀ = stateOf (a .best .now) (a .tally .now) in
+    let ez = c .before .before .before .before .before .cut-masks .ensures in
+    let eo = c .before .before .before .before .cut-masks2 .ensures in
+    let er = c .before .before .before .ranks-again .ensures in
+    let held = next-held (a .n) (a .m) S (a .zeros) (a .ones) (a .ranks) (q .1) (a .p) (a .j) (q .2) (q .3) (q .4) (l .b) lb (w .result) (w .ensures) N (l .inv .1 (w .result)) ez eo er in
+    ⊎-elim
+    (λ v.
+    let st : stateOf (i .best) (i .tally) ≡ searchPart (tree (a .n) (a .m)) (a .budget) (ofSets N) s = ap₂ stateOf (v .7) (v .8) ∙ v .5 .ensures .1 in
+    (omega arith, next-same (a .n) (a .m) S (a .zeros) (a .ones) (a .ranks) (q .1) (a .p) (a .j) (q .2) (q .3) (q .4) (l .b) lb (w .result) (w .ensures) N (l .inv .1 (w .result)) (v .6 ∙ v .5 .ensures .0), next-treated (a .n) (a .m) S (a .zeros) (a .ones) (a .ranks) (q .1) (a .p) (a .j) (q .2) (q .3) (q .4) (l .b) lb (w .result) (w .ensures) N (l .inv .1 (w .result)) (a .budget) s (stateOf (i .best) (i .tally)) s₀ (l .inv .2) st, ap length (v .8) ∙ v .5 .ensures .2))
+    (λ v.
+    let st : stateOf (i .best) (i .tally) ≡ searchPart (tree (a .n) (a .m)) (a .budget) (ofSets N) s = ap₂ stateOf (v .2) (v .3)
+    ∙ next-discards (a .n) (a .m) S (a .zeros) (a .ones) (a .ranks) (q .1) (a .p) (a .j) (q .2) (q .3) (q .4) (l .b) lb (w .result) (w .ensures) N (l .inv .1 (w .result)) (a .budget) held (c .before .before .floor-of .ensures) s (v .0 .left) in
+    (omega arith, next-same (a .n) (a .m) S (a .zeros) (a .ones) (a .ranks) (q .1) (a .p) (a .j) (q .2) (q .3) (q .4) (l .b) lb (w .result) (w .ensures) N (l .inv .1 (w .result)) (v .1), next-treated (a .n) (a .m) S (a .zeros) (a .ones) (a .ranks) (q .1) (a .p) (a .j) (q .2) (q .3) (q .4) (l .b) lb (w .result) (w .ensures) N (l .inv .1 (w .result)) (a .budget) s (stateOf (i .best) (i .tally)) s₀ (l .inv .2) st, ap length (v .3) ∙ l .inv .3))
+    (i .came)
+
+split-mul-sets-2 : (t : ℕ) → split-lts.Need-mul-sets-2 (split-claims t) (split-at t) split.Post split-Inv-loop split-μ-loop
+split-mul-sets-2 t c = omega arith
+
+split-element-write-sets-2 : (t : ℕ) → split-lts.Need-element-write-sets-2 (split-claims t) (split-at t) split.Post split-Inv-loop split-μ-loop
+split-element-write-sets-2 t c = let q = c .before .before .before .pre .1 in pattern-lt (q .1 .sized) (q .2)
+
+split-returns : (t : ℕ) → split-lts.Need-returns (split-claims t) (split-at t) split.Post split-Inv-loop split-μ-loop
 split-returns t c =
-    let a = c .before .before .before .before .args in
-    let q = c .before .before .before .before .pre .1 in
-    let z = c .before .before .before .part-with in
-    let o = c .before .before .part-with2 in
-    let k : (b : ℕ) → b < 2 → ofSets (narrowed (a .part .sets) (a .p) (a .j) b) ≡ keep (ofSets (a .part .sets)) (a .p) (a .j) b =
-    λ b l. with-keep (a .part .n) (a .part .m) (q .1 .sized) (a .part .sets) (q .1 .sets) (a .p) (a .j) b (q .2) (q .3) (q .4) l in
-    c .visit2 .ensures
-    ∙ with-search (a .part) (o .result) (a .budget) (a .p) (a .j) 1 (c .before .visit .result) (o .ensures .1) (o .ensures .2) (o .ensures .3) (k 1 (omega arith))
-    ∙ ap (searchPart (tree (a .part .n) (a .part .m)) (a .budget) (keep (ofSets (a .part .sets)) (a .p) (a .j) 1))
-    (c .before .visit .ensures
-    ∙ with-search (a .part) (z .result) (a .budget) (a .p) (a .j) 0 (a .s) (z .ensures .1) (z .ensures .2) (z .ensures .3) (k 0 (omega arith)))
+    let a = c .before .before .before .args in
+    let l = c .before .loop in
+    let two : l .b ≡ 2 = omega (arith, l .inv .0, c .loop-test .left) in (
+      l .inv .1 (getD (a .sets .now) (a .p) 0) ∙ set-getD (a .sets .now) (a .p) 0,
+      l .inv .2 ∙ ap (treated (a .n) (a .m) (a .budget) (ofSets (a .sets .now)) (a .p) (a .j) (stateOf (a .best .now) (a .tally .now))) two
+          ∙ treated-both (a .n) (a .m) (a .budget) (ofSets (a .sets .now)) (a .p) (a .j) (stateOf (a .best .now) (a .tally .now)),
+      l .inv .3,
+    )
 
--- the floor and the tables of a part's ranks
-floor-is : (part : Part) → Kept part → {f : ℕ} → f ≡ cellsIn (part .ranks) → f ≡ floor (tree (part .n) (part .m)) (ofSets (part .sets))
-floor-is part k e = e ∙ ap cellsIn (k .ranks) ∙ kept-floor (part .n) (part .m) (k .sized) (part .sets) (k .sets)
-
-tables-are : (part : Part) → Kept part → {t : _} → t ≡ tablesIn (part .ranks) → t ≡ picks (tree (part .n) (part .m)) (ofSets (part .sets))
-tables-are part k e = e ∙ ap tablesIn (k .ranks) ∙ kept-tables (part .n) (part .m) (k .sized) (part .sets) (k .sets)
-
-visit-floor-of-requires : (t : ℕ) → visit-lts.Need-floor-of-requires (visit-claims t) (visit-at t) visit.Post
-visit-floor-of-requires t c κs = search needs
+visit-element-copy-out-if1 : (t : ℕ) → visit-lts.Need-element-copy-out-if1 (visit-claims t) (visit-at t) visit.Post
+visit-element-copy-out-if1 t c = search needs
 
 visit-returns : (t : ℕ) → visit-lts.Need-returns (visit-claims t) (visit-at t) visit.Post
 visit-returns t c =
-    let a = c .before .before .before .before .args in
-    let k = c .before .before .before .before .pre .1 .1 in
-    discards (a .part .n) (a .part .m) (a .budget) (k .sized) (a .part .sets) (k .sets) (a .s) (floor-is (a .part) k (c .before .before .floor-of .ensures)) (c .if1 .taken)
+    let a = c .before .before .args in
+    let q = c .before .before .pre .1 in
+    let h = q .1 in
+    (refl, discards (a .n) (a .m) (a .budget) (h .sized) (a .sets .now) (h .sets) (stateOf (a .best .now) (a .tally .now)) (floor-is h (q .2)) (c .if1 .taken), q .5)
 
-visit-stop-requires : (t : ℕ) → visit-lts.Need-stop-requires (visit-claims t) (visit-at t) visit.Post
-visit-stop-requires t c κs = search needs
+visit-element-copy-out-if2 : (t : ℕ) → visit-lts.Need-element-copy-out-if2 (visit-claims t) (visit-at t) visit.Post
+visit-element-copy-out-if2 t c = search needs
+
+visit-element-write-tally : (t : ℕ) → visit-lts.Need-element-write-tally (visit-claims t) (visit-at t) visit.Post
+visit-element-write-tally t c = search needs
 
 visit-returns-2 : (t : ℕ) → visit-lts.Need-returns-2 (visit-claims t) (visit-at t) visit.Post
 visit-returns-2 t c =
-    let d = c .before .before .before in
-    let a = d .before .before .before .before .args in
-    let k = d .before .before .before .before .pre .1 .1 in
-    c .stop .ensures
-    ∙ halts (a .part .n) (a .part .m) (a .budget) (k .sized) (a .part .sets) (k .sets) (a .s) (floor-is (a .part) k (d .before .before .floor-of .ensures)) (d .if1 .left) (c .before .if2 .taken)
+    let a = c .before .before .before .before .args in
+    let q = c .before .before .before .before .pre .1 in
+    let h = q .1 in
+    (refl, halted-tally (a .best .now) (a .tally .now) (q .5) ∙ halts (a .n) (a .m) (a .budget) (h .sized) (a .sets .now) (h .sets) (stateOf (a .best .now) (a .tally .now)) (floor-is h (q .2)) (c .before .before .if1 .left) (c .if2 .taken), length-set (a .tally .now) 2 1 ∙ q .5)
 
-visit-charge-requires : (t : ℕ) → visit-lts.Need-charge-requires (visit-claims t) (visit-at t) visit.Post
-visit-charge-requires t c κs = omega arith
+visit-element-copy-out-tally : (t : ℕ) → visit-lts.Need-element-copy-out-tally (visit-claims t) (visit-at t) visit.Post
+visit-element-copy-out-tally t c = search needs
+
+visit-add-tally : (t : ℕ) → visit-lts.Need-add-tally (visit-claims t) (visit-at t) visit.Post
+visit-add-tally t c = omega (arith, c .before .if2 .left)
+
+visit-element-write-tally-2 : (t : ℕ) → visit-lts.Need-element-write-tally-2 (visit-claims t) (visit-at t) visit.Post
+visit-element-write-tally-2 t c = search needs
 
 visit-tables-of-requires : (t : ℕ) → visit-lts.Need-tables-of-requires (visit-claims t) (visit-at t) visit.Post
 visit-tables-of-requires t c κs = search needs
 
 visit-first-open-requires : (t : ℕ) → visit-lts.Need-first-open-requires (visit-claims t) (visit-at t) visit.Post
 visit-first-open-requires t c κs =
-    let d = c .before .before .before .before .before in
-    let a = d .before .before .before .before .args in
-    let k = d .before .before .before .before .pre .1 .1 in
-    (k .sized, k .sets, tables-are (a .part) k (c .before .tables-of .ensures))
+    let a = c .before .before .before .before .before .before .before .args in
+    let q = c .before .before .before .before .before .before .before .pre .1 in
+    let h = q .1 in
+    let et = c .before .tables-of .ensures in
+    (h .sized, h .sets, tables-are h et, q .3, rw et (q .4))
 
 visit-enum-told : (t : ℕ) → visit-lts.Need-enum-told (visit-claims t) (visit-at t) visit.Post
 visit-enum-told t c = c .match .keys1
+
+visit-element-write-tally-3 : (t : ℕ) → visit-lts.Need-element-write-tally-3 (visit-claims t) (visit-at t) visit.Post
+visit-element-write-tally-3 t c = search needs
 
 visit-enum-known-found : (t : ℕ) → visit-lts.Need-enum-known-found (visit-claims t) (visit-at t) visit.Post
 visit-enum-known-found t c = c .match .keys2
 
 visit-split-requires : (t : ℕ) → visit-lts.Need-split-requires (visit-claims t) (visit-at t) visit.Post
 visit-split-requires t c κs =
-    let d = c .before .before .before .before .before .before .before .before .before in
-    let a = d .before .before .before .before .args in
-    let k = d .before .before .before .before .pre .1 .1 in
-    let q = d .before .before .before .before .pre in
-    let p = c .before .found .given .0 .0 in
-    let j = c .before .found .given .0 .1 .0 in
-    let et = tables-are (a .part) k (c .before .before .before .before .before .tables-of .ensures) in
-    let o = found-open (a .part .n) (a .part .m) (k .sized) (a .part .sets) (k .sets) (c .before .before .before .before .before .tables-of .result) et p j
-    (sym (c .before .before .before .first-open .ensures) ∙ c .before .found .given .1) in
-    (omega (arith, q .0), (q .1 .0, k, o .0, o .1, o .2))
+    let a = c .before .before .before .before .before .before .before .before .before .before .before .before .before .before .args in
+    let q = c .before .before .before .before .before .before .before .before .before .before .before .before .before .before .pre .1 in
+    let h = q .1 in
+    let p = c .before .before .before .before .found .given .0 .0 in
+    let j = c .before .before .before .before .found .given .0 .1 .0 in
+    let e = c .before .before .before .before .before .before .before .before .tables-of .ensures in
+    let found = sym (c .before .before .before .before .before .before .first-open .ensures) ∙ c .before .before .before .before .found .given .1 in
+    let o = found-open (a .n) (a .m) (h .sized) (a .sets .now) (h .sets) (c .before .before .before .before .before .before .before .before .tables-of .result) (tables-are h e) p j found in
+    let below = found-below (a .n) (a .m) (h .sized) (a .sets .now) (h .sets) (c .before .before .before .before .before .before .before .before .tables-of .result) (tables-are h e) p j found (o .0) in
+    (omega (arith, c .before .before .before .before .before .before .before .before .before .before .before .before .before .before .pre .0), (q .0, h, o .0, o .1, o .2, subst (λ x. Settled (a .m) (a .sets .now) x p) e below, length-set (a .tally .now) 1 (getD (a .tally .now) 1 0 + 1) ∙ q .5))
 
 visit-returns-3 : (t : ℕ) → visit-lts.Need-returns-3 (visit-claims t) (visit-at t) visit.Post
 visit-returns-3 t c =
-    let d = c .before .before .before .before .before .before .before .before in
-    let a = d .before .before .before .before .args in
-    let k = d .before .before .before .before .pre .1 .1 in
-    let et = tables-are (a .part) k (c .before .before .before .before .tables-of .ensures) in
-    let ef = floor-is (a .part) k (d .before .before .floor-of .ensures) in
-    ap (improved (c .before .before .before .before .tables-of .result) (d .before .before .floor-of .result)) (c .before .before .before .before .before .charge .ensures)
-    ∙ improves (a .part .n) (a .part .m) (a .budget) (k .sized) (a .part .sets) (k .sets) (a .s) ef (d .if1 .left) (c .before .before .before .before .before .before .if2 .left) et
-    (sym (c .before .before .first-open .ensures) ∙ c .enum-told .given .1)
+    let a = c .before .before .before .before .before .before .before .before .before .before .args in
+    let q = c .before .before .before .before .before .before .before .before .before .before .pre .1 in
+    let h = q .1 in
+    let e = c .before .before .before .before .tables-of .ensures in (
+      refl,
+      improved-tally (a .best .now) (c .before .before .before .before .tables-of .result) (a .tally .now) (a .floor) (q .5)
+          ∙ improves (a .n) (a .m) (a .budget) (h .sized) (a .sets .now) (h .sets) (stateOf (a .best .now) (a .tally .now)) (floor-is h (q .2)) (c .before .before .before .before .before .before .before .before .if1 .left) (c .before .before .before .before .before .before .if2 .left) (tables-are h e) (sym (c .before .before .first-open .ensures) ∙ c .enum-told .given .1),
+      length-set (set (a .tally .now) 1 (getD (a .tally .now) 1 0 + 1)) 0 (a .floor) ∙ length-set (a .tally .now) 1 (getD (a .tally .now) 1 0 + 1) ∙ q .5,
+    )
 
 visit-returns-4 : (t : ℕ) → visit-lts.Need-returns-4 (visit-claims t) (visit-at t) visit.Post
 visit-returns-4 t c =
-    let d = c .before .before .before .before .before .before .before .before .before .before in
-    let a = d .before .before .before .before .args in
-    let k = d .before .before .before .before .pre .1 .1 in
-    let p = c .before .before .found .given .0 .0 in
-    let j = c .before .before .found .given .0 .1 .0 in
-    let et = tables-are (a .part) k (c .before .before .before .before .before .before .tables-of .ensures) in
-    let ef = floor-is (a .part) k (d .before .before .floor-of .ensures) in
-    c .split .ensures
-    ∙ ap (splitOf (tree (a .part .n) (a .part .m)) (a .budget) (searchPart (tree (a .part .n) (a .part .m)) (a .budget)) (ofSets (a .part .sets)) p j)
-    (c .before .before .before .before .before .before .before .charge .ensures)
-    ∙ splits (a .part .n) (a .part .m) (a .budget) (k .sized) (a .part .sets) (k .sets) (a .s) ef (d .if1 .left) (c .before .before .before .before .before .before .before .before .if2 .left) et p j
-    (sym (c .before .before .before .before .first-open .ensures) ∙ c .before .before .found .given .1)
+    let a = c .before .before .before .before .before .before .before .before .before .before .before .before .before .before .before .args in
+    let q = c .before .before .before .before .before .before .before .before .before .before .before .before .before .before .before .pre .1 in
+    let h = q .1 in
+    let p = c .before .before .before .before .before .found .given .0 .0 in
+    let j = c .before .before .before .before .before .found .given .0 .1 .0 in
+    let e = c .before .before .before .before .before .before .before .before .before .tables-of .ensures in (
+      c .split .ensures .0,
+      c .split .ensures .1
+          ∙ ap (splitOf (tree (a .n) (a .m)) (a .budget) (searchPart (tree (a .n) (a .m)) (a .budget)) (ofSets (a .sets .now)) p j) (charged-tally (a .best .now) (a .tally .now) (q .5))
+          ∙ splits (a .n) (a .m) (a .budget) (h .sized) (a .sets .now) (h .sets) (stateOf (a .best .now) (a .tally .now)) (floor-is h (q .2)) (c .before .before .before .before .before .before .before .before .before .before .before .before .before .if1 .left) (c .before .before .before .before .before .before .before .before .before .before .before .if2 .left) (tables-are h e) p j (sym (c .before .before .before .before .before .before .before .first-open .ensures) ∙ c .before .before .before .before .before .found .given .1),
+      c .split .ensures .2,
+    )
 
 pub +split+visit-spec : {M : Type 1} → statement M
 +split+visit-spec = close μ-split μ-visit (λ t. split-lts.spec (split-claims t)
     (split-at t)
     split.Post
-    (split-part-with-requires t)
-    (split-part-with-requires-2 t)
+    split-Inv-loop
+    split-μ-loop
+    (split-mul-set t)
+    (split-element-copy-out-set t)
+    (split-loop-holds t)
+    (split-with-bit-requires t)
+    (split-mul-sets t)
+    (split-element-write-sets t)
+    (split-cut-masks-requires t)
+    (split-cut-masks-requires-2 t)
+    (split-ranks-again-requires t)
+    (split-floor-of-requires t)
+    (split-element-copy-out-if1 t)
+    (split-first-change-requires t)
     (split-visit-requires t)
-    (split-visit-requires-2 t)
+    (split-add-b t)
+    (split-loop-less t)
+    (split-loop-again t)
+    (split-mul-sets-2 t)
+    (split-element-write-sets-2 t)
     (split-returns t))
     λ t. visit-lts.spec (visit-claims t)
     (visit-at t)
     visit.Post
-    (visit-floor-of-requires t)
+    (visit-element-copy-out-if1 t)
     (visit-returns t)
-    (visit-stop-requires t)
+    (visit-element-copy-out-if2 t)
+    (visit-element-write-tally t)
     (visit-returns-2 t)
-    (visit-charge-requires t)
+    (visit-element-copy-out-tally t)
+    (visit-add-tally t)
+    (visit-element-write-tally-2 t)
     (visit-tables-of-requires t)
     (visit-first-open-requires t)
     (visit-enum-told t)
+    (visit-element-write-tally-3 t)
     (visit-enum-known-found t)
     (visit-split-requires t)
     (visit-returns-3 t)

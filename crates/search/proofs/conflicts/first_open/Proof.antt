@@ -23,22 +23,22 @@ use Rattle.relation.proofs.values.contains.Reads as contains-reads
 use Rattle.relation.proofs.values.is_open.Reads as is-open-reads
 
 abbrev Inv-loop : tie.InvT-loop
-Inv-loop n m tables sets count p j₀ set j = (j ≤ m) × ((i : ℕ) → i < j → T (not (free m (ofSets sets p) i)))
+Inv-loop n m from sets tables count p j₀ set j = (j ≤ m) × ((i : ℕ) → i < j → T (not (free m (ofSets sets p) i)))
 
 abbrev μ-loop : tie.MeasureT-loop
-μ-loop n m tables sets count p j₀ set j = m - j
+μ-loop n m from sets tables count p j₀ set j = m - j
 
 abbrev Inv-patterns : tie.InvT-patterns
-Inv-patterns n m tables sets count p₀ j₀ p j = (p ≤ count) × ((q : ℕ) → q < p → T (ofSets sets q (value m (wires tables) q)))
+Inv-patterns n m from sets tables count p₀ j₀ p j = (p ≤ count) × ((q : ℕ) → q < p → T (ofSets sets q (value m (wires tables) q)))
 
 abbrev μ-patterns : tie.MeasureT-patterns
-μ-patterns n m tables sets count p₀ j₀ p j = count - p
+μ-patterns n m from sets tables count p₀ j₀ p j = count - p
 
 patterns-of-requires : tie.Need-patterns-of-requires Inv-loop μ-loop Inv-patterns μ-patterns
 patterns-of-requires c κs = c .pre .0 .inputs
 
 patterns-holds : tie.Need-patterns-holds Inv-loop μ-loop Inv-patterns μ-patterns
-patterns-holds c = (omega arith, λ q l. absurd (omega arith))
+patterns-holds c = let q = c .before .pre in (omega (arith, q .3, c .patterns-of .ensures .0), q .4)
 
 cast-set : tie.Need-cast-set Inv-loop μ-loop Inv-patterns μ-patterns
 cast-set c = omega arith
@@ -46,8 +46,8 @@ cast-set c = omega arith
 mul-set : tie.Need-mul-set Inv-loop μ-loop Inv-patterns μ-patterns
 mul-set c = omega arith
 
-array-read-set : tie.Need-array-read-set Inv-loop μ-loop Inv-patterns μ-patterns
-array-read-set c = omega arith
+element-copy-out-set : tie.Need-element-copy-out-set Inv-loop μ-loop Inv-patterns μ-patterns
+element-copy-out-set c = omega arith
 
 value-of-requires : tie.Need-value-of-requires Inv-loop μ-loop Inv-patterns μ-patterns
 value-of-requires c κs = omega arith
@@ -59,7 +59,7 @@ loop-holds : tie.Need-loop-holds Inv-loop μ-loop Inv-patterns μ-patterns
 loop-holds c = (omega arith, λ q l. absurd (omega arith))
 
 is-open-requires : tie.Need-is-open-requires Inv-loop μ-loop Inv-patterns μ-patterns
-is-open-requires c κs = omega (arith, c .before .before .before .before .before .before .before .before .pre .0 .wires)
+is-open-requires c κs = omega (arith, c .before .before .before .before .before .before .before .before .before .pre .0 .wires)
 
 add-j : tie.Need-add-j Inv-loop μ-loop Inv-patterns μ-patterns
 add-j c = omega arith
@@ -69,11 +69,11 @@ loop-less c = omega arith
 
 loop-again : tie.Need-loop-again Inv-loop μ-loop Inv-patterns μ-patterns
 loop-again c =
-    let a = c .before .before .before .before .before .before .before .before .before .before .args in
-    let q = c .before .before .before .before .before .before .before .before .before .before .pre in
-    let p = c .before .before .before .before .before .before .before .before .patterns .p in
+    let a = c .before .before .before .before .before .before .before .before .before .before .before .args in
+    let q = c .before .before .before .before .before .before .before .before .before .before .before .pre in
+    let p = c .before .before .before .before .before .before .before .before .before .patterns .p in
     let j = c .before .before .before .loop .j in
-    (omega arith, below-more _ _ (c .before .before .before .loop .inv .1) (told-no (c .before .is-open .ensures ∙ open-test (a .n) (a .m) (q .0) (a .t3) (q .1) (a .tables) (q .2) p j) (c .if2 .left)))
+    (omega arith, below-more _ _ (c .before .before .before .loop .inv .1) (told-no (c .before .is-open .ensures ∙ open-test (a .n) (a .m) (q .0) (a .sets .now) (q .1) (a .tables) (q .2) p j) (c .if2 .left)))
 
 add-p : tie.Need-add-p Inv-loop μ-loop Inv-patterns μ-patterns
 add-p c = omega arith
@@ -83,15 +83,15 @@ patterns-less c = omega arith
 
 patterns-again : tie.Need-patterns-again Inv-loop μ-loop Inv-patterns μ-patterns
 patterns-again c =
-    let a = c .before .before .before .before .before .before .args in
-    let q = c .before .before .before .before .before .before .pre in
-    let p = c .before .before .before .before .patterns .p in
-    let here = c .before .contains .ensures ∙ ap (member (getD (a .t3) p 0)) (c .before .before .value-of .ensures .0) ∙ allowed-test (a .n) (a .m) (q .0) (a .t3) (q .1) (a .tables) (q .2) p in
+    let a = c .before .before .before .before .before .before .before .args in
+    let q = c .before .before .before .before .before .before .before .pre in
+    let p = c .before .before .before .before .before .patterns .p in
+    let here = c .before .contains .ensures ∙ ap (member (getD (a .sets .now) p 0)) (c .before .before .value-of .ensures .0) ∙ allowed-test (a .n) (a .m) (q .0) (a .sets .now) (q .1) (a .tables) (q .2) p in
     let lp : p < 2 ^ a .n = omega arith in (
       omega arith,
-      below-more _ _ (c .before .before .before .before .patterns .inv .1)
+      below-more _ _ (c .before .before .before .before .before .patterns .inv .1)
           (⊎-elim
-          (λ w. absurd (some-open (a .n) (a .m) (q .0) (a .t3) (q .1) (a .tables) (q .2) p lp (denied here (w .0 .taken)) (λ j l. w .1 .inv .1 j (omega (arith, w .2 .left, w .1 .inv .0)))))
+          (λ w. absurd (some-open (a .n) (a .m) (q .0) (a .sets .now) (q .1) (a .tables) (q .2) p lp (denied here (w .0 .taken)) (λ j l. w .1 .inv .1 j (omega (arith, w .2 .left, w .1 .inv .0)))))
           (λ w. granted here (w .0 .left))
           (c .if1 .came)),
     )
@@ -105,11 +105,11 @@ returns c =
     ⊎-elim
     (λ w. absurd (omega (arith, w .0 .left, c .if3 .taken)))
     (λ w.
-    let here = w .2 .ensures ∙ ap (member (getD (a .t3) p 0)) (w .1 .ensures .0) ∙ allowed-test (a .n) (a .m) (q .0) (a .t3) (q .1) (a .tables) (q .2) p in
-    let j = w .4 .j in
-    ap (Pair p) (w .8)
-    ∙ sym (pair-open (a .n) (a .m) (q .0) (a .t3) (q .1) (a .tables) (q .2) p j lp (omega (arith, w .5 .taken)) (c .before .before .patterns .inv .1) (denied here (w .3 .taken)) (w .4 .inv .1)
-    (told-yes (w .6 .ensures ∙ open-test (a .n) (a .m) (q .0) (a .t3) (q .1) (a .tables) (q .2) p j) (w .7 .taken))))
+    let here = w .3 .ensures ∙ ap (member (getD (a .sets .now) p 0)) (w .2 .ensures .0) ∙ allowed-test (a .n) (a .m) (q .0) (a .sets .now) (q .1) (a .tables) (q .2) p in
+    let j = w .5 .j in
+    ap (Pair p) (w .9)
+    ∙ sym (pair-open (a .n) (a .m) (q .0) (a .sets .now) (q .1) (a .tables) (q .2) p j lp (omega (arith, w .6 .taken)) (c .before .before .patterns .inv .1) (denied here (w .4 .taken)) (w .5 .inv .1)
+    (told-yes (w .7 .ensures ∙ open-test (a .n) (a .m) (q .0) (a .sets .now) (q .1) (a .tables) (q .2) p j) (w .8 .taken))))
     (c .before .patterns-test .came)
 
 returns-2 : tie.Need-returns-2 Inv-loop μ-loop Inv-patterns μ-patterns
@@ -117,7 +117,7 @@ returns-2 c =
     let a = c .before .before .before .before .args in
     let q = c .before .before .before .before .pre in
     ⊎-elim
-    (λ w. sym (none-open (a .n) (a .m) (q .0) (a .t3) (q .1) (a .tables) (q .2)
+    (λ w. sym (none-open (a .n) (a .m) (q .0) (a .sets .now) (q .1) (a .tables) (q .2)
     (λ p l. c .before .before .patterns .inv .1 p (omega (arith, w .0 .left, c .before .before .before .patterns-of .ensures .0)))))
     (λ w. absurd (omega (arith, w .0 .taken, c .if3 .left)))
     (c .before .patterns-test .came)
@@ -134,7 +134,7 @@ first-open-spec =
     patterns-holds
     cast-set
     mul-set
-    array-read-set
+    element-copy-out-set
     value-of-requires
     contains-requires
     loop-holds

@@ -9,7 +9,7 @@ use Rattle.search.proofs.parts.cut_masks.Statement.{statement}
 use Rattle.search.proofs.parts.cut_masks.Tie as tie
 use Rattle.search.proofs.parts.cut_masks.Reads as reads
 use Rattle.search.proofs.parts.cut_masks.Lts as lts
-use Rattle.relation.proofs.patterns.cut_mask.Reads as cut-mask-reads
+use Rattle.search.proofs.parts.cut_mask.Reads as cut-mask-reads
 use Rattle.relation.proofs.values.has.Reads as has-reads
 
 array-read-cut-mask : tie.Need-array-read-cut-mask
