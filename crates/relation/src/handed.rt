@@ -1,4 +1,5 @@
 // The lowest pattern at which a relation handed over as numbers is refused. Sets past the last pattern are not read.
+// Inner functions: the test of a relation handed in has tested the sizes before it calls them.
 ghost use mathlib.Core.Path.{_≡_};
 ghost use Prim.Native.Nat.{_≤_, _^_};
 ghost use lib.Dec.{eqb};

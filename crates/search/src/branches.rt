@@ -1,6 +1,7 @@
 // Visiting a part and splitting a part, which call on each other. Each split closes an open pair of pattern and wire.
 // The sets are lent down: a split narrows the set of its pattern and puts it back, so that no part is copied. Lent too are the best tables so far and
 // the tally: the best cells so far, the visits charged, and 1 once a part was left.
+// Inner functions: `search_sets` and the cycle itself meet what they require.
 use crate::Open;
 use crate::conflicts::first_open;
 use crate::parts::cut_masks;

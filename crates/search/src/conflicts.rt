@@ -1,4 +1,5 @@
 // The pattern and wire to split at.
+// Inner function: `visit` meets what it requires.
 use crate::Open;
 use relation::patterns::patterns_of;
 use relation::patterns::value_of;

@@ -1,5 +1,6 @@
 // What is kept of a part. A split changes the set of one pattern: the masks lose at most that pattern, and a pick whose bit there still occurs is
 // still the pick, since it is the least over more tables.
+// Inner functions: `search_sets`, the first answer and `split` meet what they require.
 use crate::Part;
 use crate::ranks::table_of;
 use relation::patterns::bit_of;

@@ -1,4 +1,5 @@
 // The first answer: wire by wire the pick in what is left (QuickSolver of source 001, section 6.2).
+// Inner function: `search_sets` meets what it requires.
 use crate::State;
 use crate::parts::wire_rank;
 use crate::ranks::cells_of;

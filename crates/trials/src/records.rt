@@ -1,4 +1,6 @@
 // The input: records that follow each other with nothing between. Each begins with a kind byte; numbers of more than one byte come low byte first.
+// Inner functions: the main loop and the replies meet the bounds on places, which are there for the sums alone. What the numbers are is not proved here:
+// the program's output is compared with the solver's.
 use base::byte_at;
 ghost use Prim.Native.Nat.{_≤_};
 ghost use lib.ListN.{length};
