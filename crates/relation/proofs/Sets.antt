@@ -17,7 +17,7 @@ use Rattle.table.specs.Pick.{masked}
 use Rattle.table.proofs.Bits.{sum-cong, bit-cases, bit-ofBits, row-length, row-at}
 use Rattle.relation.specs.Source.{WellDefined, value}
 use Rattle.relation.specs.Tests.{ofSets, wires, keep, agree, occurs, free, isOne}
-use Rattle.relation.specs.Masks.{member, withBit, maskOf, cut, narrowed, agreed, cleared}
+use Rattle.relation.specs.Masks.{member, withBit, maskOf, cut, narrowed, agreed, cleared, NonePast}
 use Rattle.relation.proofs.Decide.{occurs-intro, occurs-at}
 use Rattle.relation.proofs.Splits.{occurs-part}
 use Rattle.relation.proofs.Columns.{one-test, isOne-lt-two, no-member, member-lt, with-test, with-le, maskBit, found-lt}
@@ -144,11 +144,13 @@ none-occurs sets p j b e =
     (ap (λ w. occurs 4 (member w) j b) e
     ∙ test-no (occurs 4 (member 0) j b) (not-T (occurs 4 (member 0) j b) (λ t. let u = occurs-at 4 (member 0) j b t in no-member (u .0) (u .2))))
 
-pub mask-lt : (n m : ℕ) (sets : List ℕ) (j b : ℕ) → Narrow n m sets → n ≤ 4 → maskOf sets j b < 2 ^ (2 ^ n)
+-- the mask of the patterns there are is the whole mask
+pub mask-short : (n : ℕ) (sets : List ℕ) (j b : ℕ) → n ≤ 4 → NonePast n sets → ofBits (2 ^ n) (maskBit sets j b) ≡ maskOf sets j b
 unfolding maskOf
-mask-lt n m sets j b w h =
-    subst (λ x. x < 2 ^ (2 ^ n)) (sym (ofBits-short (maskBit sets j b) (2 ^ n) 16 (pow-mono {i = n} {j = 4} h) (λ p l. none-occurs sets p j b (w .past p l))))
-    (found-lt sets j b (2 ^ n))
+mask-short n sets j b h past = sym (ofBits-short (maskBit sets j b) (2 ^ n) 16 (pow-mono {i = n} {j = 4} h) (λ p l. none-occurs sets p j b (past p l)))
+
+pub mask-lt : (n m : ℕ) (sets : List ℕ) (j b : ℕ) → Narrow n m sets → n ≤ 4 → maskOf sets j b < 2 ^ (2 ^ n)
+mask-lt n m sets j b w h = subst (λ x. x < 2 ^ (2 ^ n)) (mask-short n sets j b h (w .past)) (found-lt sets j b (2 ^ n))
 
 below-sixteen : (n p : ℕ) → n ≤ 4 → p < 2 ^ n → p < 16
 below-sixteen n p h l = lt-of-lt-of-le l (pow-mono {i = n} {j = 4} h)

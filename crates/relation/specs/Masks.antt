@@ -1,5 +1,6 @@
 -- Sets of values and of patterns as numbers, which the code computes with. Sixteen values and sixteen patterns are the most there are.
-use Prim.Native.Nat.{ℕ, _*_, _-_, _^_}
+use Prim.Native.Nat.{ℕ, _*_, _-_, _^_, _≤_}
+use mathlib.Core.Path.{_≡_}
 use mathlib.Core.Bool.{Bool, true, false, cond}
 use mathlib.Core.List.{List}
 use lib.Bits.{bitAnd}
@@ -23,6 +24,10 @@ withBit w j b = bitAnd w (columnOf j b)
 -- the patterns on which some value has wire j at b: bit p is pattern p
 unfoldable pub maskOf : List ℕ → ℕ → ℕ → ℕ
 maskOf sets j b = ofBits 16 (λ p. isOne (occurs 4 (ofSets sets p) j b))
+
+-- no value is allowed past the last pattern of n inputs
+abbrev pub NonePast : ℕ → List ℕ → Type 0
+NonePast n sets = (p : ℕ) → 2 ^ n ≤ p → getD sets p 0 ≡ 0
 
 -- mask x with pattern p taken out unless the test holds
 unfoldable pub cut : ℕ → ℕ → Bool → ℕ

@@ -5,7 +5,7 @@ ghost use Prim.Native.Nat.{_<_, _≤_, _^_};
 ghost use Rattle.table.specs.Bits.{bit};
 ghost use Rattle.relation.specs.Source.{value};
 ghost use Rattle.relation.specs.Tests.{wires};
-ghost use Rattle.relation.specs.Masks.{maskOf, cut, narrowed, agreed, cleared};
+ghost use Rattle.relation.specs.Masks.{maskOf, agreed, cleared, NonePast};
 use crate::values::column;
 use crate::values::with_bit;
 
@@ -42,38 +42,20 @@ pub fn value_of(tables: [u16; 4], p: u8) -> u8
         + 8 * bit_of(tables[3], p)) as u8
 }
 
-// The patterns on which some value has wire j at b: the projection of the relation on the wire.
-pub fn mask(sets: [u16; 16], j: u8, b: u8) -> u16
-    requires { ⌜ (j < 4) × (b < 2) ⌝ }
+// The patterns on which some value has wire j at b: the projection of the relation on the wire. Sets past the last pattern are empty and not read.
+pub fn mask(n: u8, sets: [u16; 16], j: u8, b: u8) -> u16
+    requires { ⌜ (n ≤ 4) × (j < 4) × (b < 2) × NonePast n sets ⌝ }
     ensures { λ r. ⌜ r ≡ maskOf sets j b ⌝ }
 {
     let c = column(j, b);
+    let count = patterns_of(n);
     let mut found: u16 = 0;
-    for p in 0..16u8 {
+    for p in 0..count {
         if sets[p as usize] & c != 0 {
             found += 1 << p;
         }
     }
     found
-}
-
-// A mask with pattern p taken out, unless it is kept: only this bit of a mask can change when the pattern's set is narrowed.
-pub fn cut_mask(x: u16, p: u8, kept: bool) -> u16
-    requires { ⌜ p < 16 ⌝ }
-    ensures { λ r. ⌜ r ≡ cut x p kept ⌝ }
-{
-    if kept { x } else { x - (bit_of(x, p) << p) }
-}
-
-// The sets once wire j is b on pattern p: one part of a split.
-pub fn narrow(sets: [u16; 16], p: u8, j: u8, b: u8) -> [u16; 16]
-    requires { ⌜ (p < 16) × (j < 4) × (b < 2) ⌝ }
-    ensures { λ r. ⌜ r ≡ narrowed sets p j b ⌝ }
-{
-    let mut next = sets;
-    let at = p as usize;
-    next[at] = with_bit(sets[at], j, b);
-    next
 }
 
 // The sets less the values that disagree with table t of wire j.

@@ -3,6 +3,7 @@ pub mod Promised
 pub mod Depth
 pub mod Families
 pub mod Keeping
+pub mod Whole
 pub mod Opening
 pub mod Steps
 pub mod Branching

@@ -1,5 +1,5 @@
 -- What the code keeps of a part: its sets, and for each wire the two masks of its projection and the rank of its pick.
-use Prim.Native.Nat.{ℕ, _^_, _/_, _%_, _<_, _≤_}
+use Prim.Native.Nat.{ℕ, _+_, _*_, _^_, _/_, _%_, _<_, _≤_}
 use mathlib.Core.Path.{_≡_}
 use mathlib.Core.Bool.{cond}
 use lib.Dec.{T, eqb}
@@ -10,8 +10,8 @@ use Rattle.table.specs.Bits.{bit, sum, row}
 use Rattle.table.specs.Pick.{pickOf, rank, tableSpace}
 use Rattle.table.specs.Blocks.{Covered}
 use Rattle.relation.specs.Source.{Rel, Tables, WellDefined, value}
-use Rattle.relation.specs.Tests.{ofSets, wires, occurs, compatible, conflict, freeWire}
-use Rattle.relation.specs.Masks.{member, maskOf, cut}
+use Rattle.relation.specs.Tests.{ofSets, wires, isOne, occurs, compatible, conflict, freeWire}
+use Rattle.relation.specs.Masks.{member, maskOf, cut, NonePast}
 use Rattle.search.specs.declared.Part.{Part}
 use Rattle.search.specs.declared.State.{State}
 use Rattle.search.specs.declared.Open.{Open}
@@ -26,16 +26,31 @@ pub record Sized (n m : ℕ) : Type 0 where
 pub record Sets (n m : ℕ) (sets : List ℕ) : Type 0 where
   pub long : length sets ≡ 16
   pub small : (p : ℕ) → getD sets p 0 < 2 ^ (2 ^ m)
-  pub past : (p : ℕ) → 2 ^ n ≤ p → getD sets p 0 ≡ 0
+  pub past : NonePast n sets
   pub defined : WellDefined n m (ofSets sets)
 
 -- the masks of the wires' projections: where each can be b
 unfoldable pub masksOf : List ℕ → ℕ → List ℕ
 masksOf sets b = row maxWires (λ j. maskOf sets j b)
 
--- the ranks of the wires' picks
+-- masks of the patterns below p
+abbrev pub MasksBelow : List ℕ → ℕ → Type 0
+MasksBelow masks p = (j : ℕ) → j < maxWires → getD masks j 0 < 2 ^ p
+
+-- such masks with pattern p put in where b occurs in its set w
+unfoldable pub putMasks : List ℕ → ℕ → ℕ → ℕ → List ℕ
+putMasks masks p w b = row maxWires (λ j. getD masks j 0 + isOne (occurs 4 (member w) j b) * 2 ^ p)
+
+-- the ranks of the picks between masks
+unfoldable pub ranksBetween : ℕ → List ℕ → List ℕ → List ℕ
+ranksBetween n zeros ones = row maxWires (λ j. rank n (pickOf n (getD zeros j 0) (getD ones j 0)))
+
+-- the rank of a wire's pick, and of all wires' picks
+abbrev pub rankOf : ℕ → List ℕ → ℕ → ℕ
+rankOf n sets j = rank n (pickOf n (maskOf sets j 0) (maskOf sets j 1))
+
 unfoldable pub ranksOf : ℕ → List ℕ → List ℕ
-ranksOf n sets = row maxWires (λ j. rank n (pickOf n (maskOf sets j 0) (maskOf sets j 1)))
+ranksOf n sets = row maxWires (rankOf n sets)
 
 pub record Held (n m : ℕ) (s z o r : List ℕ) : Type 0 where
   pub sized : Sized n m

@@ -66,7 +66,7 @@ fn search_sets(n: u8, m: u8, sets: [u16; 16], budget: u32) -> Answer
     let table = blocks();
     let whole = parts::whole(&table, n, m, sets);
     let ranks = whole.ranks;
-    let start = quick_solver::quick(&table, n, m, sets);
+    let start = quick_solver::quick(&table, n, m, sets, ranks[0]);
     let zeros = whole.zeros;
     let ones = whole.ones;
     let floor = ranks::floor_of(ranks);

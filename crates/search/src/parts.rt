@@ -5,45 +5,69 @@ use crate::Part;
 use crate::ranks::table_of;
 use relation::patterns::bit_of;
 use relation::patterns::mask;
+use relation::patterns::patterns_of;
 use relation::values::has;
 use table::picks::pick;
 ghost use mathlib.Core.Path.{_≡_};
 ghost use mathlib.Core.Bool.{cond};
-ghost use Prim.Native.Nat.{_<_, _≤_, _^_};
+ghost use Prim.Native.Nat.{_+_, _*_, _<_, _≤_, _^_};
 ghost use Rattle.table.specs.Blocks.{Blocks, Covered};
-ghost use Rattle.table.specs.Pick.{pickOf, rank};
-ghost use Rattle.relation.specs.Masks.{maskOf, cut};
-ghost use Rattle.search.specs.Kept.{Sized, Sets, masksOf, ranksOf, cutMasks, rankAgain, ranksAgain, MasksCover, Kept};
+ghost use Rattle.relation.specs.Tests.{isOne};
+ghost use Rattle.relation.specs.Masks.{cut, NonePast};
+ghost use Rattle.search.specs.Kept.{Sized, Sets, rankOf, masksOf, MasksBelow, putMasks, ranksBetween, cutMasks, rankAgain, ranksAgain, MasksCover, Kept};
 
-fn masks_of(sets: [u16; 16], b: u8) -> [u16; 4]
-    requires { ⌜ b < 2 ⌝ }
-    ensures { λ r. ⌜ r ≡ masksOf sets b ⌝ }
+// A mask of patterns below p, with pattern p put in where it is there.
+fn put_mask(x: u16, p: u8, there: bool) -> u16
+    requires { ⌜ (p < 16) × (x < 2 ^ p) ⌝ }
+    ensures { λ r. ⌜ r ≡ x + isOne there * 2 ^ p ⌝ }
+{
+    if there { x + (1 << p) } else { x }
+}
+
+fn put_masks(masks: [u16; 4], p: u8, set: u16, b: u8) -> [u16; 4]
+    requires { ⌜ (p < 16) × (b < 2) × MasksBelow masks p ⌝ }
+    ensures { λ r. ⌜ r ≡ putMasks masks p set b ⌝ }
 {
     [
-        mask(sets, 0, b),
-        mask(sets, 1, b),
-        mask(sets, 2, b),
-        mask(sets, 3, b),
+        put_mask(masks[0], p, has(set, 0, b)),
+        put_mask(masks[1], p, has(set, 1, b)),
+        put_mask(masks[2], p, has(set, 2, b)),
+        put_mask(masks[3], p, has(set, 3, b)),
     ]
+}
+
+// The masks of all wires in one pass over the patterns.
+fn masks_of(n: u8, sets: [u16; 16], b: u8) -> [u16; 4]
+    requires { ⌜ (n ≤ 4) × (b < 2) × NonePast n sets ⌝ }
+    ensures { λ r. ⌜ r ≡ masksOf sets b ⌝ }
+{
+    let count = patterns_of(n);
+    let mut found = [0u16; 4];
+    for p in 0..count {
+        let set = sets[p as usize];
+        let next = put_masks(found, p, set, b);
+        found = next;
+    }
+    found
 }
 
 // The rank of one wire's pick.
 pub fn wire_rank(e: &[u16; 256], n: u8, m: u8, sets: [u16; 16], j: u8) -> u32
     requires { ⌜ Blocks (now e) × Sized n m × Sets n m sets × (j < 4) ⌝ }
-    ensures { λ r. ⌜ r ≡ rank n (pickOf n (maskOf sets j 0) (maskOf sets j 1)) ⌝ }
+    ensures { λ r. ⌜ r ≡ rankOf n sets j ⌝ }
 {
-    pick(e, n, mask(sets, j, 0), mask(sets, j, 1))
+    pick(e, n, mask(n, sets, j, 0), mask(n, sets, j, 1))
 }
 
-fn ranks_of(e: &[u16; 256], n: u8, m: u8, sets: [u16; 16]) -> [u32; 4]
-    requires { ⌜ Blocks (now e) × Sized n m × Sets n m sets ⌝ }
-    ensures { λ r. ⌜ r ≡ ranksOf n sets ⌝ }
+fn ranks_of(e: &[u16; 256], n: u8, zeros: [u16; 4], ones: [u16; 4]) -> [u32; 4]
+    requires { ⌜ Blocks (now e) × (1 ≤ n) × (n ≤ 4) × MasksCover n zeros ones ⌝ }
+    ensures { λ r. ⌜ r ≡ ranksBetween n zeros ones ⌝ }
 {
     [
-        wire_rank(e, n, m, sets, 0),
-        wire_rank(e, n, m, sets, 1),
-        wire_rank(e, n, m, sets, 2),
-        wire_rank(e, n, m, sets, 3),
+        pick(e, n, zeros[0], ones[0]),
+        pick(e, n, zeros[1], ones[1]),
+        pick(e, n, zeros[2], ones[2]),
+        pick(e, n, zeros[3], ones[3]),
     ]
 }
 
@@ -52,9 +76,9 @@ pub fn whole(e: &[u16; 256], n: u8, m: u8, sets: [u16; 16]) -> Part
     requires { ⌜ Blocks (now e) × Sized n m × Sets n m sets ⌝ }
     ensures { λ r. ⌜ Kept r × (r .n ≡ n) × (r .m ≡ m) × (r .sets ≡ sets) ⌝ }
 {
-    let zeros = masks_of(sets, 0);
-    let ones = masks_of(sets, 1);
-    let ranks = ranks_of(e, n, m, sets);
+    let zeros = masks_of(n, sets, 0);
+    let ones = masks_of(n, sets, 1);
+    let ranks = ranks_of(e, n, zeros, ones);
     Part {
         n,
         m,

@@ -1,26 +1,39 @@
 // The first answer: wire by wire the pick in what is left (QuickSolver of source 001, section 6.2).
-// Inner function: `search_sets` meets what it requires.
+// Inner functions: `search_sets` and `quick` meet what they require.
 use crate::State;
 use crate::parts::wire_rank;
 use crate::ranks::cells_of;
 use crate::ranks::table_of;
 use relation::patterns::agreeing;
 ghost use mathlib.Core.Path.{_≡_};
+ghost use Prim.Native.Nat.{_<_};
 ghost use Rattle.table.specs.Blocks.{Blocks};
 ghost use Rattle.relation.specs.Tests.{ofSets};
 ghost use Rattle.search.specs.Search.{start};
 ghost use Rattle.search.specs.TreeBoard.{tree};
-ghost use Rattle.search.specs.Kept.{Sized, Sets};
+ghost use Rattle.search.specs.Kept.{Sized, Sets, rankOf};
 
-pub fn quick(e: &[u16; 256], n: u8, m: u8, sets: [u16; 16]) -> State
-    requires { ⌜ Blocks (now e) × Sized n m × Sets n m sets ⌝ }
+// The rank of wire j's pick in what is left. Nothing is taken away before the first wire: its pick is the whole relation's, which the caller has.
+fn rank_left(e: &[u16; 256], n: u8, m: u8, left: [u16; 16], j: u8, first: u32) -> u32
+    requires { ⌜ Blocks (now e) × Sized n m × Sets n m left × (j < 4) × (j ≡ 0 → first ≡ rankOf n left 0) ⌝ }
+    ensures { λ r. ⌜ r ≡ rankOf n left j ⌝ }
+{
+    if j == 0 {
+        first
+    } else {
+        wire_rank(e, n, m, left, j)
+    }
+}
+
+pub fn quick(e: &[u16; 256], n: u8, m: u8, sets: [u16; 16], first: u32) -> State
+    requires { ⌜ Blocks (now e) × Sized n m × Sets n m sets × (first ≡ rankOf n sets 0) ⌝ }
     ensures { λ r. ⌜ r ≡ start (tree n m) (ofSets sets) ⌝ }
 {
     let mut left = sets;
     let mut tables = [0u16; 4];
     let mut cells: u32 = 0;
     for j in 0..m {
-        let rank = wire_rank(e, n, m, left, j);
+        let rank = rank_left(e, n, m, left, j, first);
         let t = table_of(rank);
         let next = agreeing(left, j, t);
         left = next;

@@ -6,6 +6,7 @@ use Rattle.search.specs.Search.{run}
 use Rattle.search.specs.TreeBoard.{tree}
 use Rattle.search.specs.Kept.{stateOf}
 use Rattle.search.proofs.Branching.{floor-is}
+use Rattle.search.proofs.Whole.{rank-first}
 use Rattle.search.proofs.Entry.{held-whole, ran, stopped-answer, best-answer}
 use borrow.Author.Needs.{needs}
 use Rattle.search.proofs.search_sets.Statement.{statement}
@@ -17,8 +18,15 @@ blocks-requires c κs = search needs
 whole-requires : tie.Need-whole-requires
 whole-requires c κs = search needs
 
+array-read-quick : tie.Need-array-read-quick
+array-read-quick c = search needs
+
 quick-requires : tie.Need-quick-requires
-quick-requires c κs = search needs
+quick-requires c κs =
+    let a = c .before .before .before .before .before .args in
+    let q = c .before .before .before .before .before .pre in
+    let w = c .before .before .whole in
+    (c .before .before .before .before .blocks2 .ensures, q .0, q .1, rank-first (a .n) (a .sets) (held-whole (w .result) (w .ensures .0) (w .ensures .1) (w .ensures .2) (w .ensures .3) .ranks))
 
 floor-of-requires : tie.Need-floor-of-requires
 floor-of-requires c κs = search needs
@@ -65,6 +73,7 @@ search-sets-spec =
     (tie.spec
     blocks-requires
     whole-requires
+    array-read-quick
     quick-requires
     floor-of-requires
     visit-requires

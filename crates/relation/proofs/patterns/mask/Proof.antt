@@ -1,7 +1,7 @@
 -- `mask` meets its contract: what is found so far is the mask of the patterns passed.
 use mathlib.Core.Path.{_≡_, refl, _∙_, ap}
 use mathlib.Core.Logic.{⊎-elim}
-use Prim.Native.Nat.{_-_, _<_, _≤_, suc}
+use Prim.Native.Nat.{_-_, _^_, _<_, _≤_, suc}
 use native.Mathlib.Omega.{arith}
 use lib.ListN.{getD}
 use lib.Pow.{pow-mono}
@@ -9,20 +9,23 @@ use mir.Val.{Fits}
 use mir.Syntax.{w16}
 use borrow.Author.Needs.{needs}
 use Rattle.table.specs.Bits.{ofBits, sum}
-use Rattle.relation.specs.Masks.{maskOf}
 use Rattle.table.proofs.Bits.{shifted-one}
 use Rattle.relation.proofs.Columns.{maskBit, found-one, found-none, found-lt}
+use Rattle.relation.proofs.Sets.{mask-short}
 use Rattle.relation.proofs.patterns.mask.Statement.{statement}
 use Rattle.relation.proofs.patterns.mask.Tie as tie
 
 abbrev Inv-loop : tie.InvT-loop
-Inv-loop j b sets c found₀ p₀ found p = (p ≤ 16) × (found ≡ ofBits p (maskBit sets j b))
+Inv-loop n j b sets c count found₀ p₀ found p = (p ≤ count) × (found ≡ ofBits p (maskBit sets j b))
 
 abbrev μ-loop : tie.MeasureT-loop
-μ-loop j b sets c found₀ p₀ found p = 16 - p
+μ-loop n j b sets c count found₀ p₀ found p = count - p
 
 column-requires : tie.Need-column-requires Inv-loop μ-loop
 column-requires c κs = search needs
+
+patterns-of-requires : tie.Need-patterns-of-requires Inv-loop μ-loop
+patterns-of-requires c κs = search needs
 
 loop-holds : tie.Need-loop-holds Inv-loop μ-loop
 unfolding ofBits sum
@@ -45,10 +48,11 @@ shl-found c = search needs
 
 add-found : tie.Need-add-found Inv-loop μ-loop
 add-found c =
-    let a = c .before .before .before .before .args in
+    let a = c .before .before .before .before .before .args in
     let l = c .before .before .loop in
-    let b : l .p < 16 = omega arith in
-    omega (arith, l .inv .1, shifted-one (l .p) 16 b, found-lt (a .t1) (a .j) (a .b) (l .p), pow-mono {i = suc (l .p)} {j = 16} b)
+    let k = c .before .before .before .patterns-of in
+    let b : l .p < 16 = omega (arith, k .ensures .1) in
+    omega (arith, l .inv .1, shifted-one (l .p) 16 b, found-lt (a .t2) (a .j) (a .b) (l .p), pow-mono {i = suc (l .p)} {j = 16} b)
 
 add-p : tie.Need-add-p Inv-loop μ-loop
 add-p c = search needs
@@ -58,24 +62,26 @@ loop-less c = search needs
 
 loop-again : tie.Need-loop-again Inv-loop μ-loop
 loop-again c =
-    let a = c .before .before .before .before .args in
+    let a = c .before .before .before .before .before .args in
     let l = c .before .before .loop in
-    let column = c .before .before .before .column in
-    let b : l .p < 16 = omega arith in
-    let small : Fits w16 (getD (a .t1) (l .p) 0) = search needs in (
+    let column = c .before .before .before .before .column in
+    let k = c .before .before .before .patterns-of in
+    let b : l .p < 16 = omega (arith, k .ensures .1) in
+    let small : Fits w16 (getD (a .t2) (l .p) 0) = search needs in (
       omega arith,
       ⊎-elim
-          (λ w. omega (arith, w .1, l .inv .1, shifted-one (l .p) 16 b, found-one (a .t1) (l .p) (a .j) (a .b) (column .result) (small .fits) (column .ensures) (w .0 .taken)))
-          (λ w. omega (arith, w .1, l .inv .1, found-none (a .t1) (l .p) (a .j) (a .b) (column .result) (small .fits) (column .ensures) (w .0 .left)))
+          (λ w. omega (arith, w .1, l .inv .1, shifted-one (l .p) 16 b, found-one (a .t2) (l .p) (a .j) (a .b) (column .result) (small .fits) (column .ensures) (w .0 .taken)))
+          (λ w. omega (arith, w .1, l .inv .1, found-none (a .t2) (l .p) (a .j) (a .b) (column .result) (small .fits) (column .ensures) (w .0 .left)))
           (c .if1 .came),
     )
 
 returns : tie.Need-returns Inv-loop μ-loop
-unfolding maskOf
 returns c =
-    let a = c .before .before .before .args in
-    let e : c .before .loop .p ≡ 16 = omega arith in
-    c .before .loop .inv .1 ∙ ap (λ p. ofBits p (maskBit (a .t1) (a .j) (a .b))) e
+    let a = c .before .before .before .before .args in
+    let q = c .before .before .before .before .pre in
+    let k = c .before .before .patterns-of in
+    let e : c .before .loop .p ≡ 2 ^ a .n = omega (arith, k .ensures .0) in
+    c .before .loop .inv .1 ∙ ap (λ p. ofBits p (maskBit (a .t2) (a .j) (a .b))) e ∙ mask-short (a .n) (a .t2) (a .j) (a .b) (q .0) (q .3)
 
 pub mask-spec : {M : Type 1} → statement M
 mask-spec =
@@ -84,6 +90,7 @@ mask-spec =
     Inv-loop
     μ-loop
     column-requires
+    patterns-of-requires
     loop-holds
     cast-if1
     mul-if1

@@ -1,4 +1,5 @@
 use mathlib.Core.Path.{_≡_, ap₂, _∙_, sym}
+use native.Mathlib.Omega.{arith}
 use Rattle.relation.specs.Masks.{maskOf}
 use Rattle.table.specs.Pick.{pickOf, rank}
 use Rattle.relation.proofs.Sets.{mask-lt}
@@ -12,10 +13,10 @@ use Rattle.relation.proofs.patterns.mask.Reads as mask-reads
 use Rattle.table.proofs.picks.pick.Reads as pick-reads
 
 mask-requires : tie.Need-mask-requires
-mask-requires c κs = search needs
+mask-requires c κs = let q = c .pre in (q .1 .inputs, q .3, omega arith, q .2 .past)
 
 mask-requires-2 : tie.Need-mask-requires-2
-mask-requires-2 c κs = search needs
+mask-requires-2 c κs = let q = c .before .pre in (q .1 .inputs, q .3, omega arith, q .2 .past)
 
 pick-requires : tie.Need-pick-requires
 pick-requires c κs =

@@ -1,29 +1,33 @@
 use Prim.Native.Nat.{ℕ, _+_, _-_, _<_, _≤_}
-use mathlib.Core.Path.{_≡_}
+use mathlib.Core.Path.{_≡_, refl, ap, sym, _∙_}
 use native.Mathlib.Omega.{arith}
 use borrow.Author.Needs.{needs}
-use Rattle.search.specs.Kept.{Sized, Sets}
+use Rattle.search.specs.Kept.{Sized, Sets, rankOf}
 use Rattle.search.proofs.FirstAnswer.{Taken, none-taken, next-taken, all-taken}
 use Rattle.search.proofs.quick_solver.quick.Statement.{statement}
 use Rattle.search.proofs.quick_solver.quick.Tie as tie
 use Rattle.search.proofs.quick_solver.quick.Reads as reads
 use Rattle.search.proofs.quick_solver.quick.Lts as lts
 use Rattle.relation.proofs.patterns.agreeing.Reads as agreeing-reads
-use Rattle.search.proofs.parts.wire_rank.Reads as wire-rank-reads
+use Rattle.search.proofs.quick_solver.rank_left.Reads as rank-left-reads
 use Rattle.search.proofs.ranks.cells_of.Reads as cells-of-reads
 use Rattle.search.proofs.ranks.table_of.Reads as table-of-reads
 
 abbrev Inv-loop : tie.InvT-loop
-Inv-loop e n m left₀ tables₀ cells₀ j₀ left tables cells j = Taken n m left₀ j left tables cells
+Inv-loop e n m first left₀ tables₀ cells₀ j₀ left tables cells j = Taken n m left₀ j left tables cells × (j ≡ 0 → left ≡ left₀)
 
 abbrev μ-loop : tie.MeasureT-loop
-μ-loop e n m left₀ tables₀ cells₀ j₀ left tables cells j = m - j
+μ-loop e n m first left₀ tables₀ cells₀ j₀ left tables cells j = m - j
 
 loop-holds : tie.Need-loop-holds Inv-loop μ-loop
-loop-holds c = none-taken (c .args .n) (c .args .m) (c .args .sets) (c .pre .2)
+loop-holds c = (none-taken (c .args .n) (c .args .m) (c .args .sets) (c .pre .2), λ _. refl)
 
-wire-rank-requires : tie.Need-wire-rank-requires Inv-loop μ-loop
-wire-rank-requires c κs = let q = c .before .before .pre in (q .0, q .1, c .before .loop .inv .kept, omega (arith, q .1 .wires))
+rank-left-requires : tie.Need-rank-left-requires Inv-loop μ-loop
+rank-left-requires c κs =
+    let a = c .before .before .args in
+    let q = c .before .before .pre in
+    let l = c .before .loop in
+    (q .0, q .1, l .inv .0 .kept, omega (arith, q .1 .wires), λ e. q .3 ∙ ap (λ s. rankOf (a .n) s 0) (sym (l .inv .1 e)))
 
 table-of-requires : tie.Need-table-of-requires Inv-loop μ-loop
 table-of-requires c κs = search needs
@@ -44,7 +48,7 @@ cells-of-requires : tie.Need-cells-of-requires Inv-loop μ-loop
 cells-of-requires c κs = search needs
 
 add-cells : tie.Need-add-cells Inv-loop μ-loop
-add-cells c = omega (arith, c .before .before .before .before .before .before .pre .1 .wires, c .before .before .before .before .before .loop .inv .few, c .before .before .before .before .before .loop .inv .reached)
+add-cells c = omega (arith, c .before .before .before .before .before .before .pre .1 .wires, c .before .before .before .before .before .loop .inv .0 .few, c .before .before .before .before .before .loop .inv .0 .reached)
 
 add-j : tie.Need-add-j Inv-loop μ-loop
 add-j c = omega arith
@@ -57,16 +61,18 @@ loop-again c =
     let a = c .before .before .before .before .before .before .args in
     let q = c .before .before .before .before .before .before .pre in
     let l = c .before .before .before .before .before .loop in
-    let r = c .before .before .before .wire-rank in
-    rw (c .before .agreeing .ensures)
-    (next-taken (a .n) (a .m) (q .1) (a .sets) (l .j) (l .left) (l .tables) (l .cells) (l .inv) (c .before .before .before .before .loop-test .taken) (r .result) (r .ensures)
-    (c .before .before .table-of .result) (c .cells-of .result) (c .before .before .table-of .ensures) (c .cells-of .ensures .0) (c .cells-of .ensures .1))
+    let r = c .before .before .before .rank-left in (
+      rw (c .before .agreeing .ensures)
+          (next-taken (a .n) (a .m) (q .1) (a .sets) (l .j) (l .left) (l .tables) (l .cells) (l .inv .0) (c .before .before .before .before .loop-test .taken) (r .result) (r .ensures)
+          (c .before .before .table-of .result) (c .cells-of .result) (c .before .before .table-of .ensures) (c .cells-of .ensures .0) (c .cells-of .ensures .1)),
+      λ e. absurd (omega arith),
+    )
 
 returns : tie.Need-returns Inv-loop μ-loop
 returns c =
     let a = c .before .before .args in
     let l = c .before .loop in
-    all-taken (a .n) (a .m) (c .before .before .pre .1) (a .sets) (l .left) (l .tables) (l .cells) (l .j) (omega (arith, l .inv .reached, c .loop-test .left)) (l .inv)
+    all-taken (a .n) (a .m) (c .before .before .pre .1) (a .sets) (l .left) (l .tables) (l .cells) (l .j) (omega (arith, l .inv .0 .reached, c .loop-test .left)) (l .inv .0)
 
 pub quick-spec : {M : Type 1} → statement M
 quick-spec =
@@ -75,7 +81,7 @@ quick-spec =
     Inv-loop
     μ-loop
     loop-holds
-    wire-rank-requires
+    rank-left-requires
     table-of-requires
     agreeing-requires
     cast-tables
