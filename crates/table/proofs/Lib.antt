@@ -7,3 +7,4 @@ pub mod Count
 pub mod Ranks
 pub mod Masks
 pub mod Entries
+pub mod Places

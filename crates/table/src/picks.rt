@@ -2,10 +2,10 @@
 // patterns of the mask `ones`. A result is one number, its rank: cells, then the table. Blocks of two inputs are looked up in a table that the caller
 // lends, since a constant is copied by every function that names it.
 ghost use mathlib.Core.Path.{_≡_};
-ghost use Prim.Native.Nat.{_<_, _≤_, _^_, _+_, _*_, min};
+ghost use Prim.Native.Nat.{_<_, _≤_, _^_, _+_, _*_, _/_, _%_, min};
 ghost use Rattle.table.specs.Cells.{cells};
 ghost use Rattle.table.specs.Pick.{leastOf, masked, pickOf, rank};
-ghost use Rattle.table.specs.Blocks.{blockOf, Blocks, Shown, Covered};
+ghost use Rattle.table.specs.Blocks.{blockOf, placeOf, Blocks, Shown, Covered};
 
 // The pick of each pair of masks of two inputs, at zeros * 16 + ones: cells * 256 + table * 17, the table twice side by side.
 // Where a pattern has neither 0 nor 1 there is none: 64 cells.
@@ -281,23 +281,29 @@ fn lesser(a: u32, b: u32) -> u32
     if a < b { a } else { b }
 }
 
-// Two inputs: an entry of the table.
-fn block(e: &[u16; 256], zeros: u32, ones: u32) -> u32
-    requires { ⌜ Blocks (now e) × (zeros < 16) × (ones < 16) ⌝ }
-    ensures { λ r. ⌜ (r ≡ blockOf zeros ones) × (r ≤ 16384) ⌝ }
+// The place in the table of the lowest four patterns of two masks. The places of two blocks, bit by bit together, are the place of what both have.
+fn place(zeros: u32, ones: u32) -> u32
+    ensures { λ r. ⌜ (r ≡ placeOf zeros ones) × (r < 256) ⌝ }
 {
-    let at = (zeros * 16 + ones) as usize;
-    e[at] as u32
+    zeros % 16 * 16 + ones % 16
 }
 
-// Three inputs: cells * 256 + table.
-fn pick3(e: &[u16; 256], zeros: u32, ones: u32) -> u32
-    requires { ⌜ Blocks (now e) × (zeros < 256) × (ones < 256) ⌝ }
-    ensures { λ r. ⌜ Shown 3 256 (leastOf (cells 3) 3 (masked zeros ones)) r × (r ≤ 16384) ⌝ }
+// Two inputs: an entry of the table.
+fn block(e: &[u16; 256], at: u32) -> u32
+    requires { ⌜ Blocks (now e) × (at < 256) ⌝ }
+    ensures { λ r. ⌜ (r ≡ blockOf (at / 16) (at % 16)) × (r ≤ 16384) ⌝ }
 {
-    let a = block(e, zeros % 16, ones % 16);
-    let b = block(e, zeros / 16, ones / 16);
-    let c = block(e, (zeros % 16) & (zeros / 16), (ones % 16) & (ones / 16));
+    e[at as usize] as u32
+}
+
+// Three inputs, from the places of the lower and the upper half: cells * 256 + table.
+fn pick3(e: &[u16; 256], low: u32, high: u32) -> u32
+    requires { ⌜ Blocks (now e) × (low < 256) × (high < 256) ⌝ }
+    ensures { λ r. ⌜ Shown 3 256 (leastOf (cells 3) 3 (masked (high / 16 * 16 + low / 16) (high % 16 * 16 + low % 16))) r × (r ≤ 16384) ⌝ }
+{
+    let a = block(e, low);
+    let b = block(e, high);
+    let c = block(e, low & high);
     lesser(c, (a / 256 + 1) * 256 + a % 16 + b / 16 * 16)
 }
 
@@ -306,13 +312,13 @@ fn pick4(e: &[u16; 256], zeros: u32, ones: u32) -> u32
     requires { ⌜ Blocks (now e) × (zeros < 65536) × (ones < 65536) ⌝ }
     ensures { λ r. ⌜ Shown 4 65536 (leastOf (cells 4) 4 (masked zeros ones)) r ⌝ }
 {
-    let a = pick3(e, zeros % 256, ones % 256);
-    let b = pick3(e, zeros / 256, ones / 256);
-    let c = pick3(
-        e,
-        (zeros % 256) & (zeros / 256),
-        (ones % 256) & (ones / 256),
-    );
+    let a0 = place(zeros, ones);
+    let a1 = place(zeros / 16, ones / 16);
+    let b0 = place(zeros / 256, ones / 256);
+    let b1 = place(zeros / 4096, ones / 4096);
+    let a = pick3(e, a0, a1);
+    let b = pick3(e, b0, b1);
+    let c = pick3(e, a0 & b0, a1 & b1);
     lesser(c * 256 + c % 256, (a / 256 + 1) * 65536 + a % 256 + b * 256)
 }
 
@@ -325,15 +331,15 @@ pub fn pick(e: &[u16; 256], n: u8, zeros: u16, ones: u16) -> u32
     let o = ones as u32;
     match n {
         1 => {
-            let x = block(e, z * 5, o * 5);
+            let x = block(e, place(z * 5, o * 5));
             x / 256 * 65536 + x % 4
         }
         2 => {
-            let x = block(e, z, o);
+            let x = block(e, place(z, o));
             x / 256 * 65536 + x % 16
         }
         3 => {
-            let x = pick3(e, z, o);
+            let x = pick3(e, place(z, o), place(z / 16, o / 16));
             x / 256 * 65536 + x % 256
         }
         _ => pick4(e, z, o),

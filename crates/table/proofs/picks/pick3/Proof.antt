@@ -1,7 +1,6 @@
-use Prim.Native.Nat.{_+_, _*_, _/_, _%_}
 use native.Mathlib.Omega.{arith}
-use lib.Bits.{bitAnd, and-le-l}
-use Rattle.table.proofs.Entries.{three-shown}
+use lib.Bits.{and-le-l}
+use Rattle.table.proofs.Places.{three-places}
 use borrow.Author.Needs.{needs}
 use Rattle.table.proofs.picks.pick3.Statement.{statement}
 use Rattle.table.proofs.picks.pick3.Tie as tie
@@ -18,8 +17,8 @@ block-requires-2 c κs = search needs
 
 block-requires-3 : tie.Need-block-requires-3
 block-requires-3 c κs =
-    let a = c .before .before .args in
-    (c .before .before .pre .0, omega (arith, and-le-l (a .zeros % 16) (a .zeros / 16)), omega (arith, and-le-l (a .ones % 16) (a .ones / 16)))
+    let i = c .before .before in
+    (i .pre .0, omega (arith, i .pre .1, and-le-l (i .args .low) (i .args .high)))
 
 add-lesser : tie.Need-add-lesser
 add-lesser c = search needs
@@ -41,9 +40,12 @@ lesser-requires c κs = search needs
 
 returns : tie.Need-returns
 returns c =
-    let a = c .before .before .before .before .args in
-    let s = three-shown (a .zeros) (a .ones) (c .before .before .before .block .result) (c .before .before .block2 .result) (c .before .block3 .result) (c .before .before .before .block .ensures .0) (c .before .before .block2 .ensures .0) (c .before .block3 .ensures .0) in
-    (rw (c .lesser .ensures) s, omega (arith, c .lesser .ensures, c .before .block3 .ensures .1))
+    let a = c .before .before .before .block in
+    let b = c .before .before .block2 in
+    let d = c .before .block3 in
+    let i = c .before .before .before .before in
+    let s = three-places (i .args .low) (i .args .high) (a .result) (b .result) (d .result) (i .pre .1) (a .ensures .0) (b .ensures .0) (d .ensures .0) in
+    (rw (c .lesser .ensures) s, omega (arith, c .lesser .ensures, d .ensures .1))
 
 pub pick3-spec : {M : Type 1} → statement M
 pick3-spec =
