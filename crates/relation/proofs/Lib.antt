@@ -3,3 +3,4 @@ pub mod Splits
 pub mod Columns
 pub mod Fits
 pub mod Sets
+pub mod Side

@@ -1,5 +1,5 @@
 -- Sets of values and of patterns as numbers, which the code computes with. Sixteen values and sixteen patterns are the most there are.
-use Prim.Native.Nat.{ℕ, _*_, _-_, _^_, _≤_}
+use Prim.Native.Nat.{ℕ, _+_, _*_, _-_, _^_, _≤_}
 use mathlib.Core.Path.{_≡_}
 use mathlib.Core.Bool.{Bool, true, false, cond}
 use mathlib.Core.List.{List}
@@ -24,6 +24,14 @@ withBit w j b = bitAnd w (columnOf j b)
 -- the patterns on which some value has wire j at b: bit p is pattern p
 unfoldable pub maskOf : List ℕ → ℕ → ℕ → ℕ
 maskOf sets j b = ofBits 16 (λ p. isOne (occurs 4 (ofSets sets p) j b))
+
+-- four tables side by side in one number, 16 bits each
+unfoldable pub sideBySide : List ℕ → ℕ
+sideBySide tables = getD tables 0 0 + getD tables 1 0 * 2 ^ 16 + getD tables 2 0 * 2 ^ 32 + getD tables 3 0 * 2 ^ 48
+
+-- the value on pattern p of four tables side by side: wire j is bit p of the 16 bits at 16 * j
+unfoldable pub valueIn : ℕ → ℕ → ℕ
+valueIn x p = ofBits 4 (λ j. bit x (16 * j + p))
 
 -- no value is allowed past the last pattern of n inputs
 abbrev pub NonePast : ℕ → List ℕ → Type 0

@@ -5,7 +5,7 @@ ghost use Prim.Native.Nat.{_<_, _≤_, _^_};
 ghost use Rattle.table.specs.Bits.{bit};
 ghost use Rattle.relation.specs.Source.{value};
 ghost use Rattle.relation.specs.Tests.{wires};
-ghost use Rattle.relation.specs.Masks.{maskOf, agreed, cleared, NonePast};
+ghost use Rattle.relation.specs.Masks.{sideBySide, valueIn, maskOf, agreed, cleared, NonePast};
 use crate::values::column;
 use crate::values::with_bit;
 
@@ -40,6 +40,26 @@ pub fn value_of(tables: [u16; 4], p: u8) -> u8
         + 2 * bit_of(tables[1], p)
         + 4 * bit_of(tables[2], p)
         + 8 * bit_of(tables[3], p)) as u8
+}
+
+// Four tables side by side in one number, 16 bits each, so that the value on a pattern takes one shift.
+pub fn side_by_side(tables: [u16; 4]) -> u64
+    ensures { λ r. ⌜ r ≡ sideBySide tables ⌝ }
+{
+    tables[0] as u64
+        + tables[1] as u64 * 65536
+        + tables[2] as u64 * 4294967296
+        + tables[3] as u64 * 281474976710656
+}
+
+// The value that four tables side by side drive on pattern p: the bits 0, 16, 32 and 48 are moved together.
+pub fn value_in(tables: u64, p: u8) -> u8
+    requires { ⌜ p < 16 ⌝ }
+    ensures { λ r. ⌜ (r ≡ valueIn tables p) × (r < 16) ⌝ }
+{
+    let bits = (tables >> p) & 0x0001_0001_0001_0001;
+    let pairs = bits + (bits >> 15);
+    ((pairs + (pairs >> 30)) % 16) as u8
 }
 
 // The patterns on which some value has wire j at b: the projection of the relation on the wire. Sets past the last pattern are empty and not read.

@@ -15,9 +15,10 @@ use Rattle.table.specs.Bits.{row}
 use Rattle.table.proofs.Bits.{row-at, row-length}
 use Rattle.relation.specs.Source.{Rel, Tables, value}
 use Rattle.relation.specs.Tests.{ofSets, wires, free, freeWire, fits, compatible, conflict}
-use Rattle.relation.specs.Masks.{member}
+use Rattle.relation.specs.Masks.{member, sideBySide, valueIn}
 use Rattle.relation.proofs.Decide.{compatible-at, compatible-test, conflict-is, freeWire-is}
 use Rattle.relation.proofs.Sets.{member-sets, free-four, value-four}
+use Rattle.relation.proofs.Side.{side-value}
 use Rattle.search.specs.declared.Open.the-variants.{Pair, Closed}
 use Rattle.search.specs.Search.{tablesOf, pick, picks}
 use Rattle.search.specs.TreeBoard.{tree}
@@ -51,11 +52,16 @@ pair-told n m R X p j e =
 
 module _ (n m : ℕ) (sz : Sized n m) (sets : List ℕ) (ok : Sets n m sets) (tables : List ℕ) (are : tables ≡ picks (tree n m) (ofSets sets)) where
   -- the code's tests
-  pub allowed-test : (p : ℕ) → member (getD sets p 0) (value 4 (wires tables) p) ≡ ofSets sets p (value m (wires tables) p)
+  pub allowed-test : ((j : ℕ) → getD tables j 0 < 65536) → (p s v : ℕ) → p < 16 → s ≡ sideBySide tables → v ≡ valueIn s p
+      → member (getD sets p 0) v ≡ ofSets sets p (value m (wires (picks (tree n m) (ofSets sets))) p)
   unfolding picks tree
-  allowed-test p =
+  allowed-test small p s v l es ev =
       ap₂ (λ (S : ℕ → Bool) v. S v) (sym (member-sets sets p))
-      (value-four m tables p (sz .wires) (λ j l. ap (λ ts. wires ts j) are ∙ tables-past m (pick (tree n m) (ofSets sets)) j l))
+      (ev
+      ∙ ap (λ x. valueIn x p) es
+      ∙ side-value tables p l small
+      ∙ value-four m tables p (sz .wires) (λ j l. ap (λ ts. wires ts j) are ∙ tables-past m (pick (tree n m) (ofSets sets)) j l)
+      ∙ ap (λ ts. value m (wires ts) p) are)
 
   pub open-test : (p j : ℕ) → free 4 (member (getD sets p 0)) j ≡ free m (ofSets sets p) j
   open-test p j = free-four m (getD sets p 0) j (sz .wires) (ok .small p) ∙ ap (λ S. free m S j) (sym (member-sets sets p))

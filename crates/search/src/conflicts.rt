@@ -2,7 +2,8 @@
 // Inner function: `visit` meets what it requires.
 use crate::Open;
 use relation::patterns::patterns_of;
-use relation::patterns::value_of;
+use relation::patterns::side_by_side;
+use relation::patterns::value_in;
 use relation::values::contains;
 use relation::values::is_open;
 ghost use mathlib.Core.Path.{_≡_};
@@ -19,11 +20,12 @@ pub fn first_open(n: u8, m: u8, from: u8, sets: &[u16; 16], tables: [u16; 4]) ->
     ensures { λ r. ⌜ r ≡ openOf n m (ofSets (now (sets .entry))) (wires tables) ⌝ }
 {
     let count = patterns_of(n);
+    let side = side_by_side(tables);
     let mut p: u8 = from;
     let mut j: u8 = 0;
     'patterns: while p < count {
         let set = sets[p as usize];
-        if !contains(set, value_of(tables, p)) {
+        if !contains(set, value_in(side, p)) {
             j = 0;
             while j < m {
                 if is_open(set, j) {

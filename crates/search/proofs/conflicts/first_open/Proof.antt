@@ -1,16 +1,19 @@
 use Rattle.base.proofs.Tests.{told-yes, told-no, denied, granted}
 use Rattle.search.specs.declared.Open.the-variants.{Pair}
-use Rattle.relation.specs.Masks.{member}
+use Rattle.search.specs.Search.{picks}
+use Rattle.search.specs.TreeBoard.{tree}
+use Rattle.search.specs.Kept.{Settled, openOf}
+use borrow.Author.Needs.{needs}
+use mir.Val.{Fits}
+use mir.Syntax.{w16}
 use Prim.Native.Nat.{ℕ, _+_, _-_, _^_, _<_, _≤_}
-use mathlib.Core.Path.{_≡_, sym, ap, subst, _∙_}
+use mathlib.Core.Path.{_≡_, refl, sym, ap, subst, _∙_}
 use mathlib.Core.Logic.{⊎-elim}
 use mathlib.Core.Bool.{not, Bool, true, false}
 use native.Mathlib.Omega.{arith}
 use borrow.Author.Count.{below-more}
 use lib.Dec.{T}
 use lib.ListN.{getD}
-use lib.Pow.{pow-mono}
-use Rattle.relation.specs.Source.{value}
 use Rattle.relation.specs.Tests.{ofSets, wires, free}
 use Rattle.search.proofs.Opening.{allowed-test, open-test, some-open, none-open, pair-open}
 use Rattle.search.proofs.conflicts.first_open.Statement.{statement}
@@ -18,27 +21,35 @@ use Rattle.search.proofs.conflicts.first_open.Tie as tie
 use Rattle.search.proofs.conflicts.first_open.Reads as reads
 use Rattle.search.proofs.conflicts.first_open.Lts as lts
 use Rattle.relation.proofs.patterns.patterns_of.Reads as patterns-of-reads
-use Rattle.relation.proofs.patterns.value_of.Reads as value-of-reads
+use Rattle.relation.proofs.patterns.side_by_side.Reads as side-by-side-reads
+use Rattle.relation.proofs.patterns.value_in.Reads as value-in-reads
 use Rattle.relation.proofs.values.contains.Reads as contains-reads
 use Rattle.relation.proofs.values.is_open.Reads as is-open-reads
 
 abbrev Inv-loop : tie.InvT-loop
-Inv-loop n m from sets tables count p j₀ set j = (j ≤ m) × ((i : ℕ) → i < j → T (not (free m (ofSets sets p) i)))
+Inv-loop n m from sets count side p j₀ set j = (j ≤ m) × ((i : ℕ) → i < j → T (not (free m (ofSets sets p) i)))
 
 abbrev μ-loop : tie.MeasureT-loop
-μ-loop n m from sets tables count p j₀ set j = m - j
+μ-loop n m from sets count side p j₀ set j = m - j
 
+-- the tables, which the loops do not read, are named as the picks that they are
 abbrev Inv-patterns : tie.InvT-patterns
-Inv-patterns n m from sets tables count p₀ j₀ p j = (p ≤ count) × ((q : ℕ) → q < p → T (ofSets sets q (value m (wires tables) q)))
+Inv-patterns n m from sets count side p₀ j₀ p j = (p ≤ count) × Settled m sets (picks (tree n m) (ofSets sets)) p
 
 abbrev μ-patterns : tie.MeasureT-patterns
-μ-patterns n m from sets tables count p₀ j₀ p j = count - p
+μ-patterns n m from sets count side p₀ j₀ p j = count - p
 
 patterns-of-requires : tie.Need-patterns-of-requires Inv-loop μ-loop Inv-patterns μ-patterns
 patterns-of-requires c κs = c .pre .0 .inputs
 
+side-by-side-requires : tie.Need-side-by-side-requires Inv-loop μ-loop Inv-patterns μ-patterns
+side-by-side-requires c κs = tt
+
 patterns-holds : tie.Need-patterns-holds Inv-loop μ-loop Inv-patterns μ-patterns
-patterns-holds c = let q = c .before .pre in (omega (arith, q .3, c .patterns-of .ensures .0), q .4)
+patterns-holds c =
+    let a = c .before .before .args in
+    let q = c .before .before .pre in
+    (omega (arith, q .3, c .before .patterns-of .ensures .0), subst (λ ts. Settled (a .m) (a .sets .now) ts (a .from)) (q .2) (q .4))
 
 cast-set : tie.Need-cast-set Inv-loop μ-loop Inv-patterns μ-patterns
 cast-set c = omega arith
@@ -49,8 +60,8 @@ mul-set c = omega arith
 element-copy-out-set : tie.Need-element-copy-out-set Inv-loop μ-loop Inv-patterns μ-patterns
 element-copy-out-set c = omega arith
 
-value-of-requires : tie.Need-value-of-requires Inv-loop μ-loop Inv-patterns μ-patterns
-value-of-requires c κs = omega arith
+value-in-requires : tie.Need-value-in-requires Inv-loop μ-loop Inv-patterns μ-patterns
+value-in-requires c κs = omega arith
 
 contains-requires : tie.Need-contains-requires Inv-loop μ-loop Inv-patterns μ-patterns
 contains-requires c κs = omega arith
@@ -59,7 +70,7 @@ loop-holds : tie.Need-loop-holds Inv-loop μ-loop Inv-patterns μ-patterns
 loop-holds c = (omega arith, λ q l. absurd (omega arith))
 
 is-open-requires : tie.Need-is-open-requires Inv-loop μ-loop Inv-patterns μ-patterns
-is-open-requires c κs = omega (arith, c .before .before .before .before .before .before .before .before .before .pre .0 .wires)
+is-open-requires c κs = omega (arith, c .before .before .before .before .before .before .before .before .before .before .pre .0 .wires)
 
 add-j : tie.Need-add-j Inv-loop μ-loop Inv-patterns μ-patterns
 add-j c = omega arith
@@ -69,8 +80,8 @@ loop-less c = omega arith
 
 loop-again : tie.Need-loop-again Inv-loop μ-loop Inv-patterns μ-patterns
 loop-again c =
-    let a = c .before .before .before .before .before .before .before .before .before .before .before .args in
-    let q = c .before .before .before .before .before .before .before .before .before .before .before .pre in
+    let a = c .before .before .before .before .before .before .before .before .before .before .before .before .args in
+    let q = c .before .before .before .before .before .before .before .before .before .before .before .before .pre in
     let p = c .before .before .before .before .before .before .before .before .before .patterns .p in
     let j = c .before .before .before .loop .j in
     (omega arith, below-more _ _ (c .before .before .before .loop .inv .1) (told-no (c .before .is-open .ensures ∙ open-test (a .n) (a .m) (q .0) (a .sets .now) (q .1) (a .tables) (q .2) p j) (c .if2 .left)))
@@ -83,42 +94,48 @@ patterns-less c = omega arith
 
 patterns-again : tie.Need-patterns-again Inv-loop μ-loop Inv-patterns μ-patterns
 patterns-again c =
-    let a = c .before .before .before .before .before .before .before .args in
-    let q = c .before .before .before .before .before .before .before .pre in
+    let a = c .before .before .before .before .before .before .before .before .args in
+    let q = c .before .before .before .before .before .before .before .before .pre in
     let p = c .before .before .before .before .before .patterns .p in
-    let here = c .before .contains .ensures ∙ ap (member (getD (a .sets .now) p 0)) (c .before .before .value-of .ensures .0) ∙ allowed-test (a .n) (a .m) (q .0) (a .sets .now) (q .1) (a .tables) (q .2) p in
-    let lp : p < 2 ^ a .n = omega arith in (
+    let small : (j : ℕ) → Fits w16 (getD (a .tables) j 0) = λ j. search needs in
+    let lp : p < 2 ^ a .n = omega arith in
+    let v = c .before .before .value-in in
+    let here = c .before .contains .ensures ∙ allowed-test (a .n) (a .m) (q .0) (a .sets .now) (q .1) (a .tables) (q .2) (λ j. small j .fits) p _ (v .result) (omega arith) (c .before .before .before .before .before .before .side-by-side .ensures) (v .ensures .0) in (
       omega arith,
       below-more _ _ (c .before .before .before .before .before .patterns .inv .1)
           (⊎-elim
-          (λ w. absurd (some-open (a .n) (a .m) (q .0) (a .sets .now) (q .1) (a .tables) (q .2) p lp (denied here (w .0 .taken)) (λ j l. w .1 .inv .1 j (omega (arith, w .2 .left, w .1 .inv .0)))))
+          (λ w. absurd (some-open (a .n) (a .m) (q .0) (a .sets .now) (q .1) _ refl p lp (denied here (w .0 .taken)) (λ j l. w .1 .inv .1 j (omega (arith, w .2 .left, w .1 .inv .0)))))
           (λ w. granted here (w .0 .left))
           (c .if1 .came)),
     )
 
 returns : tie.Need-returns Inv-loop μ-loop Inv-patterns μ-patterns
 returns c =
-    let a = c .before .before .before .before .args in
-    let q = c .before .before .before .before .pre in
+    let a = c .before .before .before .before .before .args in
+    let q = c .before .before .before .before .before .pre in
     let p = c .before .before .patterns .p in
-    let lp : p < 2 ^ a .n = omega (arith, c .if3 .taken, c .before .before .before .patterns-of .ensures .0) in
+    let small : (j : ℕ) → Fits w16 (getD (a .tables) j 0) = λ j. search needs in
+    let few = c .before .before .before .before .patterns-of .ensures in
+    let lp : p < 2 ^ a .n = omega (arith, c .if3 .taken, few .0) in
     ⊎-elim
     (λ w. absurd (omega (arith, w .0 .left, c .if3 .taken)))
     (λ w.
-    let here = w .3 .ensures ∙ ap (member (getD (a .sets .now) p 0)) (w .2 .ensures .0) ∙ allowed-test (a .n) (a .m) (q .0) (a .sets .now) (q .1) (a .tables) (q .2) p in
+    let here = w .3 .ensures ∙ allowed-test (a .n) (a .m) (q .0) (a .sets .now) (q .1) (a .tables) (q .2) (λ j. small j .fits) p _ (w .2 .result) (omega (arith, few .1, c .if3 .taken)) (c .before .before .before .side-by-side .ensures) (w .2 .ensures .0) in
     let j = w .5 .j in
     ap (Pair p) (w .9)
-    ∙ sym (pair-open (a .n) (a .m) (q .0) (a .sets .now) (q .1) (a .tables) (q .2) p j lp (omega (arith, w .6 .taken)) (c .before .before .patterns .inv .1) (denied here (w .4 .taken)) (w .5 .inv .1)
-    (told-yes (w .7 .ensures ∙ open-test (a .n) (a .m) (q .0) (a .sets .now) (q .1) (a .tables) (q .2) p j) (w .8 .taken))))
+    ∙ sym (pair-open (a .n) (a .m) (q .0) (a .sets .now) (q .1) _ refl p j lp (omega (arith, w .6 .taken)) (c .before .before .patterns .inv .1) (denied here (w .4 .taken)) (w .5 .inv .1)
+    (told-yes (w .7 .ensures ∙ open-test (a .n) (a .m) (q .0) (a .sets .now) (q .1) (a .tables) (q .2) p j) (w .8 .taken)))
+    ∙ ap (λ ts. openOf (a .n) (a .m) (ofSets (a .sets .now)) (wires ts)) (sym (q .2)))
     (c .before .patterns-test .came)
 
 returns-2 : tie.Need-returns-2 Inv-loop μ-loop Inv-patterns μ-patterns
 returns-2 c =
-    let a = c .before .before .before .before .args in
-    let q = c .before .before .before .before .pre in
+    let a = c .before .before .before .before .before .args in
+    let q = c .before .before .before .before .before .pre in
     ⊎-elim
-    (λ w. sym (none-open (a .n) (a .m) (q .0) (a .sets .now) (q .1) (a .tables) (q .2)
-    (λ p l. c .before .before .patterns .inv .1 p (omega (arith, w .0 .left, c .before .before .before .patterns-of .ensures .0)))))
+    (λ w. sym (none-open (a .n) (a .m) (q .0) (a .sets .now) (q .1) _ refl
+    (λ p l. c .before .before .patterns .inv .1 p (omega (arith, w .0 .left, c .before .before .before .before .patterns-of .ensures .0))))
+    ∙ ap (λ ts. openOf (a .n) (a .m) (ofSets (a .sets .now)) (wires ts)) (sym (q .2)))
     (λ w. absurd (omega (arith, w .0 .taken, c .if3 .left)))
     (c .before .patterns-test .came)
 
@@ -131,11 +148,12 @@ first-open-spec =
     Inv-patterns
     μ-patterns
     patterns-of-requires
+    side-by-side-requires
     patterns-holds
     cast-set
     mul-set
     element-copy-out-set
-    value-of-requires
+    value-in-requires
     contains-requires
     loop-holds
     is-open-requires

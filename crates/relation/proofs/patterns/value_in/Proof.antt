@@ -1,0 +1,29 @@
+-- `value_in` meets its contract: the four bits of the pattern are kept, then moved together.
+use mathlib.Core.Path.{refl}
+use Prim.Native.Nat.{_^_, _/_}
+use native.Mathlib.Omega.{arith}
+use lib.Bits.{bitAnd, and-le-r}
+use borrow.Author.Needs.{needs}
+use Rattle.relation.proofs.Side.{value-taken}
+use Rattle.relation.proofs.patterns.value_in.Statement.{statement}
+use Rattle.relation.proofs.patterns.value_in.Tie as tie
+
+shr-bits : tie.Need-shr-bits
+shr-bits c = search needs
+
+add-pairs : tie.Need-add-pairs
+add-pairs c = omega (arith, and-le-r (c .args .tables / 2 ^ c .args .p) 0x0001000100010001)
+
+add-result : tie.Need-add-result
+add-result c = omega (arith, and-le-r (c .args .tables / 2 ^ c .args .p) 0x0001000100010001)
+
+cast-result : tie.Need-cast-result
+cast-result c = search needs
+
+returns : tie.Need-returns
+returns c =
+    let y = bitAnd (c .args .tables / 2 ^ c .args .p) 0x0001000100010001 in
+    (value-taken (c .args .tables) (c .args .p) y _ refl (omega arith), omega arith)
+
+pub value-in-spec : {M : Type 1} → statement M
+value-in-spec = tie.close (tie.spec shr-bits add-pairs add-result cast-result returns)
