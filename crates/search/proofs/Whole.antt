@@ -1,6 +1,7 @@
 -- The whole relation as a part: its masks are made in one pass over the patterns, its ranks from the masks.
 use Prim.Native.Nat.{ℕ, _+_, _*_, _^_, _<_, _≤_}
 use mathlib.Core.Path.{_≡_, sym, ap, ap₂, _∙_}
+use mathlib.Core.Bool.{Bool}
 use mathlib.Core.List.{List}
 use native.Mathlib.Omega.{arith}
 use lib.ListN.{getD}
@@ -12,22 +13,21 @@ use Rattle.relation.specs.Tests.{isOne, occurs}
 use Rattle.relation.specs.Masks.{member, maskOf, NonePast}
 use Rattle.relation.proofs.Columns.{maskBit, found-lt}
 use Rattle.relation.proofs.Sets.{member-sets, mask-short}
-use Rattle.search.specs.Kept.{rankOf, masksOf, ranksOf, MasksBelow, putMasks, ranksBetween}
+use Rattle.search.specs.Kept.{rankOf, masksOf, ranksOf, ranksBetween}
 
 -- the masks of the patterns below p, and one pattern more
 abbrev pub masksBelow : ℕ → List ℕ → ℕ → List ℕ
 masksBelow p sets b = row maxWires (λ j. ofBits p (maskBit sets j b))
 
-pub below-lt : (p : ℕ) (sets : List ℕ) (b : ℕ) → MasksBelow (masksBelow p sets b) p
-below-lt p sets b j l = rw (row-at maxWires (λ j. ofBits p (maskBit sets j b)) j l) (found-lt sets j b p)
+module _ (p : ℕ) (sets : List ℕ) (b j : ℕ) {found : List ℕ} (l : j < maxWires) (e : found ≡ masksBelow p sets b) where
+  below-at : getD found j 0 ≡ ofBits p (maskBit sets j b)
+  below-at = ap (λ x. getD x j 0) e ∙ row-at maxWires (λ j. ofBits p (maskBit sets j b)) j l
 
-pub below-more : (p : ℕ) (sets : List ℕ) (b : ℕ) → putMasks (masksBelow p sets b) p (getD sets p 0) b ≡ masksBelow (p + 1) sets b
-unfolding putMasks
-below-more p sets b =
-    row-cong maxWires (λ j. getD (masksBelow p sets b) j 0 + isOne (occurs 4 (member (getD sets p 0)) j b) * 2 ^ p) (λ j. ofBits (p + 1) (maskBit sets j b))
-    (λ j l.
-    ap₂ (λ x y. x + isOne y * 2 ^ p) (row-at maxWires (λ j. ofBits p (maskBit sets j b)) j l) (ap (λ S. occurs 4 S j b) (sym (member-sets sets p)))
-    ∙ sym (ofBits-more (maskBit sets j b) p))
+  pub below-lt : getD found j 0 < 2 ^ p
+  below-lt = rw below-at (found-lt sets j b p)
+
+  pub below-more : {r : ℕ} {t : Bool} → t ≡ occurs 4 (member (getD sets p 0)) j b → r ≡ getD found j 0 + isOne t * 2 ^ p → r ≡ ofBits (p + 1) (maskBit sets j b)
+  below-more et er = er ∙ ap₂ (λ x y. x + isOne y * 2 ^ p) below-at (et ∙ ap (λ S. occurs 4 S j b) (sym (member-sets sets p))) ∙ sym (ofBits-more (maskBit sets j b) p)
 
 pub below-all : (n : ℕ) (sets : List ℕ) (b : ℕ) → n ≤ 4 → NonePast n sets → masksBelow (2 ^ n) sets b ≡ masksOf sets b
 unfolding masksOf

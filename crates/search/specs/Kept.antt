@@ -1,5 +1,5 @@
 -- What the code keeps of a part: its sets, and for each wire the two masks of its projection and the rank of its pick.
-use Prim.Native.Nat.{ℕ, _+_, _*_, _^_, _/_, _%_, _<_, _≤_}
+use Prim.Native.Nat.{ℕ, _^_, _/_, _%_, _<_, _≤_}
 use mathlib.Core.Path.{_≡_}
 use mathlib.Core.Bool.{cond}
 use lib.Dec.{T, eqb}
@@ -10,7 +10,7 @@ use Rattle.table.specs.Bits.{bit, sum, row}
 use Rattle.table.specs.Pick.{pickOf, rank, tableSpace}
 use Rattle.table.specs.Blocks.{Covered}
 use Rattle.relation.specs.Source.{Rel, Tables, WellDefined, value}
-use Rattle.relation.specs.Tests.{ofSets, wires, isOne, occurs, compatible, conflict, freeWire}
+use Rattle.relation.specs.Tests.{ofSets, wires, occurs, compatible, conflict, freeWire}
 use Rattle.relation.specs.Masks.{member, maskOf, cut, NonePast}
 use Rattle.search.specs.declared.Part.{Part}
 use Rattle.search.specs.declared.State.{State}
@@ -32,14 +32,6 @@ pub record Sets (n m : ℕ) (sets : List ℕ) : Type 0 where
 -- the masks of the wires' projections: where each can be b
 unfoldable pub masksOf : List ℕ → ℕ → List ℕ
 masksOf sets b = row maxWires (λ j. maskOf sets j b)
-
--- masks of the patterns below p
-abbrev pub MasksBelow : List ℕ → ℕ → Type 0
-MasksBelow masks p = (j : ℕ) → j < maxWires → getD masks j 0 < 2 ^ p
-
--- such masks with pattern p put in where b occurs in its set w
-unfoldable pub putMasks : List ℕ → ℕ → ℕ → ℕ → List ℕ
-putMasks masks p w b = row maxWires (λ j. getD masks j 0 + isOne (occurs 4 (member w) j b) * 2 ^ p)
 
 -- the ranks of the picks between masks
 unfoldable pub ranksBetween : ℕ → List ℕ → List ℕ → List ℕ

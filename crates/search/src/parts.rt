@@ -9,31 +9,26 @@ use relation::patterns::patterns_of;
 use relation::values::has;
 use table::picks::pick;
 ghost use mathlib.Core.Path.{_≡_};
-ghost use mathlib.Core.Bool.{cond};
 ghost use Prim.Native.Nat.{_+_, _*_, _<_, _≤_, _^_};
 ghost use Rattle.table.specs.Blocks.{Blocks, Covered};
 ghost use Rattle.relation.specs.Tests.{isOne};
 ghost use Rattle.relation.specs.Masks.{cut, NonePast};
-ghost use Rattle.search.specs.Kept.{Sized, Sets, rankOf, masksOf, MasksBelow, putMasks, ranksBetween, cutMasks, rankAgain, ranksAgain, MasksCover, Kept};
+ghost use Rattle.search.specs.Kept.{Sized, Sets, rankOf, masksOf, ranksBetween, cutMasks, rankAgain, ranksAgain, MasksCover, Kept};
+
+// Pattern p as a mask, empty where it is not there. The masks are put together and cut without a branch: which wires have a pattern is not to be foretold.
+fn one_at(p: u8, there: bool) -> u16
+    requires { ⌜ p < 16 ⌝ }
+    ensures { λ r. ⌜ r ≡ isOne there * 2 ^ p ⌝ }
+{
+    if there { 1 << p } else { 0 }
+}
 
 // A mask of patterns below p, with pattern p put in where it is there.
 fn put_mask(x: u16, p: u8, there: bool) -> u16
     requires { ⌜ (p < 16) × (x < 2 ^ p) ⌝ }
     ensures { λ r. ⌜ r ≡ x + isOne there * 2 ^ p ⌝ }
 {
-    if there { x + (1 << p) } else { x }
-}
-
-fn put_masks(masks: [u16; 4], p: u8, set: u16, b: u8) -> [u16; 4]
-    requires { ⌜ (p < 16) × (b < 2) × MasksBelow masks p ⌝ }
-    ensures { λ r. ⌜ r ≡ putMasks masks p set b ⌝ }
-{
-    [
-        put_mask(masks[0], p, has(set, 0, b)),
-        put_mask(masks[1], p, has(set, 1, b)),
-        put_mask(masks[2], p, has(set, 2, b)),
-        put_mask(masks[3], p, has(set, 3, b)),
-    ]
+    x + one_at(p, there)
 }
 
 // The masks of all wires in one pass over the patterns.
@@ -45,8 +40,12 @@ fn masks_of(n: u8, sets: [u16; 16], b: u8) -> [u16; 4]
     let mut found = [0u16; 4];
     for p in 0..count {
         let set = sets[p as usize];
-        let next = put_masks(found, p, set, b);
-        found = next;
+        found = [
+            put_mask(found[0], p, has(set, 0, b)),
+            put_mask(found[1], p, has(set, 1, b)),
+            put_mask(found[2], p, has(set, 2, b)),
+            put_mask(found[3], p, has(set, 3, b)),
+        ];
     }
     found
 }
@@ -89,20 +88,12 @@ pub fn whole(e: &[u16; 256], n: u8, m: u8, sets: [u16; 16]) -> Part
     }
 }
 
-// The pattern that is lost, as a mask: none where it is kept.
-fn lost(p: u8, kept: bool) -> u16
-    requires { ⌜ p < 16 ⌝ }
-    ensures { λ r. ⌜ r ≡ cond kept 0 (2 ^ p) ⌝ }
-{
-    if kept { 0 } else { 1 << p }
-}
-
-// A mask with pattern p taken out, unless it is kept. Made without a branch: which wires keep a pattern is not to be foretold.
+// A mask with pattern p taken out, unless it is kept.
 fn cut_mask(x: u16, p: u8, kept: bool) -> u16
     requires { ⌜ p < 16 ⌝ }
     ensures { λ r. ⌜ r ≡ cut x p kept ⌝ }
 {
-    x - (x & lost(p, kept))
+    x - (x & one_at(p, !kept))
 }
 
 pub fn cut_masks(masks: [u16; 4], p: u8, set: u16, b: u8) -> [u16; 4]
