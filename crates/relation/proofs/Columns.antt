@@ -7,16 +7,14 @@ use Prim.Native.Nat.{ℕ, _+_, _*_, _^_, _/_, _%_, _<_, _≤_}
 use native.Mathlib.Omega.{arith}
 use native.Mathlib.Nat.{lt-of-le-of-lt}
 use lib.Dec.{T, T-not, not-T, eqb, ltb, ltb→lt, nltb→le, eqb→eq}
-use lib.Bits.{bitAnd, and-le-l}
-use lib.ListN.{getD}
-use borrow.Author.Tests.{ne-eqb, eq-eqb}
+use lib.Bits.{and-le-l}
 use Rattle.base.proofs.Tests.{decide, eq-test, test-ext}
 use Rattle.table.specs.Bits.{bit, any, ofBits}
 use Rattle.table.proofs.Bits.{any-at, any-intro, any-cong, bit-cases, bit-ofBits, ofBits-lt, bit-ext, bit-past, test-and}
 use Rattle.relation.specs.Tests.{ofSets, occurs, isOne}
 use Rattle.relation.specs.Masks.{member, columnOf, withBit}
 use Rattle.relation.proofs.Splits.{isOne-small}
-use Rattle.table.proofs.Bits.{zero-bit, ofBits-more}
+use Rattle.table.proofs.Bits.{zero-bit}
 
 pub one-test : (c : Bool) → eqb (isOne c) 1 ≡ c
 unfolding isOne
@@ -86,25 +84,6 @@ occurs-with w j b h =
 -- the bits of a mask, one pattern after the other
 abbrev pub maskBit : List ℕ → ℕ → ℕ → ℕ → ℕ
 maskBit sets j b p = isOne (occurs 4 (ofSets sets p) j b)
-
-module _ (sets : List ℕ) (p j b c : ℕ) (small : getD sets p 0 < 65536) (is : c ≡ columnOf j b) where
-  told : occurs 4 (ofSets sets p) j b ≡ not (eqb (bitAnd (getD sets p 0) c) 0)
-  unfolding ofSets member withBit
-  told = occurs-with (getD sets p 0) j b small ∙ ap (λ x. not (eqb (bitAnd (getD sets p 0) x) 0)) (sym is)
-
-  pub found-one : (bitAnd (getD sets p 0) c ≡ 0 → ⊥) → ofBits (p + 1) (maskBit sets j b) ≡ ofBits p (maskBit sets j b) + 2 ^ p
-  unfolding isOne
-  found-one ne =
-      let e : maskBit sets j b p ≡ 1 = ap isOne (told ∙ ap not (ne-eqb (bitAnd (getD sets p 0) c) 0 ne)) in
-      let m : maskBit sets j b p * 2 ^ p ≡ 1 * 2 ^ p = ap (λ x. x * 2 ^ p) e in
-      omega (arith, ofBits-more (maskBit sets j b) p)
-
-  pub found-none : bitAnd (getD sets p 0) c ≡ 0 → ofBits (p + 1) (maskBit sets j b) ≡ ofBits p (maskBit sets j b)
-  unfolding isOne
-  found-none z =
-      let e : maskBit sets j b p ≡ 0 = ap isOne (told ∙ ap not (eq-eqb (bitAnd (getD sets p 0) c) 0 z)) in
-      let m : maskBit sets j b p * 2 ^ p ≡ 0 * 2 ^ p = ap (λ x. x * 2 ^ p) e in
-      omega (arith, ofBits-more (maskBit sets j b) p)
 
 pub found-lt : (sets : List ℕ) (j b p : ℕ) → ofBits p (maskBit sets j b) < 2 ^ p
 found-lt sets j b p = ofBits-lt (maskBit sets j b) p (λ q _. isOne-lt-two (occurs 4 (ofSets sets q) j b))

@@ -5,8 +5,7 @@ ghost use Prim.Native.Nat.{_<_, _≤_, _^_};
 ghost use Rattle.table.specs.Bits.{bit};
 ghost use Rattle.relation.specs.Source.{value};
 ghost use Rattle.relation.specs.Tests.{wires};
-ghost use Rattle.relation.specs.Masks.{sideBySide, valueIn, maskOf, agreed, cleared, NonePast};
-use crate::values::column;
+ghost use Rattle.relation.specs.Masks.{sideBySide, valueIn, agreed, cleared};
 use crate::values::with_bit;
 
 // The number of patterns of n inputs.
@@ -60,22 +59,6 @@ pub fn value_in(tables: u64, p: u8) -> u8
     let bits = (tables >> p) & 0x0001_0001_0001_0001;
     let pairs = bits + (bits >> 15);
     ((pairs + (pairs >> 30)) % 16) as u8
-}
-
-// The patterns on which some value has wire j at b: the projection of the relation on the wire. Sets past the last pattern are empty and not read.
-pub fn mask(n: u8, sets: [u16; 16], j: u8, b: u8) -> u16
-    requires { ⌜ (n ≤ 4) × (j < 4) × (b < 2) × NonePast n sets ⌝ }
-    ensures { λ r. ⌜ r ≡ maskOf sets j b ⌝ }
-{
-    let c = column(j, b);
-    let count = patterns_of(n);
-    let mut found: u16 = 0;
-    for p in 0..count {
-        if sets[p as usize] & c != 0 {
-            found += 1 << p;
-        }
-    }
-    found
 }
 
 // The sets less the values that disagree with table t of wire j.

@@ -20,8 +20,8 @@ use Rattle.relation.proofs.Sets.{member-sets}
 use Rattle.search.specs.declared.State.{State}
 use Rattle.search.specs.Search.{split, searchPart, halted, charged, improved, floor, picks}
 use Rattle.search.specs.TreeBoard.{tree}
-use Rattle.search.specs.Kept.{Sized, Sets, Held, Settled, AlikeBelow, stateOf, masksOf, ranksOf, tablesIn, cellsIn, cutMasks, ranksAgain, MasksCover}
-use Rattle.search.proofs.Keeping.{kept-tables, kept-floor, masks-cover, with-keep, with-sets, with-masks, with-ranks}
+use Rattle.search.specs.Kept.{Sized, Sets, Held, Settled, AlikeBelow, stateOf, pairsOf, ranksOf, tablesIn, cellsIn, cutPairs, ranksAgain, PairsCover}
+use Rattle.search.proofs.Keeping.{kept-tables, kept-floor, pairs-cover, with-keep, with-sets, with-pairs, with-ranks}
 use Rattle.search.proofs.Steps.{discards, fewer-open}
 
 -- the states once b of the two parts of a split are treated
@@ -34,16 +34,16 @@ unfolding treated split
 treated-both n m budget R p j s = refl
 
 -- the floor and the tables of a part's ranks
-pub floor-is : {n m : ℕ} {S zs os rs : List ℕ} → Held n m S zs os rs → {f : ℕ} → f ≡ cellsIn rs → f ≡ floor (tree n m) (ofSets S)
+pub floor-is : {n m : ℕ} {S ws rs : List ℕ} → Held n m S ws rs → {f : ℕ} → f ≡ cellsIn rs → f ≡ floor (tree n m) (ofSets S)
 floor-is {n} {m} {S} h e = e ∙ ap cellsIn (h .ranks) ∙ kept-floor n m (h .sized) S (h .sets)
 
-pub tables-are : {n m : ℕ} {S zs os rs : List ℕ} → Held n m S zs os rs → {t : List ℕ} → t ≡ tablesIn rs → t ≡ picks (tree n m) (ofSets S)
+pub tables-are : {n m : ℕ} {S ws rs : List ℕ} → Held n m S ws rs → {t : List ℕ} → t ≡ tablesIn rs → t ≡ picks (tree n m) (ofSets S)
 tables-are {n} {m} {S} h e = e ∙ ap tablesIn (h .ranks) ∙ kept-tables n m (h .sized) S (h .sets)
 
 pub pattern-lt : {n m p : ℕ} → Sized n m → p < 2 ^ n → p < 16
 pattern-lt {n} sz l = lt-of-lt-of-le l (pow-mono {i = n} {j = 4} (sz .inputs))
 
-module _ (n m : ℕ) (S zs os rs : List ℕ) (h : Held n m S zs os rs) (p j : ℕ) (lp : p < 2 ^ n) (lj : j < m) (open-there : T (free m (ofSets S p) j)) (b : ℕ) (lb : b < 2)
+module _ (n m : ℕ) (S ws rs : List ℕ) (h : Held n m S ws rs) (p j : ℕ) (lp : p < 2 ^ n) (lj : j < m) (open-there : T (free m (ofSets S p) j)) (b : ℕ) (lb : b < 2)
     (w : ℕ) (ew : w ≡ withBit (getD S p 0) j b) (N : List ℕ) (eN : N ≡ set S p w) where
   is-narrowed : N ≡ narrowed S p j b
   unfolding narrowed
@@ -58,28 +58,23 @@ module _ (n m : ℕ) (S zs os rs : List ℕ) (h : Held n m S zs os rs) (p j : �
   next-sets : Sets n m N
   next-sets = rw is-narrowed (with-sets n m (h .sized) S (h .sets) p j b lp lj open-there lb)
 
-  module _ {z o : List ℕ} (ez : z ≡ cutMasks zs p w 0) (eo : o ≡ cutMasks os p w 1) where
-    next-zeros : z ≡ masksOf N 0
-    next-zeros = ez ∙ ap₂ (λ x y. cutMasks x p y 0) (h .zeros) ew ∙ with-masks n m (h .sized) S (h .sets) p j b lp lj open-there lb 0 ∙ ap (λ x. masksOf x 0) (sym is-narrowed)
+  module _ {x : List ℕ} (ex : x ≡ cutPairs ws p w) where
+    next-masks : x ≡ pairsOf N
+    next-masks = ex ∙ ap₂ (λ y v. cutPairs y p v) (h .pairs) ew ∙ with-pairs n m (h .sized) S (h .sets) p j b lp lj open-there lb ∙ ap pairsOf (sym is-narrowed)
 
-    next-ones : o ≡ masksOf N 1
-    next-ones = eo ∙ ap₂ (λ x y. cutMasks x p y 1) (h .ones) ew ∙ with-masks n m (h .sized) S (h .sets) p j b lp lj open-there lb 1 ∙ ap (λ x. masksOf x 1) (sym is-narrowed)
+    pub next-cover : PairsCover n x
+    next-cover = rw next-masks (pairs-cover n m (h .sized) N next-sets)
 
-    pub next-cover : MasksCover n z o
-    next-cover = rw (next-zeros, next-ones) (masks-cover n m (h .sized) N next-sets)
+    again : {r r′ y y′ : List ℕ} {v v′ : ℕ} → r ≡ r′ → v ≡ v′ → y ≡ y′ → ranksAgain n r p v y ≡ ranksAgain n r′ p v′ y′
+    again er ev ey = cc
 
-    again : {r r′ z z′ o o′ : List ℕ} {w w′ : ℕ} → r ≡ r′ → w ≡ w′ → z ≡ z′ → o ≡ o′ → ranksAgain n r p w z o ≡ ranksAgain n r′ p w′ z′ o′
-    again er ew ez eo = cc
-
-    pub next-held : {r : List ℕ} → r ≡ ranksAgain n rs p w z o → Held n m N z o r
+    pub next-held : {r : List ℕ} → r ≡ ranksAgain n rs p w x → Held n m N x r
     next-held er =
         record {
           sized = h .sized;
           sets = next-sets;
-          zeros = next-zeros;
-          ones = next-ones;
-          ranks = er ∙ again (h .ranks) ew (next-zeros ∙ ap (λ x. masksOf x 0) is-narrowed) (next-ones ∙ ap (λ x. masksOf x 1) is-narrowed)
-              ∙ with-ranks n m (h .sized) S (h .sets) p j b lp lj open-there lb ∙ ap (ranksOf n) (sym is-narrowed);
+          pairs = next-masks;
+          ranks = er ∙ again (h .ranks) ew (next-masks ∙ ap pairsOf is-narrowed) ∙ with-ranks n m (h .sized) S (h .sets) p j b lp lj open-there lb ∙ ap (ranksOf n) (sym is-narrowed);
         }
 
   -- below p and below the first change of a pick, the patterns are as they were
@@ -109,7 +104,7 @@ module _ (n m : ℕ) (S zs os rs : List ℕ) (h : Held n m S zs os rs) (p j : �
       ∙ ap (treated n m budget (ofSets S) p j s₀) (sym e)
 
   -- a part that is not visited would be discarded
-  pub next-discards : (budget : ℕ) {z o r : List ℕ} → Held n m N z o r → {f : ℕ} → f ≡ cellsIn r → (s : State) → s .cells ≤ f
+  pub next-discards : (budget : ℕ) {x r : List ℕ} → Held n m N x r → {f : ℕ} → f ≡ cellsIn r → (s : State) → s .cells ≤ f
       → s ≡ searchPart (tree n m) budget (ofSets N) s
   next-discards budget held ef s le = discards n m budget (held .sized) N (held .sets) s (floor-is held ef) le
 

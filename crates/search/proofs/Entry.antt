@@ -22,10 +22,10 @@ use Rattle.search.specs.Reply.{markOf, answerOf, refusedWith, afterCheck
 use Rattle.search.specs.Kept.{Sized, Sets, Held, Kept, stateOf}
 
 -- the whole relation as the search holds it
-pub held-whole : (w : Part) {n m : ℕ} {sets : List ℕ} → Kept w → w .n ≡ n → w .m ≡ m → w .sets ≡ sets → Held n m sets (w .zeros) (w .ones) (w .ranks)
+pub held-whole : (w : Part) {n m : ℕ} {sets : List ℕ} → Kept w → w .n ≡ n → w .m ≡ m → w .sets ≡ sets → Held n m sets (w .pairs) (w .ranks)
 held-whole w {n} {m} {sets} k en em es =
-    subst (λ x. Held x m sets (w .zeros) (w .ones) (w .ranks)) en
-    (subst (λ x. Held (w .n) x sets (w .zeros) (w .ones) (w .ranks)) em (subst (λ x. Held (w .n) (w .m) x (w .zeros) (w .ones) (w .ranks)) es k))
+    subst (λ x. Held x m sets (w .pairs) (w .ranks)) en
+    (subst (λ x. Held (w .n) x sets (w .pairs) (w .ranks)) em (subst (λ x. Held (w .n) (w .m) x (w .pairs) (w .ranks)) es k))
 
 -- what the parts of the run make together
 started : (n m : ℕ) (R : Rel) (st : State) → st ≡ start (tree n m) R → stateOf (st .tables) (st .cells ∷ 0 ∷ 0 ∷ []) ≡ start (tree n m) R

@@ -1,39 +1,40 @@
 -- What is kept of a part: the masks tell the projections, the ranks the picks, and a split changes them as the code does.
-use Prim.Native.Nat.{ℕ, zero, suc, _+_, _*_, _^_, _/_, _%_, _<_, _≤_}
-use mathlib.Core.Path.{_≡_, refl, sym, ap, ap₂, subst, _∙_, fun-ext}
-use mathlib.Core.Logic.{_⊎_, inl, inr, ⊎-elim}
-use mathlib.Core.Bool.{Bool, cond, not}
+use Prim.Native.Nat.{ℕ, zero, suc, _^_, _/_, _%_, _<_, _≤_}
+use mathlib.Core.Path.{_≡_, refl, sym, ap, ap₂, subst, _∙_}
+use mathlib.Core.Logic.{inl, ⊎-elim}
+use mathlib.Core.Bool.{cond}
 use mathlib.Core.List.{List}
-use mathlib.Core.Option.{Option, none, some}
+use mathlib.Core.Option.{some}
 use native.Mathlib.Omega.{arith}
 use native.Mathlib.Nat.{lt-of-lt-of-le}
 use lib.Arith.{digits-div, digits-mod}
-use lib.Dec.{T, T-not, eqb, ltb, eqb→eq, ltb→lt, nltb→le}
-use lib.ListN.{length, getD, set}
+use lib.Dec.{T, T-not, eqb, ltb, eqb→eq, nltb→le}
+use lib.ListN.{getD}
 use lib.Pow.{pow-pos, pow-mono}
 use lib.Seq.{getD-set-same, getD-set-other}
 use Rattle.base.specs.Sizes.{maxInputs, maxWires}
-use Rattle.base.proofs.Tests.{cond-has, decide, eq-test, test-yes, test-no}
-use Rattle.table.specs.Bits.{bit, all, sum, row}
+use Rattle.base.proofs.Tests.{cond-has, decide, eq-test}
+use Rattle.table.specs.Bits.{bit}
 use Rattle.table.specs.Cells.{cells}
 use Rattle.table.specs.Pick.{suits, leastOf, orZero, masked, pickOf, rank, tableSpace}
 use Rattle.table.specs.Blocks.{Covered}
+use Rattle.table.specs.Pairs.{seat, zerosIn, onesIn}
 use Rattle.table.proofs.Bits.{bit-lt, bit-past, all-at, all-intro, row-at, row-cong, sum-cong, sum-short}
 use Rattle.table.proofs.Cells.{constant-cells}
 use Rattle.table.proofs.Least.{Least, least-only}
 use Rattle.table.proofs.Halving.{IsBest, least-best}
 use Rattle.table.proofs.Masks.{least-cong, least-shrink, pick-some}
-use Rattle.relation.specs.Source.{Rel, Tables, WellDefined}
 use Rattle.relation.specs.Tests.{ofSets, wires, keep, projection, fits, occurs, free}
-use Rattle.relation.specs.Masks.{member, withBit, maskOf, narrowed, cut}
+use Rattle.relation.specs.Masks.{member, withBit, maskOf, narrowed}
 use Rattle.relation.proofs.Decide.{free-both, occurs-intro}
 use Rattle.relation.proofs.Splits.{keep-part, keep-well-defined, occurs-part}
 use Rattle.table.proofs.Bits.{zero-bit}
-use Rattle.relation.proofs.Sets.{Narrow, member-sets, narrow-keep, narrowed-narrow, occurs-four, mask-lt, mask-projection, mask-covers, mask-narrowed}
+use Rattle.relation.proofs.Sets.{Narrow, member-sets, narrow-keep, narrowed-narrow, occurs-four, mask-lt, mask-projection, mask-covers}
 use Rattle.search.specs.Search.{tablesOf, total, pick, picks, floor}
 use Rattle.search.specs.TreeBoard.{tree}
-use Rattle.search.specs.Kept.{Sized, Sets, masksOf, ranksOf, tablesIn, cellsIn, cutMasks, rankAgain, ranksAgain, MasksCover}
+use Rattle.search.specs.Kept.{Sized, Sets, rankOf, ranksOf, pairOf, pairsOf, tablesIn, cellsIn, cutPair, cutPairs, rankAgain, ranksAgain, Covers, PairsCover}
 use Rattle.search.proofs.Picks.{pick-least}
+use Rattle.search.proofs.MaskPairs.{pair-zeros, pair-ones, pair-cut}
 
 -- a table of n inputs stands whole in a rank
 pub rank-parts : (n t : ℕ) → n ≤ maxInputs → t < 2 ^ (2 ^ n) → (rank n t % tableSpace ≡ t) × (rank n t / tableSpace ≡ cells n t)
@@ -99,15 +100,21 @@ module _ (n m : ℕ) (sz : Sized n m) (sets : List ℕ) (ok : Sets n m sets) whe
       ∙ sum-short f m maxWires (sz .wires) (λ j l. ap (cells n) (pick-past j l) ∙ constant-cells n 0 (inl refl))
 
   -- the masks of a part are fit for a pick
-  pub masks-cover : MasksCover n (masksOf sets 0) (masksOf sets 1)
-  unfolding masksOf
-  masks-cover =
-      let at : (b j : ℕ) → j < maxWires → getD (masksOf sets b) j 0 ≡ maskOf sets j b = λ b j l. row-at maxWires (λ j. maskOf sets j b) j l in
+  pub pair-covers : (j : ℕ) → Covers n (pairOf sets j)
+  pair-covers j =
       record {
-        zeros-lt = λ j l. rw (at 0 j l) (mask-lt n m sets j 0 narrow (sz .inputs));
-        ones-lt = λ j l. rw (at 1 j l) (mask-lt n m sets j 1 narrow (sz .inputs));
-        covered = λ j l. rw (at 0 j l, at 1 j l) (cover j);
+        zeros-lt = rw (pair-zeros sets j) (mask-lt n m sets j 0 narrow (sz .inputs));
+        ones-lt = rw (pair-ones sets j) (mask-lt n m sets j 1 narrow (sz .inputs));
+        covered = rw (pair-zeros sets j, pair-ones sets j) (cover j);
       }
+
+  pub pairs-cover : PairsCover n (pairsOf sets)
+  unfolding pairsOf
+  pairs-cover j l = rw (row-at maxWires (pairOf sets) j l) (pair-covers j)
+
+-- the pick between the masks of a pair is the pick of the wire
+pub rank-between : (n : ℕ) (sets : List ℕ) (j : ℕ) → rank n (pickOf n (zerosIn (pairOf sets j)) (onesIn (pairOf sets j))) ≡ rankOf n sets j
+rank-between n sets j = ap₂ (λ z o. rank n (pickOf n z o)) (pair-zeros sets j) (pair-ones sets j)
 
 -- one part of a split at an open pair
 module _ (n m : ℕ) (sz : Sized n m) (sets : List ℕ) (ok : Sets n m sets) (p j b : ℕ) (lp : p < 2 ^ n) (lj : j < m) (free-there : T (free m (ofSets sets p) j)) (lb : b < 2) where
@@ -138,13 +145,12 @@ module _ (n m : ℕ) (sz : Sized n m) (sets : List ℕ) (ok : Sets n m sets) (p 
         defined = rw with-keep (keep-well-defined (ofSets sets) p j b n m (ok .defined) occurs-there);
       }
 
-  pub with-masks : (c : ℕ) → cutMasks (masksOf sets c) p (withBit (getD sets p 0) j b) c ≡ masksOf (narrowed sets p j b) c
-  unfolding cutMasks masksOf
-  with-masks c =
-      row-cong maxWires (λ i. cut (getD (masksOf sets c) i 0) p (occurs 4 (member (withBit (getD sets p 0) j b)) i c)) (λ i. maskOf (narrowed sets p j b) i c)
-      (λ i l.
-      ap (λ x. cut x p (occurs 4 (member (withBit (getD sets p 0) j b)) i c)) (row-at maxWires (λ i. maskOf sets i c) i l)
-      ∙ sym (mask-narrowed sets p j b i c sixteen (ok .long) small))
+  pub with-pairs : cutPairs (pairsOf sets) p (withBit (getD sets p 0) j b) ≡ pairsOf (narrowed sets p j b)
+  unfolding cutPairs pairsOf
+  with-pairs =
+      let w = withBit (getD sets p 0) j b in
+      row-cong maxWires (λ i. cutPair (getD (pairsOf sets) i 0) (seat p) w i) (pairOf (narrowed sets p j b))
+      (λ i l. ap (λ x. cutPair x (seat p) w i) (row-at maxWires (pairOf sets) i l) ∙ sym (pair-cut sets p j b i sixteen (ok .long) small))
 
   -- a pick whose bit on p still occurs still suits, and so is still the pick
   module _ (i : ℕ) (still : T (occurs 4 (member (withBit (getD sets p 0) j b)) i (bit (pickOf n (maskOf sets i 0) (maskOf sets i 1)) p))) where
@@ -200,19 +206,17 @@ module _ (n m : ℕ) (sz : Sized n m) (sets : List ℕ) (ok : Sets n m sets) (p 
         let suited-with : T (suits n Q t) = all-intro (2 ^ n) (λ q. Q q (bit t q)) (λ q l. rw (told-with q (bit t q) l (bit-lt t q)) (bit-occurs q l)) in
         ap orZero (least-shrink (cells n) n P Q t inside chosen suited-with)
 
-  pub with-ranks : ranksAgain n (ranksOf n sets) p (withBit (getD sets p 0) j b) (masksOf (narrowed sets p j b) 0) (masksOf (narrowed sets p j b) 1)
-      ≡ ranksOf n (narrowed sets p j b)
-  unfolding ranksAgain rankAgain ranksOf masksOf
+  pub with-ranks : ranksAgain n (ranksOf n sets) p (withBit (getD sets p 0) j b) (pairsOf (narrowed sets p j b)) ≡ ranksOf n (narrowed sets p j b)
+  unfolding ranksAgain rankAgain ranksOf pairsOf
   with-ranks =
       let W = narrowed sets p j b in
       let w = withBit (getD sets p 0) j b in
-      row-cong maxWires (λ i. rankAgain n (getD (ranksOf n sets) i 0) p i w (getD (masksOf W 0) i 0) (getD (masksOf W 1) i 0)) (λ i. rank n (pickOf n (maskOf W i 0) (maskOf W i 1)))
+      row-cong maxWires (λ i. rankAgain n (getD (ranksOf n sets) i 0) p i w (getD (pairsOf W) i 0)) (rankOf n W)
       (λ i l.
       let t = pickOf n (maskOf sets i 0) (maskOf sets i 1) in
       let lt : t < 2 ^ (2 ^ n) = rw (kept-pick n m sz sets ok i) (least n m sz sets ok i .0) in
-      let er = row-at maxWires (λ j. rank n (pickOf n (maskOf sets j 0) (maskOf sets j 1))) i l in
-      let ez = row-at maxWires (λ j. maskOf W j 0) i l in
-      let eo = row-at maxWires (λ j. maskOf W j 1) i l in
+      let er = row-at maxWires (rankOf n sets) i l in
+      let ep = row-at maxWires (pairOf W) i l in
       let et = rank-parts n t (sz .inputs) lt .0 in
-      rw (er, ez, eo, et)
-      (cond-has (λ x. x ≡ rank n (pickOf n (maskOf W i 0) (maskOf W i 1))) (occurs 4 (member w) i (bit t p)) (λ h. ap (rank n) (sym (still-pick i h))) (λ _. refl)))
+      rw (er, ep, et)
+      (cond-has (λ x. x ≡ rankOf n W i) (occurs 4 (member w) i (bit t p)) (λ h. ap (rank n) (sym (still-pick i h))) (λ _. rank-between n W i)))

@@ -2,6 +2,7 @@ pub mod Picks
 pub mod Promised
 pub mod Depth
 pub mod Families
+pub mod MaskPairs
 pub mod Keeping
 pub mod Whole
 pub mod Opening

@@ -1,7 +1,7 @@
--- What the code keeps of a part: its sets, and for each wire the two masks of its projection and the rank of its pick.
-use Prim.Native.Nat.{ℕ, _^_, _/_, _%_, _<_, _≤_}
+-- What the code keeps of a part: its sets, and for each wire the two masks of its projection in one number and the rank of its pick.
+use Prim.Native.Nat.{ℕ, _+_, _*_, _-_, _^_, _/_, _%_, _<_, _≤_}
 use mathlib.Core.Path.{_≡_}
-use mathlib.Core.Bool.{cond}
+use mathlib.Core.Bool.{cond, not}
 use lib.Dec.{T, eqb}
 use mathlib.Core.List.{List}
 use lib.ListN.{length, getD}
@@ -9,9 +9,10 @@ use Rattle.base.specs.Sizes.{maxInputs, maxWires}
 use Rattle.table.specs.Bits.{bit, sum, row}
 use Rattle.table.specs.Pick.{pickOf, rank, tableSpace}
 use Rattle.table.specs.Blocks.{Covered}
+use Rattle.table.specs.Pairs.{seat, zerosIn, onesIn}
 use Rattle.relation.specs.Source.{Rel, Tables, WellDefined, value}
-use Rattle.relation.specs.Tests.{ofSets, wires, occurs, compatible, conflict, freeWire}
-use Rattle.relation.specs.Masks.{member, maskOf, cut, NonePast}
+use Rattle.relation.specs.Tests.{ofSets, wires, isOne, occurs, compatible, conflict, freeWire}
+use Rattle.relation.specs.Masks.{member, maskOf, NonePast}
 use Rattle.search.specs.declared.Part.{Part}
 use Rattle.search.specs.declared.State.{State}
 use Rattle.search.specs.declared.Open.{Open}
@@ -29,13 +30,20 @@ pub record Sets (n m : ℕ) (sets : List ℕ) : Type 0 where
   pub past : NonePast n sets
   pub defined : WellDefined n m (ofSets sets)
 
--- the masks of the wires' projections: where each can be b
-unfoldable pub masksOf : List ℕ → ℕ → List ℕ
-masksOf sets b = row maxWires (λ j. maskOf sets j b)
+-- what occurs of wire j in the set w: 1 where 1 does, and 16 where 0 does
+unfoldable pub sidesOf : ℕ → ℕ → ℕ
+sidesOf w j = isOne (occurs 4 (member w) j 1) + 16 * isOne (occurs 4 (member w) j 0)
 
--- the ranks of the picks between masks
-unfoldable pub ranksBetween : ℕ → List ℕ → List ℕ → List ℕ
-ranksBetween n zeros ones = row maxWires (λ j. rank n (pickOf n (getD zeros j 0) (getD ones j 0)))
+-- the two masks of wire j's projection in one number, and those of all wires
+unfoldable pub pairOf : List ℕ → ℕ → ℕ
+pairOf sets j = sum 16 (λ p. sidesOf (getD sets p 0) j * 2 ^ seat p)
+
+unfoldable pub pairsOf : List ℕ → List ℕ
+pairsOf sets = row maxWires (pairOf sets)
+
+-- the ranks of the picks between the masks of pairs
+unfoldable pub ranksBetween : ℕ → List ℕ → List ℕ
+ranksBetween n pairs = row maxWires (λ j. rank n (pickOf n (zerosIn (getD pairs j 0)) (onesIn (getD pairs j 0))))
 
 -- the rank of a wire's pick, and of all wires' picks
 abbrev pub rankOf : ℕ → List ℕ → ℕ → ℕ
@@ -44,15 +52,14 @@ rankOf n sets j = rank n (pickOf n (maskOf sets j 0) (maskOf sets j 1))
 unfoldable pub ranksOf : ℕ → List ℕ → List ℕ
 ranksOf n sets = row maxWires (rankOf n sets)
 
-pub record Held (n m : ℕ) (s z o r : List ℕ) : Type 0 where
+pub record Held (n m : ℕ) (s w r : List ℕ) : Type 0 where
   pub sized : Sized n m
   pub sets : Sets n m s
-  pub zeros : z ≡ masksOf s 0
-  pub ones : o ≡ masksOf s 1
+  pub pairs : w ≡ pairsOf s
   pub ranks : r ≡ ranksOf n s
 
 abbrev pub Kept : Part → Type 0
-Kept part = Held (part .n) (part .m) (part .sets) (part .zeros) (part .ones) (part .ranks)
+Kept part = Held (part .n) (part .m) (part .sets) (part .pairs) (part .ranks)
 
 -- the tables' values are allowed on the patterns below k
 abbrev pub Settled : ℕ → List ℕ → List ℕ → ℕ → Type 0
@@ -73,16 +80,23 @@ tablesIn ranks = row maxWires (λ j. getD ranks j 0 % tableSpace)
 unfoldable pub cellsIn : List ℕ → ℕ
 cellsIn ranks = sum maxWires (λ j. getD ranks j 0 / tableSpace)
 
--- the masks for bit b once pattern p has the set w: pattern p goes where b no longer occurs
-unfoldable pub cutMasks : List ℕ → ℕ → ℕ → ℕ → List ℕ
-cutMasks masks p w b = row maxWires (λ j. cut (getD masks j 0) p (occurs 4 (member w) j b))
+-- what does not occur of wire j in the set w
+unfoldable pub lostOf : ℕ → ℕ → ℕ
+lostOf w j = isOne (not (occurs 4 (member w) j 1)) + 16 * isOne (not (occurs 4 (member w) j 0))
+
+-- a pair once the pattern at seat s has the set w: the pattern goes from the masks of what no longer occurs
+unfoldable pub cutPair : ℕ → ℕ → ℕ → ℕ → ℕ
+cutPair x s w j = x - (bit x s * isOne (not (occurs 4 (member w) j 1)) + 16 * (bit x (s + 4) * isOne (not (occurs 4 (member w) j 0)))) * 2 ^ s
+
+unfoldable pub cutPairs : List ℕ → ℕ → ℕ → List ℕ
+cutPairs pairs p w = row maxWires (λ j. cutPair (getD pairs j 0) (seat p) w j)
 
 -- the rank once pattern p has the set w: a pick whose bit on p still occurs is still the pick
-unfoldable pub rankAgain : ℕ → ℕ → ℕ → ℕ → ℕ → ℕ → ℕ → ℕ
-rankAgain n r p j w zeros ones = cond (occurs 4 (member w) j (bit (r % tableSpace) p)) r (rank n (pickOf n zeros ones))
+unfoldable pub rankAgain : ℕ → ℕ → ℕ → ℕ → ℕ → ℕ → ℕ
+rankAgain n r p j w pair = cond (occurs 4 (member w) j (bit (r % tableSpace) p)) r (rank n (pickOf n (zerosIn pair) (onesIn pair)))
 
-unfoldable pub ranksAgain : ℕ → List ℕ → ℕ → ℕ → List ℕ → List ℕ → List ℕ
-ranksAgain n ranks p w zeros ones = row maxWires (λ j. rankAgain n (getD ranks j 0) p j w (getD zeros j 0) (getD ones j 0))
+unfoldable pub ranksAgain : ℕ → List ℕ → ℕ → ℕ → List ℕ → List ℕ
+ranksAgain n ranks p w pairs = row maxWires (λ j. rankAgain n (getD ranks j 0) p j w (getD pairs j 0))
 
 -- "take the lowest pattern in conflict and the lowest wire that has both 0 and 1 there"; none where the tables are compatible
 unfoldable pub openOf : ℕ → ℕ → Rel → Tables → Open
@@ -90,8 +104,11 @@ openOf n m R X =
     let p = conflict n m R X in
     cond (compatible n m R X) Closed (Pair p (freeWire m (R p)))
 
--- masks of n inputs that cover every pattern, for each wire
-pub record MasksCover (n : ℕ) (zeros ones : List ℕ) : Type 0 where
-  pub zeros-lt : (j : ℕ) → j < maxWires → getD zeros j 0 < 2 ^ (2 ^ n)
-  pub ones-lt : (j : ℕ) → j < maxWires → getD ones j 0 < 2 ^ (2 ^ n)
-  pub covered : (j : ℕ) → j < maxWires → Covered n (getD zeros j 0) (getD ones j 0)
+-- the masks of a pair are of n inputs and cover every pattern
+pub record Covers (n pair : ℕ) : Type 0 where
+  pub zeros-lt : zerosIn pair < 2 ^ (2 ^ n)
+  pub ones-lt : onesIn pair < 2 ^ (2 ^ n)
+  pub covered : Covered n (zerosIn pair) (onesIn pair)
+
+abbrev pub PairsCover : ℕ → List ℕ → Type 0
+PairsCover n pairs = (j : ℕ) → j < maxWires → Covers n (getD pairs j 0)

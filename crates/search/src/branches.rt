@@ -4,7 +4,7 @@
 // Inner functions: `search_sets` and the cycle itself meet what they require.
 use crate::Open;
 use crate::conflicts::first_open;
-use crate::parts::cut_masks;
+use crate::pairs::cut_pairs;
 use crate::parts::ranks_again;
 use crate::ranks::first_change;
 use crate::ranks::floor_of;
@@ -28,14 +28,13 @@ pub fn visit(
     tally: &mut [u32; 3],
     n: u8,
     m: u8,
-    zeros: [u16; 4],
-    ones: [u16; 4],
+    pairs: [u32; 4],
     ranks: [u32; 4],
     floor: u32,
     from: u8,
     budget: u32,
 )
-    requires { ⌜ Blocks (now e) × Held n m (now sets) zeros ones ranks × (floor ≡ cellsIn ranks) × (from ≤ 2 ^ n) × Settled m (now sets) (tablesIn ranks) from × (length (now tally) ≡ 3) ⌝ }
+    requires { ⌜ Blocks (now e) × Held n m (now sets) pairs ranks × (floor ≡ cellsIn ranks) × (from ≤ 2 ^ n) × Settled m (now sets) (tablesIn ranks) from × (length (now tally) ≡ 3) ⌝ }
     ensures { λ _. ⌜ (now (sets .exit) ≡ now (sets .entry)) × (stateOf (now (best .exit)) (now (tally .exit)) ≡ searchPart (tree n m) budget (ofSets (now (sets .entry))) (stateOf (now (best .entry)) (now (tally .entry)))) × (length (now (tally .exit)) ≡ 3) ⌝ }
 {
     if tally[0] <= floor {
@@ -54,7 +53,7 @@ pub fn visit(
             tally[0] = floor;
         }
         Open::Pair(p, j) => {
-            split(e, sets, best, tally, n, m, zeros, ones, ranks, p, j, budget);
+            split(e, sets, best, tally, n, m, pairs, ranks, p, j, budget);
         }
     }
 }
@@ -67,14 +66,13 @@ fn split(
     tally: &mut [u32; 3],
     n: u8,
     m: u8,
-    zeros: [u16; 4],
-    ones: [u16; 4],
+    pairs: [u32; 4],
     ranks: [u32; 4],
     p: u8,
     j: u8,
     budget: u32,
 )
-    requires { ⌜ Blocks (now e) × Held n m (now sets) zeros ones ranks × (p < 2 ^ n) × (j < m) × T (free m (ofSets (now sets) p) j) × Settled m (now sets) (tablesIn ranks) p × (length (now tally) ≡ 3) ⌝ }
+    requires { ⌜ Blocks (now e) × Held n m (now sets) pairs ranks × (p < 2 ^ n) × (j < m) × T (free m (ofSets (now sets) p) j) × Settled m (now sets) (tablesIn ranks) p × (length (now tally) ≡ 3) ⌝ }
     ensures { λ _. ⌜ (now (sets .exit) ≡ now (sets .entry)) × (stateOf (now (best .exit)) (now (tally .exit)) ≡ splitOf (tree n m) budget (searchPart (tree n m) budget) (ofSets (now (sets .entry))) p j (stateOf (now (best .entry)) (now (tally .entry)))) × (length (now (tally .exit)) ≡ 3) ⌝ }
 {
     let at = p as usize;
@@ -82,13 +80,12 @@ fn split(
     for b in 0..2u8 {
         let part = with_bit(set, j, b);
         sets[at] = part;
-        let z = cut_masks(zeros, p, part, 0);
-        let o = cut_masks(ones, p, part, 1);
-        let r = ranks_again(e, n, ranks, p, part, z, o);
+        let w = cut_pairs(pairs, p, part);
+        let r = ranks_again(e, n, ranks, p, part, w);
         let floor = floor_of(r);
         if floor < tally[0] {
             let from = first_change(ranks, r, p);
-            visit(e, sets, best, tally, n, m, z, o, r, floor, from, budget);
+            visit(e, sets, best, tally, n, m, w, r, floor, from, budget);
         }
     }
     sets[at] = set;

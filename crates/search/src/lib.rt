@@ -12,19 +12,19 @@ ghost use Rattle.search.specs.Reply.{answerOf, searchOf};
 ghost use Rattle.search.specs.Kept.{Sized, Sets};
 
 pub mod ranks; // a pick as one number
+pub mod pairs; // the two masks of a wire in one number
 pub mod parts; // what is kept of a part, and its two halves by a split
 pub mod conflicts; // the lowest pattern in conflict and its lowest open wire
 pub mod quick_solver; // the first answer
 pub mod branches; // visiting and splitting a part
 
-// A part (subrelation) of n inputs and m wires: its sets, and for each wire the patterns on which it can be 0, those on which it can be 1, and the
-// rank of its pick.
+// A part (subrelation) of n inputs and m wires: its sets, and for each wire the patterns on which it can be 0 and those on which it can be 1, in one
+// number, and the rank of its pick.
 pub struct Part {
     pub n: u8,
     pub m: u8,
     pub sets: [u16; 16],
-    pub zeros: [u16; 4],
-    pub ones: [u16; 4],
+    pub pairs: [u32; 4],
     pub ranks: [u32; 4],
 }
 
@@ -67,8 +67,7 @@ fn search_sets(n: u8, m: u8, sets: [u16; 16], budget: u32) -> Answer
     let whole = parts::whole(&table, n, m, sets);
     let ranks = whole.ranks;
     let start = quick_solver::quick(&table, n, m, sets, ranks[0]);
-    let zeros = whole.zeros;
-    let ones = whole.ones;
+    let pairs = whole.pairs;
     let floor = ranks::floor_of(ranks);
     let mut own = sets;
     let mut tables = start.tables;
@@ -80,8 +79,7 @@ fn search_sets(n: u8, m: u8, sets: [u16; 16], budget: u32) -> Answer
         &mut tally,
         n,
         m,
-        zeros,
-        ones,
+        pairs,
         ranks,
         floor,
         0,

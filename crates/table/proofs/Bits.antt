@@ -1,11 +1,11 @@
 -- Laws of bits, and of tests and sums over the numbers below a bound.
-use Prim.Native.Nat.{ℕ, zero, suc, _+_, _*_, _^_, _/_, _%_, _-_, _<_, _≤_}
-use mathlib.Core.Path.{_≡_, refl, sym, ap, subst, _∙_}
+use Prim.Native.Nat.{ℕ, zero, suc, _+_, _*_, _^_, _/_, _%_, _<_, _≤_}
+use mathlib.Core.Path.{_≡_, refl, sym, ap, _∙_}
 use mathlib.Core.Logic.{_⊎_, inl, inr, ⊎-elim}
-use mathlib.Core.Bool.{Bool, true, false, not, _&&_, _||_}
+use mathlib.Core.Bool.{Bool, not, _&&_}
 use native.Mathlib.Numerals.{add-one}
 use native.Mathlib.Omega.{arith}
-use native.Mathlib.Nat.{not-suc-le-zero, le-of-suc-le-suc, eq-or-lt-of-le, mod-lt, mod-eq-of-lt, mul-le-mul-right, add-mul-div-right, add-mul-mod-self-right, mod-add-div', div-lt-iff-lt-mul, le-dest, add-comm, pow-suc, div-eq-of-lt, lt-of-lt-of-le, lt-of-le-of-lt, le-trans, mod-le}
+use native.Mathlib.Nat.{not-suc-le-zero, le-of-suc-le-suc, eq-or-lt-of-le, mod-lt, mod-eq-of-lt, mul-le-mul-right, add-mul-div-right, add-mul-mod-self-right, mod-add-div', div-lt-iff-lt-mul, le-dest, add-comm, pow-suc, div-eq-of-lt, lt-of-lt-of-le, le-trans, mod-le}
 use lib.Dec.{T, eqb}
 use lib.Bits.{bitAnd, and-shr, and-mod}
 use lib.Pow.{pow-pos, pow-add, pow-mono, high, shr-shr, shl-exact, split}
@@ -184,9 +184,6 @@ zero-bit v = bit-past 0 0 v (omega arith) (omega arith)
 pub bit-part : (x p : ℕ) → bit x p * 2 ^ p ≤ x
 unfolding bit
 bit-part x p = le-trans (mul-le-mul-right (2 ^ p) (mod-le (x / 2 ^ p) 2)) (omega (arith, split x p))
-
-pub shifted-bit : (x p : ℕ) → x < 65536 → bit x p * 2 ^ p % 65536 ≡ bit x p * 2 ^ p
-shifted-bit x p h = mod-eq-of-lt (lt-of-le-of-lt (bit-part x p) h)
 
 -- a power of two, as the code makes it by a shift at width w
 pub shifted-one : (k w : ℕ) → k < w → 1 * 2 ^ k % 2 ^ w ≡ 2 ^ k

@@ -7,4 +7,5 @@ pub mod Count
 pub mod Ranks
 pub mod Masks
 pub mod Entries
+pub mod Pairs
 pub mod Places

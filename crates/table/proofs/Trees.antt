@@ -1,11 +1,10 @@
 -- Laws of trees: no ordered tree of a table's function has fewer selectors than the table has cells, and the reduced tree has as many.
-use Prim.Native.Nat.{ℕ, zero, suc, _+_, _*_, _^_, _/_, _%_, _-_, _<_, _≤_}
+use Prim.Native.Nat.{ℕ, zero, suc, _+_, _*_, _^_, _%_, _-_, _<_, _≤_}
 use mathlib.Core.Path.{_≡_, refl, sym, ap, _∙_}
 use mathlib.Core.Logic.{_⊎_, inl, inr, ⊎-elim}
-use mathlib.Core.Bool.{Bool, cond}
 use native.Mathlib.Omega.{arith}
 use native.Mathlib.Nat.{mod-lt, eq-or-lt-of-le, mod-one}
-use lib.Dec.{T, eqb, eqb→eq}
+use lib.Dec.{eqb, eqb→eq}
 use lib.Pow.{pow-pos, mod-pow-add}
 use Rattle.base.proofs.Tests.{cond-has, cond-has₂, eqb-yes, eqb-not}
 use Rattle.table.specs.Bits.{bit}
@@ -36,11 +35,6 @@ unfolding follow Ordered
 follow-lt n k (con c) p o = o
 follow-lt n k (sel i z e) p o =
     cond-has (λ y. y < 2) (eqb (bit p (n - i)) 0) (λ _. follow-lt n i z p (o .2)) (λ _. follow-lt n i e p (o .3))
-
--- an ordered tree that does not test input k + 1
-pub raise : (n k i : ℕ) (z o : Tree) → suc k < i → Ordered n k (sel i z o) → Ordered n (suc k) (sel i z o)
-unfolding Ordered
-raise n k i z o h d = (h, d .1, d .2, d .3)
 
 -- the tree's value is the table's bit on each pattern of the last r inputs
 abbrev pub Means : ℕ → ℕ → Tree → ℕ → Type 0

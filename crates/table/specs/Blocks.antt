@@ -1,5 +1,5 @@
 -- The picks of all pairs of masks of two inputs, as one table of 256 entries.
-use Prim.Native.Nat.{ℕ, _+_, _*_, _^_, _%_, _<_, _≤_}
+use Prim.Native.Nat.{ℕ, _+_, _*_, _^_, _<_, _≤_}
 use mathlib.Core.Path.{_≡_}
 use mathlib.Core.List.{List}
 use mathlib.Core.Option.{Option, none, some}
@@ -19,10 +19,6 @@ entryOf (some t) = cells 2 t * 256 + t * 17
 
 unfoldable pub blockOf : ℕ → ℕ → ℕ
 blockOf zeros ones = entryOf (leastOf (cells 2) 2 (masked zeros ones))
-
--- where the entry of the lowest four patterns of two masks stands
-unfoldable pub placeOf : ℕ → ℕ → ℕ
-placeOf zeros ones = zeros % 16 * 16 + ones % 16
 
 -- the entry of two masks stands at zeros * 16 + ones
 pub record Blocks (e : List ℕ) : Type 0 where

@@ -4,3 +4,4 @@ pub mod Cells
 pub mod Tree
 pub mod Pick
 pub mod Blocks
+pub mod Pairs

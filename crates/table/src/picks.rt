@@ -1,11 +1,13 @@
 // The pick between two masks by halving: the table of fewest cells, then the smallest, that is 0 only on patterns of the mask `zeros` and 1 only on
-// patterns of the mask `ones`. A result is one number, its rank: cells, then the table. Blocks of two inputs are looked up in a table that the caller
-// lends, since a constant is copied by every function that names it.
+// patterns of the mask `ones`. Both masks come in one number, the pair: a byte for each four patterns, `zeros` in its upper half and `ones` in its lower.
+// A result is one number, its rank: cells, then the table. Blocks of two inputs are looked up in a table that the caller lends, since a constant is
+// copied by every function that names it. Each byte of the pair is the place of a block in that table, so no place has to be made.
 ghost use mathlib.Core.Path.{_≡_};
 ghost use Prim.Native.Nat.{_<_, _≤_, _^_, _+_, _*_, _/_, _%_, min};
 ghost use Rattle.table.specs.Cells.{cells};
 ghost use Rattle.table.specs.Pick.{leastOf, masked, pickOf, rank};
-ghost use Rattle.table.specs.Blocks.{blockOf, placeOf, Blocks, Shown, Covered};
+ghost use Rattle.table.specs.Blocks.{blockOf, Blocks, Shown, Covered};
+ghost use Rattle.table.specs.Pairs.{zerosIn, onesIn};
 
 // The pick of each pair of masks of two inputs, at zeros * 16 + ones: cells * 256 + table * 17, the table twice side by side.
 // Where a pattern has neither 0 nor 1 there is none: 64 cells.
@@ -281,13 +283,6 @@ fn lesser(a: u32, b: u32) -> u32
     if a < b { a } else { b }
 }
 
-// The place in the table of the lowest four patterns of two masks. The places of two blocks, bit by bit together, are the place of what both have.
-fn place(zeros: u32, ones: u32) -> u32
-    ensures { λ r. ⌜ (r ≡ placeOf zeros ones) × (r < 256) ⌝ }
-{
-    zeros % 16 * 16 + ones % 16
-}
-
 // Two inputs: an entry of the table.
 fn block(e: &[u16; 256], at: u32) -> u32
     requires { ⌜ Blocks (now e) × (at < 256) ⌝ }
@@ -296,7 +291,8 @@ fn block(e: &[u16; 256], at: u32) -> u32
     e[at as usize] as u32
 }
 
-// Three inputs, from the places of the lower and the upper half: cells * 256 + table.
+// Three inputs, from the places of the lower and the upper half: cells * 256 + table. Two places, bit by bit together, are the place of what both
+// blocks have.
 fn pick3(e: &[u16; 256], low: u32, high: u32) -> u32
     requires { ⌜ Blocks (now e) × (low < 256) × (high < 256) ⌝ }
     ensures { λ r. ⌜ Shown 3 256 (leastOf (cells 3) 3 (masked (high / 16 * 16 + low / 16) (high % 16 * 16 + low % 16))) r × (r ≤ 16384) ⌝ }
@@ -308,40 +304,39 @@ fn pick3(e: &[u16; 256], low: u32, high: u32) -> u32
 }
 
 // Four inputs: the rank.
-fn pick4(e: &[u16; 256], zeros: u32, ones: u32) -> u32
-    requires { ⌜ Blocks (now e) × (zeros < 65536) × (ones < 65536) ⌝ }
-    ensures { λ r. ⌜ Shown 4 65536 (leastOf (cells 4) 4 (masked zeros ones)) r ⌝ }
+fn pick4(e: &[u16; 256], pair: u32) -> u32
+    requires { ⌜ Blocks (now e) ⌝ }
+    ensures { λ r. ⌜ Shown 4 65536 (leastOf (cells 4) 4 (masked (zerosIn pair) (onesIn pair))) r ⌝ }
 {
-    let a0 = place(zeros, ones);
-    let a1 = place(zeros / 16, ones / 16);
-    let b0 = place(zeros / 256, ones / 256);
-    let b1 = place(zeros / 4096, ones / 4096);
+    let a0 = pair % 256;
+    let a1 = pair / 256 % 256;
+    let b0 = pair / 65536 % 256;
+    let b1 = pair / 16777216;
     let a = pick3(e, a0, a1);
     let b = pick3(e, b0, b1);
     let c = pick3(e, a0 & b0, a1 & b1);
     lesser(c * 256 + c % 256, (a / 256 + 1) * 65536 + a % 256 + b * 256)
 }
 
-// The rank of the pick among the tables of n inputs. The search calls it with the masks of a wire, which cover every pattern.
-pub fn pick(e: &[u16; 256], n: u8, zeros: u16, ones: u16) -> u32
-    requires { ⌜ Blocks (now e) × (1 ≤ n) × (n ≤ 4) × (zeros < 2 ^ (2 ^ n)) × (ones < 2 ^ (2 ^ n)) × Covered n zeros ones ⌝ }
-    ensures { λ r. ⌜ r ≡ rank n (pickOf n zeros ones) ⌝ }
+// The rank of the pick between the two masks of a pair, among the tables of n inputs. The search calls it with the masks of a wire, which cover every pattern.
+// One input is looked up as two: times 5, the two patterns of each mask stand there twice.
+pub fn pick(e: &[u16; 256], n: u8, pair: u32) -> u32
+    requires { ⌜ Blocks (now e) × (1 ≤ n) × (n ≤ 4) × (zerosIn pair < 2 ^ (2 ^ n)) × (onesIn pair < 2 ^ (2 ^ n)) × Covered n (zerosIn pair) (onesIn pair) ⌝ }
+    ensures { λ r. ⌜ r ≡ rank n (pickOf n (zerosIn pair) (onesIn pair)) ⌝ }
 {
-    let z = zeros as u32;
-    let o = ones as u32;
     match n {
         1 => {
-            let x = block(e, place(z * 5, o * 5));
+            let x = block(e, pair * 5);
             x / 256 * 65536 + x % 4
         }
         2 => {
-            let x = block(e, place(z, o));
+            let x = block(e, pair);
             x / 256 * 65536 + x % 16
         }
         3 => {
-            let x = pick3(e, place(z, o), place(z / 16, o / 16));
+            let x = pick3(e, pair % 256, pair / 256);
             x / 256 * 65536 + x % 256
         }
-        _ => pick4(e, z, o),
+        _ => pick4(e, pair),
     }
 }

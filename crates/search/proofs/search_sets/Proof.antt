@@ -33,8 +33,8 @@ floor-of-requires c κs = search needs
 
 visit-requires : tie.Need-visit-requires
 visit-requires c κs =
-    let w = c .before .before .before .before .before .before .before .before .before .before .before .whole in
-    (c .before .before .before .before .before .before .before .before .before .before .before .before .before .blocks2 .ensures, held-whole (w .result) (w .ensures .0) (w .ensures .1) (w .ensures .2) (w .ensures .3), c .before .before .before .before .before .floor-of .ensures, omega arith, λ q l. absurd (omega arith), refl)
+    let w = c .before .before .before .before .before .before .before .before .before .before .whole in
+    (c .before .before .before .before .before .before .before .before .before .before .before .before .blocks2 .ensures, held-whole (w .result) (w .ensures .0) (w .ensures .1) (w .ensures .2) (w .ensures .3), c .before .before .before .before .before .floor-of .ensures, omega arith, λ q l. absurd (omega arith), refl)
 
 array-read-cells : tie.Need-array-read-cells
 array-read-cells c = search needs
@@ -47,9 +47,9 @@ array-read-if1 c = search needs
 
 returns : tie.Need-returns
 returns c =
-    let a = c .before .before .before .before .before .before .before .before .before .before .before .before .before .before .before .before .args in
-    let w = c .before .before .before .before .before .before .before .before .before .before .before .before .before .whole in
-    let st = c .before .before .before .before .before .before .before .before .before .before .quick in
+    let a = c .before .before .before .before .before .before .before .before .before .before .before .before .before .before .before .args in
+    let w = c .before .before .before .before .before .before .before .before .before .before .before .before .whole in
+    let st = c .before .before .before .before .before .before .before .before .before .quick in
     let v = c .before .visit in
     let R = ofSets (a .sets) in
     let s = stateOf (v .last .1 .1 .0) (v .last .1 .1 .1 .0) in
@@ -59,8 +59,8 @@ returns c =
 
 returns-2 : tie.Need-returns-2
 returns-2 c =
-    let a = c .before .before .before .before .before .before .before .before .before .before .before .before .before .before .before .before .args in
-    let st = c .before .before .before .before .before .before .before .before .before .before .quick in
+    let a = c .before .before .before .before .before .before .before .before .before .before .before .before .before .before .before .args in
+    let st = c .before .before .before .before .before .before .before .before .before .quick in
     let v = c .before .visit in
     let R = ofSets (a .sets) in
     let s = stateOf (v .last .1 .1 .0) (v .last .1 .1 .1 .0) in

@@ -22,7 +22,7 @@ use Rattle.search.proofs.branches.visit.Kinds as visit-kinds
 use Rattle.search.proofs.branches.+split+visit.Lts-visit as visit-lts
 use Rattle.relation.proofs.values.with_bit.Reads as with-bit-reads
 use Rattle.search.proofs.conflicts.first_open.Reads as first-open-reads
-use Rattle.search.proofs.parts.cut_masks.Reads as cut-masks-reads
+use Rattle.search.proofs.pairs.cut_pairs.Reads as cut-pairs-reads
 use Rattle.search.proofs.parts.ranks_again.Reads as ranks-again-reads
 use Rattle.search.proofs.ranks.floor_of.Reads as floor-of-reads
 use Rattle.search.proofs.ranks.first_change.Reads as first-change-reads
@@ -49,21 +49,21 @@ abbrev visit-below : ℕ → In 4 visit-kinds.ps
 visit-below t = and 4 visit-kinds.ps (falls 4 visit-kinds.ps _<_ μ-visit t) visit.Pre
 
 abbrev split-Inv-loop : split-lts.InvT-loop
-split-Inv-loop e sets₀ best₀ tally₀ n m zeros ones ranks p j budget at own b₀ sets best tally b =
+split-Inv-loop e sets₀ best₀ tally₀ n m pairs ranks p j budget at own b₀ sets best tally b =
     (b ≤ 2)
     × ((x : ℕ) → set sets p x ≡ set sets₀ p x)
     × (stateOf best tally ≡ treated n m budget (ofSets sets₀) p j (stateOf best₀ tally₀) b)
     × (length tally ≡ 3)
 
 abbrev split-μ-loop : split-lts.MeasureT-loop
-split-μ-loop e sets₀ best₀ tally₀ n m zeros ones ranks p j budget at set b₀ sets best tally b = 2 - b
+split-μ-loop e sets₀ best₀ tally₀ n m pairs ranks p j budget at set b₀ sets best tally b = 2 - b
 
 abbrev split-claims : ℕ → split-lts.Claims
 split-claims t = (
   with-bit-reads.Asked,
   with-bit-reads.Learnt,
-  cut-masks-reads.Asked,
-  cut-masks-reads.Learnt,
+  cut-pairs-reads.Asked,
+  cut-pairs-reads.Learnt,
   ranks-again-reads.Asked,
   ranks-again-reads.Learnt,
   floor-of-reads.Asked,
@@ -96,22 +96,19 @@ split-mul-sets t c = omega arith
 split-element-write-sets : (t : ℕ) → split-lts.Need-element-write-sets (split-claims t) (split-at t) split.Post split-Inv-loop split-μ-loop
 split-element-write-sets t c = let q = c .before .before .before .before .pre .1 in pattern-lt (q .1 .sized) (q .2)
 
-split-cut-masks-requires : (t : ℕ) → split-lts.Need-cut-masks-requires (split-claims t) (split-at t) split.Post split-Inv-loop split-μ-loop
-split-cut-masks-requires t c κs = let q = c .before .before .before .before .pre .1 in (pattern-lt (q .1 .sized) (q .2), omega arith)
-
-split-cut-masks-requires-2 : (t : ℕ) → split-lts.Need-cut-masks-requires-2 (split-claims t) (split-at t) split.Post split-Inv-loop split-μ-loop
-split-cut-masks-requires-2 t c κs = let q = c .before .before .before .before .before .pre .1 in (pattern-lt (q .1 .sized) (q .2), omega arith)
+split-cut-pairs-requires : (t : ℕ) → split-lts.Need-cut-pairs-requires (split-claims t) (split-at t) split.Post split-Inv-loop split-μ-loop
+split-cut-pairs-requires t c κs = let q = c .before .before .before .before .pre .1 in pattern-lt (q .1 .sized) (q .2)
 
 split-ranks-again-requires : (t : ℕ) → split-lts.Need-ranks-again-requires (split-claims t) (split-at t) split.Post split-Inv-loop split-μ-loop
 split-ranks-again-requires t c κs =
-    let a = c .before .before .before .before .before .before .args in
-    let q = c .before .before .before .before .before .before .pre .1 in
-    let l = c .before .before .before .before .loop in
-    let w = c .before .before .with-bit in
+    let a = c .before .before .before .before .before .args in
+    let q = c .before .before .before .before .before .pre .1 in
+    let l = c .before .before .before .loop in
+    let w = c .before .with-bit in
     let S = a .sets .now in
     let N = set (l .sets) (a .p) (w .result) in
-    let lb = c .before .before .before .loop-test .taken in
-    (q .0, q .1 .sized .one, q .1 .sized .inputs, pattern-lt (q .1 .sized) (q .2), next-cover (a .n) (a .m) S (a .zeros) (a .ones) (a .ranks) (q .1) (a .p) (a .j) (q .2) (q .3) (q .4) (l .b) lb (w .result) (w .ensures) N (l .inv .1 (w .result)) (c .before .cut-masks .ensures) (c .cut-masks2 .ensures))
+    let lb = c .before .before .loop-test .taken in
+    (q .0, q .1 .sized .one, q .1 .sized .inputs, pattern-lt (q .1 .sized) (q .2), next-cover (a .n) (a .m) S (a .pairs) (a .ranks) (q .1) (a .p) (a .j) (q .2) (q .3) (q .4) (l .b) lb (w .result) (w .ensures) N (l .inv .1 (w .result)) (c .cut-pairs .ensures))
 
 split-floor-of-requires : (t : ℕ) → split-lts.Need-floor-of-requires (split-claims t) (split-at t) split.Post split-Inv-loop split-μ-loop
 split-floor-of-requires t c κs = search needs
@@ -120,56 +117,54 @@ split-element-copy-out-if1 : (t : ℕ) → split-lts.Need-element-copy-out-if1 (
 split-element-copy-out-if1 t c = search needs
 
 split-first-change-requires : (t : ℕ) → split-lts.Need-first-change-requires (split-claims t) (split-at t) split.Post split-Inv-loop split-μ-loop
-split-first-change-requires t c κs = let q = c .before .before .before .before .before .before .before .before .before .before .pre .1 in pattern-lt (q .1 .sized) (q .2)
+split-first-change-requires t c κs = let q = c .before .before .before .before .before .before .before .before .before .pre .1 in pattern-lt (q .1 .sized) (q .2)
 
 split-visit-requires : (t : ℕ) → split-lts.Need-visit-requires (split-claims t) (split-at t) split.Post split-Inv-loop split-μ-loop
 split-visit-requires t c κs =
-    let a = c .before .before .before .before .before .before .before .before .before .before .before .before .before .before .args in
-    let q = c .before .before .before .before .before .before .before .before .before .before .before .before .before .before .pre .1 in
-    let l = c .before .before .before .before .before .before .before .before .before .before .before .before .loop in
-    let w = c .before .before .before .before .before .before .before .before .before .before .with-bit in
+    let a = c .before .before .before .before .before .before .before .before .before .before .before .before .before .args in
+    let q = c .before .before .before .before .before .before .before .before .before .before .before .before .before .pre .1 in
+    let l = c .before .before .before .before .before .before .before .before .before .before .before .loop in
+    let w = c .before .before .before .before .before .before .before .before .before .with-bit in
     let S = a .sets .now in
     let N = set (l .sets) (a .p) (w .result) in
-    let lb = c .before .before .before .before .before .before .before .before .before .before .before .loop-test .taken in
-    let ez = c .before .before .before .before .before .before .before .before .before .cut-masks .ensures in
-    let eo = c .before .before .before .before .before .before .before .before .cut-masks2 .ensures in
+    let lb = c .before .before .before .before .before .before .before .before .before .before .loop-test .taken in
+    let ex = c .before .before .before .before .before .before .before .before .cut-pairs .ensures in
     let er = c .before .before .before .before .before .before .before .ranks-again .ensures in
     let f = c .before .before .before .first-change in
-    let fewer = next-pairs (a .n) (a .m) S (a .zeros) (a .ones) (a .ranks) (q .1) (a .p) (a .j) (q .2) (q .3) (q .4) (l .b) lb (w .result) (w .ensures) N (l .inv .1 (w .result)) in (
-      omega (arith, fewer, c .before .before .before .before .before .before .before .before .before .before .before .before .before .before .pre .0),
-      (q .0, next-held (a .n) (a .m) S (a .zeros) (a .ones) (a .ranks) (q .1) (a .p) (a .j) (q .2) (q .3) (q .4) (l .b) lb (w .result) (w .ensures) N (l .inv .1 (w .result)) ez eo er, c .before .before .before .before .before .before .floor-of .ensures, omega (arith, f .ensures .0, q .2), next-settled (a .n) (a .m) S (a .zeros) (a .ones) (a .ranks) (q .1) (a .p) (a .j) (q .2) (q .3) (q .4) (l .b) lb (w .result) (w .ensures) N (l .inv .1 (w .result)) (q .5) (c .before .before .before .before .before .before .before .ranks-again .result) (f .result) (f .ensures .0) (f .ensures .1), l .inv .3),
+    let fewer = next-pairs (a .n) (a .m) S (a .pairs) (a .ranks) (q .1) (a .p) (a .j) (q .2) (q .3) (q .4) (l .b) lb (w .result) (w .ensures) N (l .inv .1 (w .result)) in (
+      omega (arith, fewer, c .before .before .before .before .before .before .before .before .before .before .before .before .before .pre .0),
+      (q .0, next-held (a .n) (a .m) S (a .pairs) (a .ranks) (q .1) (a .p) (a .j) (q .2) (q .3) (q .4) (l .b) lb (w .result) (w .ensures) N (l .inv .1 (w .result)) ex er, c .before .before .before .before .before .before .floor-of .ensures, omega (arith, f .ensures .0, q .2), next-settled (a .n) (a .m) S (a .pairs) (a .ranks) (q .1) (a .p) (a .j) (q .2) (q .3) (q .4) (l .b) lb (w .result) (w .ensures) N (l .inv .1 (w .result)) (q .5) (c .before .before .before .before .before .before .before .ranks-again .result) (f .result) (f .ensures .0) (f .ensures .1), l .inv .3),
     )
 
 split-add-b : (t : ℕ) → split-lts.Need-add-b (split-claims t) (split-at t) split.Post split-Inv-loop split-μ-loop
 split-add-b t c = omega arith
 
 split-loop-less : (t : ℕ) → split-lts.Need-loop-less (split-claims t) (split-at t) split.Post split-Inv-loop split-μ-loop
-split-loop-less t c = omega (arith, c .before .before .before .before .before .before .before .loop-test .taken)
+split-loop-less t c = omega (arith, c .before .before .before .before .before .before .loop-test .taken)
 
 split-loop-again : (t : ℕ) → split-lts.Need-loop-again (split-claims t) (split-at t) split.Post split-Inv-loop split-μ-loop
 split-loop-again t c =
-    let a = c .before .before .before .before .before .before .before .before .before .before .args in
-    let q = c .before .before .before .before .before .before .before .before .before .before .pre .1 in
-    let l = c .before .before .before .before .before .before .before .before .loop in
-    let w = c .before .before .before .before .before .before .with-bit in
+    let a = c .before .before .before .before .before .before .before .before .before .args in
+    let q = c .before .before .before .before .before .before .before .before .before .pre .1 in
+    let l = c .before .before .before .before .before .before .before .loop in
+    let w = c .before .before .before .before .before .with-bit in
     let S = a .sets .now in
     let N = set (l .sets) (a .p) (w .result) in
-    let lb = c .before .before .before .before .before .before .before .loop-test .taken in
+    let lb = c .before .before .before .before .before .before .loop-test .taken in
     let i = c .if1 in
     let s = stateOf (l .best) (l .tally) in
     let s₀ = stateOf (a .best .now) (a .tally .now) in
-    let ez = c .before .before .before .before .before .cut-masks .ensures in
-    let eo = c .before .before .before .before .cut-masks2 .ensures in
+    let ex = c .before .before .before .before .cut-pairs .ensures in
     let er = c .before .before .before .ranks-again .ensures in
-    let held = next-held (a .n) (a .m) S (a .zeros) (a .ones) (a .ranks) (q .1) (a .p) (a .j) (q .2) (q .3) (q .4) (l .b) lb (w .result) (w .ensures) N (l .inv .1 (w .result)) ez eo er in
+    let held = next-held (a .n) (a .m) S (a .pairs) (a .ranks) (q .1) (a .p) (a .j) (q .2) (q .3) (q .4) (l .b) lb (w .result) (w .ensures) N (l .inv .1 (w .result)) ex er in
     ⊎-elim
     (λ v.
     let st : stateOf (i .best) (i .tally) ≡ searchPart (tree (a .n) (a .m)) (a .budget) (ofSets N) s = ap₂ stateOf (v .7) (v .8) ∙ v .5 .ensures .1 in
-    (omega arith, next-same (a .n) (a .m) S (a .zeros) (a .ones) (a .ranks) (q .1) (a .p) (a .j) (q .2) (q .3) (q .4) (l .b) lb (w .result) (w .ensures) N (l .inv .1 (w .result)) (v .6 ∙ v .5 .ensures .0), next-treated (a .n) (a .m) S (a .zeros) (a .ones) (a .ranks) (q .1) (a .p) (a .j) (q .2) (q .3) (q .4) (l .b) lb (w .result) (w .ensures) N (l .inv .1 (w .result)) (a .budget) s (stateOf (i .best) (i .tally)) s₀ (l .inv .2) st, ap length (v .8) ∙ v .5 .ensures .2))
+    (omega arith, next-same (a .n) (a .m) S (a .pairs) (a .ranks) (q .1) (a .p) (a .j) (q .2) (q .3) (q .4) (l .b) lb (w .result) (w .ensures) N (l .inv .1 (w .result)) (v .6 ∙ v .5 .ensures .0), next-treated (a .n) (a .m) S (a .pairs) (a .ranks) (q .1) (a .p) (a .j) (q .2) (q .3) (q .4) (l .b) lb (w .result) (w .ensures) N (l .inv .1 (w .result)) (a .budget) s (stateOf (i .best) (i .tally)) s₀ (l .inv .2) st, ap length (v .8) ∙ v .5 .ensures .2))
     (λ v.
     let st : stateOf (i .best) (i .tally) ≡ searchPart (tree (a .n) (a .m)) (a .budget) (ofSets N) s = ap₂ stateOf (v .2) (v .3)
-    ∙ next-discards (a .n) (a .m) S (a .zeros) (a .ones) (a .ranks) (q .1) (a .p) (a .j) (q .2) (q .3) (q .4) (l .b) lb (w .result) (w .ensures) N (l .inv .1 (w .result)) (a .budget) held (c .before .before .floor-of .ensures) s (v .0 .left) in
-    (omega arith, next-same (a .n) (a .m) S (a .zeros) (a .ones) (a .ranks) (q .1) (a .p) (a .j) (q .2) (q .3) (q .4) (l .b) lb (w .result) (w .ensures) N (l .inv .1 (w .result)) (v .1), next-treated (a .n) (a .m) S (a .zeros) (a .ones) (a .ranks) (q .1) (a .p) (a .j) (q .2) (q .3) (q .4) (l .b) lb (w .result) (w .ensures) N (l .inv .1 (w .result)) (a .budget) s (stateOf (i .best) (i .tally)) s₀ (l .inv .2) st, ap length (v .3) ∙ l .inv .3))
+    ∙ next-discards (a .n) (a .m) S (a .pairs) (a .ranks) (q .1) (a .p) (a .j) (q .2) (q .3) (q .4) (l .b) lb (w .result) (w .ensures) N (l .inv .1 (w .result)) (a .budget) held (c .before .before .floor-of .ensures) s (v .0 .left) in
+    (omega arith, next-same (a .n) (a .m) S (a .pairs) (a .ranks) (q .1) (a .p) (a .j) (q .2) (q .3) (q .4) (l .b) lb (w .result) (w .ensures) N (l .inv .1 (w .result)) (v .1), next-treated (a .n) (a .m) S (a .pairs) (a .ranks) (q .1) (a .p) (a .j) (q .2) (q .3) (q .4) (l .b) lb (w .result) (w .ensures) N (l .inv .1 (w .result)) (a .budget) s (stateOf (i .best) (i .tally)) s₀ (l .inv .2) st, ap length (v .3) ∙ l .inv .3))
     (i .came)
 
 split-mul-sets-2 : (t : ℕ) → split-lts.Need-mul-sets-2 (split-claims t) (split-at t) split.Post split-Inv-loop split-μ-loop
@@ -293,8 +288,7 @@ pub +split+visit-spec : {M : Type 1} → statement M
     (split-with-bit-requires t)
     (split-mul-sets t)
     (split-element-write-sets t)
-    (split-cut-masks-requires t)
-    (split-cut-masks-requires-2 t)
+    (split-cut-pairs-requires t)
     (split-ranks-again-requires t)
     (split-floor-of-requires t)
     (split-element-copy-out-if1 t)

@@ -6,10 +6,10 @@ use Rattle.search.specs.Kept.{Settled, openOf}
 use borrow.Author.Needs.{needs}
 use mir.Val.{Fits}
 use mir.Syntax.{w16}
-use Prim.Native.Nat.{ℕ, _+_, _-_, _^_, _<_, _≤_}
-use mathlib.Core.Path.{_≡_, refl, sym, ap, subst, _∙_}
+use Prim.Native.Nat.{ℕ, _-_, _^_, _<_, _≤_}
+use mathlib.Core.Path.{refl, sym, ap, subst, _∙_}
 use mathlib.Core.Logic.{⊎-elim}
-use mathlib.Core.Bool.{not, Bool, true, false}
+use mathlib.Core.Bool.{not}
 use native.Mathlib.Omega.{arith}
 use borrow.Author.Count.{below-more}
 use lib.Dec.{T}
@@ -18,13 +18,6 @@ use Rattle.relation.specs.Tests.{ofSets, wires, free}
 use Rattle.search.proofs.Opening.{allowed-test, open-test, some-open, none-open, pair-open}
 use Rattle.search.proofs.conflicts.first_open.Statement.{statement}
 use Rattle.search.proofs.conflicts.first_open.Tie as tie
-use Rattle.search.proofs.conflicts.first_open.Reads as reads
-use Rattle.search.proofs.conflicts.first_open.Lts as lts
-use Rattle.relation.proofs.patterns.patterns_of.Reads as patterns-of-reads
-use Rattle.relation.proofs.patterns.side_by_side.Reads as side-by-side-reads
-use Rattle.relation.proofs.patterns.value_in.Reads as value-in-reads
-use Rattle.relation.proofs.values.contains.Reads as contains-reads
-use Rattle.relation.proofs.values.is_open.Reads as is-open-reads
 
 abbrev Inv-loop : tie.InvT-loop
 Inv-loop n m from sets count side p j₀ set j = (j ≤ m) × ((i : ℕ) → i < j → T (not (free m (ofSets sets p) i)))

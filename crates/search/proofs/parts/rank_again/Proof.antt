@@ -1,4 +1,4 @@
-use Prim.Native.Nat.{ℕ, _%_}
+use Prim.Native.Nat.{_%_}
 use mathlib.Core.Path.{_≡_, ap, sym, _∙_}
 use native.Mathlib.Nat.{mod-eq-of-lt}
 use Rattle.table.specs.Bits.{bit}
@@ -9,12 +9,6 @@ use Rattle.search.specs.Kept.{rankAgain}
 use borrow.Author.Needs.{needs}
 use Rattle.search.proofs.parts.rank_again.Statement.{statement}
 use Rattle.search.proofs.parts.rank_again.Tie as tie
-use Rattle.search.proofs.parts.rank_again.Reads as reads
-use Rattle.search.proofs.parts.rank_again.Lts as lts
-use Rattle.relation.proofs.patterns.bit_of.Reads as bit-of-reads
-use Rattle.relation.proofs.values.has.Reads as has-reads
-use Rattle.search.proofs.ranks.table_of.Reads as table-of-reads
-use Rattle.table.proofs.picks.pick.Reads as pick-reads
 
 table-of-requires : tie.Need-table-of-requires
 table-of-requires c κs = search needs
@@ -29,7 +23,10 @@ has-requires : tie.Need-has-requires
 has-requires c κs = search needs
 
 pick-requires : tie.Need-pick-requires
-pick-requires c κs = search needs
+pick-requires c κs =
+    let q = c .before .before .before .before .pre in
+    let k = q .5 in
+    (q .0, q .1, q .2, k .zeros-lt, k .ones-lt, k .covered)
 
 returns : tie.Need-returns
 unfolding rankAgain

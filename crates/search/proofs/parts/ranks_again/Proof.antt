@@ -1,4 +1,3 @@
-use Prim.Native.Nat.{ℕ, _<_}
 use native.Mathlib.Omega.{arith}
 use lib.ListN.{getD}
 use Rattle.table.proofs.Bits.{row-four}
@@ -6,9 +5,6 @@ use Rattle.search.specs.Kept.{rankAgain, ranksAgain}
 use borrow.Author.Needs.{needs}
 use Rattle.search.proofs.parts.ranks_again.Statement.{statement}
 use Rattle.search.proofs.parts.ranks_again.Tie as tie
-use Rattle.search.proofs.parts.ranks_again.Reads as reads
-use Rattle.search.proofs.parts.ranks_again.Lts as lts
-use Rattle.search.proofs.parts.rank_again.Reads as rank-again-reads
 
 array-read-rank-again : tie.Need-array-read-rank-again
 array-read-rank-again c = search needs
@@ -16,14 +12,17 @@ array-read-rank-again c = search needs
 array-read-rank-again-2 : tie.Need-array-read-rank-again-2
 array-read-rank-again-2 c = search needs
 
+rank-again-requires : tie.Need-rank-again-requires
+rank-again-requires c κs = let q = c .pre in (q .0, q .1, q .2, q .3, omega arith, q .4 0 (omega arith))
+
 array-read-rank-again-3 : tie.Need-array-read-rank-again-3
 array-read-rank-again-3 c = search needs
 
-rank-again-requires : tie.Need-rank-again-requires
-rank-again-requires c κs = let q = c .pre in (q .0, q .1, q .2, q .3, omega arith, q .4 .zeros-lt 0 (omega arith), q .4 .ones-lt 0 (omega arith), q .4 .covered 0 (omega arith))
-
 array-read-rank-again-4 : tie.Need-array-read-rank-again-4
 array-read-rank-again-4 c = search needs
+
+rank-again-requires-2 : tie.Need-rank-again-requires-2
+rank-again-requires-2 c κs = let q = c .before .pre in (q .0, q .1, q .2, q .3, omega arith, q .4 1 (omega arith))
 
 array-read-rank-again-5 : tie.Need-array-read-rank-again-5
 array-read-rank-again-5 c = search needs
@@ -31,8 +30,8 @@ array-read-rank-again-5 c = search needs
 array-read-rank-again-6 : tie.Need-array-read-rank-again-6
 array-read-rank-again-6 c = search needs
 
-rank-again-requires-2 : tie.Need-rank-again-requires-2
-rank-again-requires-2 c κs = let q = c .before .pre in (q .0, q .1, q .2, q .3, omega arith, q .4 .zeros-lt 1 (omega arith), q .4 .ones-lt 1 (omega arith), q .4 .covered 1 (omega arith))
+rank-again-requires-3 : tie.Need-rank-again-requires-3
+rank-again-requires-3 c κs = let q = c .before .before .pre in (q .0, q .1, q .2, q .3, omega arith, q .4 2 (omega arith))
 
 array-read-rank-again-7 : tie.Need-array-read-rank-again-7
 array-read-rank-again-7 c = search needs
@@ -40,29 +39,14 @@ array-read-rank-again-7 c = search needs
 array-read-rank-again-8 : tie.Need-array-read-rank-again-8
 array-read-rank-again-8 c = search needs
 
-array-read-rank-again-9 : tie.Need-array-read-rank-again-9
-array-read-rank-again-9 c = search needs
-
-rank-again-requires-3 : tie.Need-rank-again-requires-3
-rank-again-requires-3 c κs = let q = c .before .before .pre in (q .0, q .1, q .2, q .3, omega arith, q .4 .zeros-lt 2 (omega arith), q .4 .ones-lt 2 (omega arith), q .4 .covered 2 (omega arith))
-
-array-read-rank-again-10 : tie.Need-array-read-rank-again-10
-array-read-rank-again-10 c = search needs
-
-array-read-rank-again-11 : tie.Need-array-read-rank-again-11
-array-read-rank-again-11 c = search needs
-
-array-read-rank-again-12 : tie.Need-array-read-rank-again-12
-array-read-rank-again-12 c = search needs
-
 rank-again-requires-4 : tie.Need-rank-again-requires-4
-rank-again-requires-4 c κs = let q = c .before .before .before .pre in (q .0, q .1, q .2, q .3, omega arith, q .4 .zeros-lt 3 (omega arith), q .4 .ones-lt 3 (omega arith), q .4 .covered 3 (omega arith))
+rank-again-requires-4 c κs = let q = c .before .before .before .pre in (q .0, q .1, q .2, q .3, omega arith, q .4 3 (omega arith))
 
 returns : tie.Need-returns
 unfolding ranksAgain
 returns c =
     let a = c .before .before .before .before .args in
-    row-four (λ j. rankAgain (a .n) (getD (a .t3) j 0) (a .p) j (a .set) (getD (a .t6) j 0) (getD (a .t7) j 0)) (c .before .before .before .rank-again .ensures) (c .before .before .rank-again2 .ensures) (c .before .rank-again3 .ensures) (c .rank-again4 .ensures)
+    row-four (λ j. rankAgain (a .n) (getD (a .t3) j 0) (a .p) j (a .set) (getD (a .t6) j 0)) (c .before .before .before .rank-again .ensures) (c .before .before .rank-again2 .ensures) (c .before .rank-again3 .ensures) (c .rank-again4 .ensures)
 
 pub ranks-again-spec : {M : Type 1} → statement M
 ranks-again-spec =
@@ -70,18 +54,14 @@ ranks-again-spec =
     (tie.spec
     array-read-rank-again
     array-read-rank-again-2
-    array-read-rank-again-3
     rank-again-requires
+    array-read-rank-again-3
     array-read-rank-again-4
+    rank-again-requires-2
     array-read-rank-again-5
     array-read-rank-again-6
-    rank-again-requires-2
+    rank-again-requires-3
     array-read-rank-again-7
     array-read-rank-again-8
-    array-read-rank-again-9
-    rank-again-requires-3
-    array-read-rank-again-10
-    array-read-rank-again-11
-    array-read-rank-again-12
     rank-again-requires-4
     returns)

@@ -1,17 +1,11 @@
-use Prim.Native.Nat.{ℕ, _+_, _-_, _<_, _≤_}
+use Prim.Native.Nat.{_-_}
 use mathlib.Core.Path.{_≡_, refl, ap, sym, _∙_}
 use native.Mathlib.Omega.{arith}
 use borrow.Author.Needs.{needs}
-use Rattle.search.specs.Kept.{Sized, Sets, rankOf}
+use Rattle.search.specs.Kept.{rankOf}
 use Rattle.search.proofs.FirstAnswer.{Taken, none-taken, next-taken, all-taken}
 use Rattle.search.proofs.quick_solver.quick.Statement.{statement}
 use Rattle.search.proofs.quick_solver.quick.Tie as tie
-use Rattle.search.proofs.quick_solver.quick.Reads as reads
-use Rattle.search.proofs.quick_solver.quick.Lts as lts
-use Rattle.relation.proofs.patterns.agreeing.Reads as agreeing-reads
-use Rattle.search.proofs.quick_solver.rank_left.Reads as rank-left-reads
-use Rattle.search.proofs.ranks.cells_of.Reads as cells-of-reads
-use Rattle.search.proofs.ranks.table_of.Reads as table-of-reads
 
 abbrev Inv-loop : tie.InvT-loop
 Inv-loop e n m first left₀ tables₀ cells₀ j₀ left tables cells j = Taken n m left₀ j left tables cells × (j ≡ 0 → left ≡ left₀)

@@ -1,5 +1,4 @@
 use mathlib.Core.Path.{_≡_, ap, sym, _∙_}
-use native.Mathlib.Omega.{arith}
 use Rattle.search.specs.Kept.{rankOf}
 use borrow.Author.Needs.{needs}
 use Rattle.search.proofs.quick_solver.rank_left.Statement.{statement}

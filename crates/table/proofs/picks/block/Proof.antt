@@ -3,8 +3,6 @@ use Rattle.table.proofs.Places.{entry-at}
 use borrow.Author.Needs.{needs}
 use Rattle.table.proofs.picks.block.Statement.{statement}
 use Rattle.table.proofs.picks.block.Tie as tie
-use Rattle.table.proofs.picks.block.Reads as reads
-use Rattle.table.proofs.picks.block.Lts as lts
 
 mul-result : tie.Need-mul-result
 mul-result c = search needs

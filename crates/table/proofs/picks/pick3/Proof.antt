@@ -4,10 +4,6 @@ use Rattle.table.proofs.Places.{three-places}
 use borrow.Author.Needs.{needs}
 use Rattle.table.proofs.picks.pick3.Statement.{statement}
 use Rattle.table.proofs.picks.pick3.Tie as tie
-use Rattle.table.proofs.picks.pick3.Reads as reads
-use Rattle.table.proofs.picks.pick3.Lts as lts
-use Rattle.table.proofs.picks.block.Reads as block-reads
-use Rattle.table.proofs.picks.lesser.Reads as lesser-reads
 
 block-requires : tie.Need-block-requires
 block-requires c κs = search needs
