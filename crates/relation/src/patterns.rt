@@ -1,12 +1,14 @@
 // The sets of all sixteen patterns (input vertices) together.
 // Inner functions: the search and the audit meet what they require, wires below 4, bits below 2 and patterns below 16.
 ghost use mathlib.Core.Path.{_≡_};
+ghost use mathlib.Core.Bool.{cond};
 ghost use Prim.Native.Nat.{_<_, _≤_, _^_};
+ghost use lib.Dec.{eqb, ltb};
 ghost use Rattle.table.specs.Bits.{bit};
 ghost use Rattle.relation.specs.Source.{value};
 ghost use Rattle.relation.specs.Tests.{wires};
 ghost use Rattle.relation.specs.Masks.{sideBySide, valueIn, agreed, cleared};
-use crate::values::with_bit;
+use crate::values::column;
 
 // The number of patterns of n inputs.
 pub fn patterns_of(n: u8) -> u8
@@ -61,17 +63,33 @@ pub fn value_in(tables: u64, p: u8) -> u8
     ((pairs + (pairs >> 30)) % 16) as u8
 }
 
+// The column of a wire's bit, of its two columns. Chosen and not looked up, so that all patterns are narrowed at once.
+fn choose(bit: u16, zero: u16, one: u16) -> u16
+    ensures { λ r. ⌜ r ≡ cond (eqb bit 1) one zero ⌝ }
+{
+    if bit == 1 { one } else { zero }
+}
+
 // The sets less the values that disagree with table t of wire j.
 pub fn agreeing(sets: [u16; 16], j: u8, t: u16) -> [u16; 16]
     requires { ⌜ j < 4 ⌝ }
     ensures { λ r. ⌜ r ≡ agreed sets j t ⌝ }
 {
+    let zero = column(j, 0);
+    let one = column(j, 1);
     let mut next = sets;
     for p in 0..16u8 {
         let at = p as usize;
-        next[at] = with_bit(sets[at], j, (bit_of(t, p) % 2) as u8);
+        next[at] = sets[at] & choose(bit_of(t, p), zero, one);
     }
     next
+}
+
+// A pattern's set, empty past the last pattern.
+fn within(p: u8, count: u8, set: u16) -> u16
+    ensures { λ r. ⌜ r ≡ cond (ltb p count) set 0 ⌝ }
+{
+    if p < count { set } else { 0 }
 }
 
 // The sets with those past the last pattern of n inputs emptied.
@@ -81,8 +99,9 @@ pub fn clear_past(n: u8, sets: [u16; 16]) -> [u16; 16]
 {
     let count = patterns_of(n);
     let mut next = sets;
-    for p in count..16u8 {
-        next[p as usize] = 0;
+    for p in 0..16u8 {
+        let at = p as usize;
+        next[at] = within(p, count, sets[at]);
     }
     next
 }

@@ -1,6 +1,6 @@
 // Text put into a lent buffer at a place, each call with the place after it. Bytes that find no room are dropped: the place moves on all the same, so that the
 // last place is the length that the whole text needs. The bounds on places and lengths are only there for the sums; those of
-// single bytes and pairs are larger, since the calls that put many of them get as far.
+// single bytes and pairs are larger, since the calls that put many of them get as far. The report's lines and the trials' replies stay within them.
 use base::byte_at;
 use base::put;
 ghost use mathlib.Core.Path.{_≡_};

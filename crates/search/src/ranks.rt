@@ -33,7 +33,7 @@ pub fn floor_of(ranks: [u32; 4]) -> u32
     cells_of(ranks[0]) + cells_of(ranks[1]) + cells_of(ranks[2]) + cells_of(ranks[3])
 }
 
-// The lowest pattern on which a pick changed, or p where none did below p. The bits of the cells lie above all patterns.
+// The lowest pattern on which a pick changed, or p where none did below p. The bits of the cells lie above all patterns. `split` calls it with its pattern.
 pub fn first_change(before: [u32; 4], ranks: [u32; 4], p: u8) -> u8
     requires { ⌜ p < 16 ⌝ }
     ensures { λ r. ⌜ (r ≤ p) × AlikeBelow before ranks r ⌝ }

@@ -1,36 +1,39 @@
 -- `clear_past` meets its contract: the sets passed are those of the meaning.
-use mathlib.Core.Path.{_≡_}
+use mathlib.Core.Path.{_≡_, ap, _∙_}
 use mathlib.Core.Bool.{cond}
 use Prim.Native.Nat.{ℕ, _-_, _<_, _≤_, _^_}
 use native.Mathlib.Omega.{arith}
 use lib.Dec.{ltb}
 use lib.ListN.{length, getD, length-set}
 use borrow.Author.Needs.{needs}
-use borrow.Author.Tests.{lt-ltb, le-ltb}
 use Rattle.relation.specs.Masks.{cleared}
 use Rattle.base.proofs.Rows.{filled-more, filled-row}
 use Rattle.relation.proofs.patterns.clear_past.Statement.{statement}
 use Rattle.relation.proofs.patterns.clear_past.Tie as tie
 
 abbrev Inv-loop : tie.InvT-loop
-Inv-loop n count next₀ p₀ next p = (2 ^ n ≤ p) × (p ≤ 16) × (length next ≡ 16) × ((q : ℕ) → q < p → getD next q 0 ≡ cond (ltb q (2 ^ n)) (getD next₀ q 0) 0)
+Inv-loop n sets count next₀ p₀ next p = (p ≤ 16) × (length next ≡ 16) × ((q : ℕ) → q < p → getD next q 0 ≡ cond (ltb q (2 ^ n)) (getD sets q 0) 0)
 
 abbrev μ-loop : tie.MeasureT-loop
-μ-loop n count next₀ p₀ next p = 16 - p
+μ-loop n sets count next₀ p₀ next p = 16 - p
 
 patterns-of-requires : tie.Need-patterns-of-requires Inv-loop μ-loop
 patterns-of-requires c κs = search needs
 
 loop-holds : tie.Need-loop-holds Inv-loop μ-loop
-loop-holds c = (
-  omega arith,
-  omega arith,
-  search needs,
-  λ q l. let h : q < 2 ^ c .before .args .n = omega arith in rw (lt-ltb q (2 ^ c .before .args .n) h),
-)
+loop-holds c = search needs
 
-cast-next : tie.Need-cast-next Inv-loop μ-loop
-cast-next c = search needs
+cast-at : tie.Need-cast-at Inv-loop μ-loop
+cast-at c = search needs
+
+mul-within : tie.Need-mul-within Inv-loop μ-loop
+mul-within c = search needs
+
+array-read-within : tie.Need-array-read-within Inv-loop μ-loop
+array-read-within c = search needs
+
+within-requires : tie.Need-within-requires Inv-loop μ-loop
+within-requires c κs = search needs
 
 mul-next : tie.Need-mul-next Inv-loop μ-loop
 mul-next c = search needs
@@ -46,13 +49,13 @@ loop-less c = search needs
 
 loop-again : tie.Need-loop-again Inv-loop μ-loop
 loop-again c =
-    let a = c .before .before .before .args in
-    let l = c .before .loop in (
+    let a = c .before .before .before .before .args in
+    let l = c .before .before .loop in
+    let k = c .before .before .before .patterns-of in (
       omega arith,
-      omega arith,
-      simp length-set (l .inv .2),
-      filled-more (λ q. cond (ltb q (2 ^ a .n)) (getD (a .sets) q 0) 0) (l .next) (l .p) 0 (omega arith) (l .inv .3)
-          (rw (le-ltb (l .p) (2 ^ a .n) (l .inv .0))),
+      simp length-set (l .inv .1),
+      filled-more (λ q. cond (ltb q (2 ^ a .n)) (getD (a .t2) q 0) 0) (l .next) (l .p) (c .within .result) (omega arith) (l .inv .2)
+          (c .within .ensures ∙ ap (λ x. cond (ltb (l .p) x) (getD (a .t2) (l .p) 0) 0) (k .ensures .0)),
     )
 
 returns : tie.Need-returns Inv-loop μ-loop
@@ -61,7 +64,7 @@ returns c =
     let a = c .before .before .before .args in
     let l = c .before .loop in
     let e : l .p ≡ 16 = omega arith in
-    filled-row 16 (λ q. cond (ltb q (2 ^ a .n)) (getD (a .sets) q 0) 0) (l .next) (l .inv .2) (λ q b. l .inv .3 q (omega arith))
+    filled-row 16 (λ q. cond (ltb q (2 ^ a .n)) (getD (a .t2) q 0) 0) (l .next) (l .inv .1) (λ q b. l .inv .2 q (omega arith))
 
 pub clear-past-spec : {M : Type 1} → statement M
 clear-past-spec =
@@ -71,7 +74,10 @@ clear-past-spec =
     μ-loop
     patterns-of-requires
     loop-holds
-    cast-next
+    cast-at
+    mul-within
+    array-read-within
+    within-requires
     mul-next
     array-write-next
     add-p

@@ -1,0 +1,32 @@
+/* A caller in C: sheet A quoted, its stage audited, its relation searched, as the header declares the calls.
+ * Prints what each call returns and the numbers of its reply, then the stage and the tables. */
+#include "../../include/dagmetzi.h"
+#include <stdio.h>
+
+static void print_reply(uint32_t refusal, const uint64_t reply[DAGMETZI_NUMBERS]) {
+    printf("%u", (unsigned)refusal);
+    for (int i = 0; i < DAGMETZI_NUMBERS; i++) {
+        printf(" %llu", (unsigned long long)reply[i]);
+    }
+    printf("\n");
+}
+
+int main(void) {
+    const uint8_t sheet[] = {0x01, 0x02, 0x02, 0x02, 0x00, 0x01, 0x02, 0x01, 0x00, 0x02, 0x02, 0x00, 0x02, 0x03,
+                             0x02, 0x04, 0x02, 0x00, 0x01, 0x04, 0x00, 0x02, 0x01, 0x05, 0x02, 0x05, 0x03, 0x00};
+    const uint16_t sets[16] = {2, 9, 9, 4};
+    uint8_t buffer[DAGMETZI_LONGEST_STAGE] = {0};
+    uint16_t tables[4];
+    uint64_t reply[DAGMETZI_NUMBERS];
+    uint64_t length;
+
+    print_reply(dagmetzi_quote(sheet, sizeof sheet, 10000, buffer, sizeof buffer, reply), reply);
+    length = reply[DAGMETZI_LENGTH];
+    print_reply(dagmetzi_audit(sheet, sizeof sheet, buffer, (size_t)length, reply), reply);
+    print_reply(dagmetzi_search(2, 2, sets, 10000, tables, reply), reply);
+    for (uint64_t i = 0; i < length; i++) {
+        printf("%02x ", buffer[i]);
+    }
+    printf("\n%u %u %u %u\n", tables[0], tables[1], tables[2], tables[3]);
+    return 0;
+}

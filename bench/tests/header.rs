@@ -1,0 +1,43 @@
+//! The header against the archive: a caller in C is compiled with it and linked, and must print what the calls give
+//! through the declarations of this crate.
+
+use bench::Told;
+use std::path::{Path, PathBuf};
+use std::process::{Command, Output};
+use trials::rows::A;
+
+/// A as a relation.
+const A_SETS: [u16; 16] = [0b0010, 0b1001, 0b1001, 0b0100, 0, 0, 0, 0, 0, 0, 0, 0, 0, 0, 0, 0];
+
+fn line(t: &Told) -> String {
+    format!("{} {} {} {} {} {} {}\n", t.refusal, t.outcome, t.cells, t.floor, t.visits, t.length, t.place)
+}
+
+fn expected() -> String {
+    let mut buffer = [0; 196];
+    let quote = bench::quote(&A, 10_000, &mut buffer);
+    let stage = &buffer[..quote.length as usize];
+    let (search, tables) = bench::search(2, 2, &A_SETS, 10_000);
+    let bytes: String = stage.iter().map(|b| format!("{b:02x} ")).collect();
+    let tables = tables.map(|t| t.to_string()).join(" ");
+    line(&quote) + &line(&bench::audit(&A, stage)) + &line(&search) + &bytes + "\n" + &tables + "\n"
+}
+
+fn run(command: &mut Command) -> Output {
+    let output = command.output().expect("the command starts");
+    assert!(output.status.success(), "{}", String::from_utf8_lossy(&output.stderr));
+    output
+}
+
+#[test]
+fn header_fits_archive() {
+    let here = Path::new(env!("CARGO_MANIFEST_DIR"));
+    let program: PathBuf = Path::new(env!("CARGO_TARGET_TMPDIR")).join("header");
+    run(Command::new("cc")
+        .args(["-std=c99", "-Wall", "-Wextra", "-Werror", "-pedantic", "-o"])
+        .arg(&program)
+        .arg(here.join("tests/header.c"))
+        .arg(here.join("../target/staticlib/libcapi.a")));
+    let output = run(&mut Command::new(&program));
+    assert_eq!(String::from_utf8(output.stdout).expect("text"), expected());
+}
