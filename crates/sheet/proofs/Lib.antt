@@ -1,5 +1,6 @@
 -- Laws of unit sheets.
 pub mod Lists
+pub mod Keys
 pub mod Each
 pub mod Powers
 pub mod Growing

@@ -1,4 +1,4 @@
-use borrow.Author.Tests.{ne-eqb}
+use Rattle.sheet.proofs.Keys.{none-tests}
 use borrow.Author.Needs.{needs}
 use Rattle.sheet.proofs.commands.command.Statement.{statement}
 use Rattle.sheet.proofs.commands.command.Tie as tie
@@ -25,17 +25,7 @@ returns-6 : tie.Need-returns-6
 returns-6 c = simp (c .match .keys6)
 
 returns-7 : tie.Need-returns-7
-returns-7 c =
-    let r = c .before .match .rest in
-    simp (
-      ne-eqb _ _ (r .1),
-      ne-eqb _ _ (r .0 .1),
-      ne-eqb _ _ (r .0 .0 .1),
-      ne-eqb _ _ (r .0 .0 .0 .1),
-      ne-eqb _ _ (r .0 .0 .0 .0 .1),
-      ne-eqb _ _ (r .0 .0 .0 .0 .0 .1),
-      c .word .ensures,
-    )
+returns-7 c = simp (none-tests 6 _ (c .before .match .rest), c .word .ensures)
 
 pub command-spec : {M : Type 1} → statement M
 command-spec =

@@ -1,4 +1,4 @@
-use native.Mathlib.Omega.{arith}
+use Rattle.sheet.proofs.Keys.{none-below}
 use Rattle.sheet.proofs.Powers.{set-fits}
 use borrow.Author.Needs.{needs}
 use Rattle.sheet.proofs.commands.set_beyond.Statement.{statement}
@@ -29,10 +29,7 @@ returns-4 : tie.Need-returns-4
 returns-4 c = cc
 
 returns-5 : tie.Need-returns-5
-returns-5 c =
-    let r = c .match .rest in
-    set-fits (c .before .args .set) (c .before .args .m) (c .before .fits .set .fits)
-    (omega (arith, r .1, r .0 .1, r .0 .0 .1, r .0 .0 .0 .1))
+returns-5 c = set-fits _ _ (c .before .fits .set .fits) (none-below 4 _ (c .match .rest))
 
 pub set-beyond-spec : {M : Type 1} → statement M
 set-beyond-spec =

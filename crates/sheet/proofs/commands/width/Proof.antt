@@ -1,4 +1,4 @@
-use borrow.Author.Tests.{ne-eqb}
+use Rattle.sheet.proofs.Keys.{none-tests}
 use Rattle.sheet.proofs.commands.width.Statement.{statement}
 use Rattle.sheet.proofs.commands.width.Tie as tie
 
@@ -24,17 +24,7 @@ returns-7 : tie.Need-returns-7
 returns-7 c = cc
 
 returns-8 : tie.Need-returns-8
-returns-8 c =
-    let r = c .match .rest in
-    simp (
-      ne-eqb _ _ (r .1),
-      ne-eqb _ _ (r .0 .1),
-      ne-eqb _ _ (r .0 .0 .1),
-      ne-eqb _ _ (r .0 .0 .0 .1),
-      ne-eqb _ _ (r .0 .0 .0 .0 .1),
-      ne-eqb _ _ (r .0 .0 .0 .0 .0 .1),
-      ne-eqb _ _ (r .0 .0 .0 .0 .0 .0 .1),
-    )
+returns-8 c = simp (none-tests 7 _ (c .match .rest))
 
 pub width-spec : {M : Type 1} → statement M
 width-spec =

@@ -1,4 +1,4 @@
-use native.Mathlib.Omega.{arith}
+use Rattle.sheet.proofs.Keys.{none-below}
 use Rattle.sheet.proofs.Powers.{capped}
 use Rattle.sheet.proofs.gather.all_values.Statement.{statement}
 use Rattle.sheet.proofs.gather.all_values.Tie as tie
@@ -16,9 +16,7 @@ returns-4 : tie.Need-returns-4
 returns-4 c = simp (c .match .keys4)
 
 returns-5 : tie.Need-returns-5
-returns-5 c =
-    let r = c .match .rest in
-    simp (capped 4 (c .before .args .m) (omega (arith, r .1, r .0 .1, r .0 .0 .1, r .0 .0 .0 .1)))
+returns-5 c = simp (capped 4 _ (none-below 4 _ (c .match .rest)))
 
 pub all-values-spec : {M : Type 1} → statement M
 all-values-spec = tie.close (tie.spec returns returns-2 returns-3 returns-4 returns-5)
