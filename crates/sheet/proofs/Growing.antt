@@ -10,7 +10,7 @@ use Rattle.sheet.specs.declared.Command.{Command}
 use Rattle.sheet.specs.declared.Command.the-variants.{End, Row, DontCare, Gate, Output, Limit}
 use Rattle.sheet.specs.declared.Sheet.{Sheet}
 use Rattle.sheet.specs.Commands.{isEmpty, about, wiresOf, isMarked, isDontCare, hasRow, LogicGate, noGate, rowsOn, dontCaresOn, gatesOf, outputsOf, limitsOn}
-use Rattle.sheet.specs.Gathered.{maxPatterns, maxGates, maxOutputs, row, meet, gathered, allValues, markOn, valueOn, limitOn, gateAt, outputAt, noMark, rowMark, dontCareMark}
+use Rattle.sheet.specs.Gathered.{maxPatterns, maxGates, maxOutputs, row, meet, gathered, allValues, limitOn, gateAt, outputAt, noMark, rowMark, dontCareMark}
 use Rattle.base.proofs.Rows.{row-at, row-set}
 use Rattle.sheet.proofs.Lists.{never, collect-snoc, isEmpty-append, isEmpty-nil, about-same, about-other, getD-snoc-other}
 use Rattle.base.proofs.Tests.{and-false}
@@ -40,54 +40,32 @@ unfolding meet
 meet-snoc w [] x = refl
 meet-snoc w (y ∷ xs) x = meet-snoc (bitAnd w y) xs x
 
+-- the sheet with other tables over the patterns
+abbrev tabled : Sheet → List ℕ → List ℕ → List ℕ → Sheet
+tabled h marks values limits =
+    record {
+      n = h .n;
+      m = h .m;
+      marks = marks;
+      values = values;
+      limits = limits;
+      «gate_count» = h .«gate_count»;
+      kinds = h .kinds;
+      lefts = h .lefts;
+      rights = h .rights;
+      «output_count» = h .«output_count»;
+      signals = h .signals;
+    }
+
 -- the sheet with a 06 more, a 02 more, a 03 more, a gate more, an output more
 abbrev pub limited : Sheet → ℕ → ℕ → Sheet
-limited h p w =
-    record {
-      n = h .n;
-      m = h .m;
-      marks = h .marks;
-      values = h .values;
-      limits = set (h .limits) p (bitAnd (getD (h .limits) p 0) w);
-      «gate_count» = h .«gate_count»;
-      kinds = h .kinds;
-      lefts = h .lefts;
-      rights = h .rights;
-      «output_count» = h .«output_count»;
-      signals = h .signals;
-    }
+limited h p w = tabled h (h .marks) (h .values) (set (h .limits) p (bitAnd (getD (h .limits) p 0) w))
 
 abbrev pub rowed : Sheet → ℕ → ℕ → Sheet
-rowed h p v =
-    record {
-      n = h .n;
-      m = h .m;
-      marks = set (h .marks) p rowMark;
-      values = set (h .values) p v;
-      limits = h .limits;
-      «gate_count» = h .«gate_count»;
-      kinds = h .kinds;
-      lefts = h .lefts;
-      rights = h .rights;
-      «output_count» = h .«output_count»;
-      signals = h .signals;
-    }
+rowed h p v = tabled h (set (h .marks) p rowMark) (set (h .values) p v) (h .limits)
 
 abbrev pub freed : Sheet → ℕ → Sheet
-freed h p =
-    record {
-      n = h .n;
-      m = h .m;
-      marks = set (h .marks) p dontCareMark;
-      values = h .values;
-      limits = h .limits;
-      «gate_count» = h .«gate_count»;
-      kinds = h .kinds;
-      lefts = h .lefts;
-      rights = h .rights;
-      «output_count» = h .«output_count»;
-      signals = h .signals;
-    }
+freed h p = tabled h (set (h .marks) p dontCareMark) (h .values) (h .limits)
 
 abbrev pub gated : Sheet → ℕ → ℕ → ℕ → Sheet
 gated h k a b =
@@ -121,54 +99,43 @@ led h s =
       signals = set (h .signals) (h .«output_count») s;
     }
 
+-- one command more about the pattern p, in a table made of what is said about each pattern
+about-set {ℓ} : {A : Type ℓ} (f : ℕ → List A → ℕ) (said : ℕ → List A) (p : ℕ) (x : A) (y : ℕ) → p < maxPatterns → y ≡ f p (said p ++ x ∷ [])
+    → set (row maxPatterns (λ q. f q (said q))) p y ≡ row maxPatterns (λ q. f q (said q ++ about q p x))
+about-set f said p x y h e =
+    row-set maxPatterns (λ q. f q (said q)) (λ q. f q (said q ++ about q p x)) p y h
+    (rw (about-same p x) e)
+    (λ q d. rw (about-other q p x (λ g. d (sym g)), append-nil (said q)))
+
 module _ (cs : List Command) where
   pub limit-adds : (p w : ℕ) → p < maxPatterns → limited (gathered cs) p w ≡ gathered (cs ++ Limit p w ∷ [])
   unfolding gathered
   limit-adds p w h =
       simp (collect-snoc, append-nil)
-      (rw (row-set maxPatterns (λ q. limitOn q cs) (λ q. meet (allValues (wiresOf cs)) (limitsOn q cs ++ about q p w)) p _ h here there))
+      (rw (about-set (λ q. meet all) (λ q. limitsOn q cs) p w _ h here))
     where
-      here : bitAnd (getD (row maxPatterns (λ q. limitOn q cs)) p 0) w ≡ meet (allValues (wiresOf cs)) (limitsOn p cs ++ about p p w)
-      here = rw (row-at maxPatterns (λ q. limitOn q cs) p h, about-same p w) (sym (meet-snoc (allValues (wiresOf cs)) (limitsOn p cs) w))
+      all : ℕ
+      all = allValues (wiresOf cs)
 
-      there : (q : ℕ) → (q ≡ p → ⊥) → limitOn q cs ≡ meet (allValues (wiresOf cs)) (limitsOn q cs ++ about q p w)
-      there q e = rw (about-other q p w (λ f. e (sym f)), append-nil (limitsOn q cs))
+      here : bitAnd (getD (row maxPatterns (λ q. limitOn q cs)) p 0) w ≡ meet all (limitsOn p cs ++ w ∷ [])
+      here = rw (row-at maxPatterns (λ q. limitOn q cs) p h) (sym (meet-snoc all (limitsOn p cs) w))
 
   pub row-adds : (p v : ℕ) → p < maxPatterns → isMarked p cs ≡ false → rowed (gathered cs) p v ≡ gathered (cs ++ Row p v ∷ [])
   unfolding gathered
   row-adds p v h e =
+      let none : rowsOn p cs ≡ [] = unmarked-row p cs e in
       simp (collect-snoc, append-nil)
       (rw (
-        row-set maxPatterns (λ q. markOn q cs) (λ q. cond (isDontCare q cs) dontCareMark (cond (not (isEmpty (rowsOn q cs ++ about q p v))) rowMark noMark)) p rowMark h here there,
-        row-set maxPatterns (λ q. valueOn q cs) (λ q. getD (rowsOn q cs ++ about q p v) 0 0) p v h here′ there′,
+        about-set (λ q vs. cond (isDontCare q cs) dontCareMark (cond (not (isEmpty vs)) rowMark noMark)) (λ q. rowsOn q cs) p v rowMark h (rw (none, unmarked-care p cs e)),
+        about-set (λ q vs. getD vs 0 0) (λ q. rowsOn q cs) p v v h (rw none),
       ))
-    where
-      none : rowsOn p cs ≡ []
-      none = unmarked-row p cs e
-
-      here : rowMark ≡ cond (isDontCare p cs) dontCareMark (cond (not (isEmpty (rowsOn p cs ++ about p p v))) rowMark noMark)
-      here = rw (none, about-same p v, unmarked-care p cs e)
-
-      there : (q : ℕ) → (q ≡ p → ⊥) → markOn q cs ≡ cond (isDontCare q cs) dontCareMark (cond (not (isEmpty (rowsOn q cs ++ about q p v))) rowMark noMark)
-      there q f = rw (about-other q p v (λ g. f (sym g)), append-nil (rowsOn q cs))
-
-      here′ : v ≡ getD (rowsOn p cs ++ about p p v) 0 0
-      here′ = rw (none, about-same p v)
-
-      there′ : (q : ℕ) → (q ≡ p → ⊥) → valueOn q cs ≡ getD (rowsOn q cs ++ about q p v) 0 0
-      there′ q f = rw (about-other q p v (λ g. f (sym g)), append-nil (rowsOn q cs))
 
   pub dont-care-adds : (p : ℕ) → p < maxPatterns → freed (gathered cs) p ≡ gathered (cs ++ DontCare p ∷ [])
   unfolding gathered
   dont-care-adds p h =
+      let some : isEmpty (dontCaresOn p cs ++ p ∷ []) ≡ false = rw (isEmpty-append (dontCaresOn p cs) (p ∷ [])) (and-false (isEmpty (dontCaresOn p cs))) in
       simp (collect-snoc, append-nil)
-      (rw (row-set maxPatterns (λ q. markOn q cs) (λ q. cond (not (isEmpty (dontCaresOn q cs ++ about q p p))) dontCareMark (cond (hasRow q cs) rowMark noMark)) p dontCareMark h here there))
-    where
-      here : dontCareMark ≡ cond (not (isEmpty (dontCaresOn p cs ++ about p p p))) dontCareMark (cond (hasRow p cs) rowMark noMark)
-      here = rw (about-same p p, isEmpty-append (dontCaresOn p cs) (p ∷ []), and-false (isEmpty (dontCaresOn p cs)))
-
-      there : (q : ℕ) → (q ≡ p → ⊥) → markOn q cs ≡ cond (not (isEmpty (dontCaresOn q cs ++ about q p p))) dontCareMark (cond (hasRow q cs) rowMark noMark)
-      there q f = rw (about-other q p p (λ g. f (sym g)), append-nil (dontCaresOn q cs))
+      (rw (about-set (λ q ps. cond (not (isEmpty ps)) dontCareMark (cond (hasRow q cs) rowMark noMark)) (λ q. dontCaresOn q cs) p p dontCareMark h (rw some)))
 
   gate-set : (f : LogicGate → ℕ) (g : LogicGate) → length (gatesOf cs) < maxGates
       → set (row maxGates (λ i. f (gateAt i cs))) (length (gatesOf cs)) (f g) ≡ row maxGates (λ i. f (getD (gatesOf cs ++ g ∷ []) i noGate))
