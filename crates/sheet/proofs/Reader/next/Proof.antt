@@ -1,8 +1,65 @@
 use borrow.Author.Tests.{le-leb, lt-leb, lt-ltb, le-ltb, eq-eqb, ne-eqb}
-use Rattle.sheet.specs.Reader.{nextOf}
+use mathlib.Core.Path.{_≡_}
+use mathlib.Core.Bool.{cond}
+use mathlib.Core.List.{List}
+use Prim.Native.Nat.{ℕ, _+_, _-_}
+use lib.ListN.{length, getD}
+use lib.Dec.{ltb}
+use Rattle.base.specs.Refusals.{cutShort, outOfTurn, outOfRange}
+use Rattle.sheet.specs.declared.Reader.{Reader}
+use Rattle.sheet.specs.declared.Step.{Step}
+use Rattle.sheet.specs.declared.Step.the-variants.{Read}
+use Rattle.sheet.specs.Reader.{commandOf, isOutOfRange, movedPast, stepRefused, nextOf}
 use borrow.Author.Needs.{needs}
 use Rattle.sheet.proofs.Reader.next.Statement.{statement}
 use Rattle.sheet.proofs.Reader.next.Tie as tie
+
+-- what is left of `nextOf` where the command's w bytes are there
+abbrev ranged : List ℕ → Reader → ℕ → Step
+ranged s r w =
+    let at = r .at in
+    let c = commandOf (getD s at 0) (getD s (at + 1) 0) (getD s (at + 2) 0) (getD s (at + 3) 0) in
+    cond (isOutOfRange (r .n) (r .m) c) (stepRefused outOfRange at) (Read c (movedPast r c (at + w)))
+
+-- `nextOf` where its test of the turn is reached
+at-turn : (c : tie.After-out-of-turn)
+    → let a = c .before .before .before .before .before .before .args in
+    let s = a .s .now in
+    let at = a .self .at in
+    let w = c .before .before .width .result in
+    nextOf s (a .self) ≡ cond (c .out-of-turn .result) (stepRefused outOfTurn at) (cond (ltb (length s - at) w) (stepRefused cutShort at) (ranged s (a .self) w))
+unfolding nextOf
+at-turn c =
+    let t2 = c .before in
+    let w = t2 .before in
+    let t1 = w .before .before in
+    simp (lt-leb _ _ (t1 .if1 .left), ← w .width .ensures, ne-eqb _ _ (t2 .if2 .left), ← c .out-of-turn .ensures)
+
+-- `nextOf` where its test of the range is reached
+at-range : (c : tie.After-out-of-range)
+    → let o = c .before .before .before .before .before .before .before in
+    let a = o .before .before .before .before .before .before .args in
+    let at = a .self .at in
+    let w = o .before .before .width .result in
+    let k = c .before .command .result in
+    nextOf (a .s .now) (a .self) ≡ cond (c .out-of-range .result) (stepRefused outOfRange at) (Read k (movedPast (a .self) k (at + w)))
+at-range c =
+    let k = c .before in
+    let z = k .before in
+    let y = z .before in
+    let x = y .before in
+    let t4 = x .before in
+    let t3 = t4 .before in
+    simp (
+      at-turn (t3 .before),
+      t3 .if3 .left,
+      le-ltb _ _ (t4 .if4 .left),
+      ← x .byte-at .ensures,
+      ← y .byte-at2 .ensures,
+      ← z .byte-at3 .ensures,
+      ← k .command .ensures,
+      ← c .out-of-range .ensures,
+    )
 
 refused-requires : tie.Need-refused-requires
 refused-requires c κs = search needs
@@ -37,21 +94,9 @@ refused-requires-3 : tie.Need-refused-requires-3
 refused-requires-3 c κs = search needs
 
 returns-3 : tie.Need-returns-3
-unfolding nextOf
 returns-3 c =
     let t3 = c .before in
-    let o = t3 .before in
-    let t2 = o .before in
-    let w = t2 .before in
-    let t1 = w .before .before in
-    simp (
-      lt-leb _ _ (t1 .if1 .left),
-      ← w .width .ensures,
-      ne-eqb _ _ (t2 .if2 .left),
-      ← o .out-of-turn .ensures,
-      t3 .if3 .taken,
-    )
-    (c .refused3 .ensures)
+    simp (at-turn (t3 .before), t3 .if3 .taken) (c .refused3 .ensures)
 
 sub-if4 : tie.Need-sub-if4
 sub-if4 c = search needs
@@ -60,23 +105,10 @@ refused-requires-4 : tie.Need-refused-requires-4
 refused-requires-4 c κs = search needs
 
 returns-4 : tie.Need-returns-4
-unfolding nextOf
 returns-4 c =
     let t4 = c .before in
     let t3 = t4 .before in
-    let o = t3 .before in
-    let t2 = o .before in
-    let w = t2 .before in
-    let t1 = w .before .before in
-    simp (
-      lt-leb _ _ (t1 .if1 .left),
-      ← w .width .ensures,
-      ne-eqb _ _ (t2 .if2 .left),
-      ← o .out-of-turn .ensures,
-      t3 .if3 .left,
-      lt-ltb _ _ (t4 .if4 .taken),
-    )
-    (c .refused4 .ensures)
+    simp (at-turn (t3 .before), t3 .if3 .left, lt-ltb _ _ (t4 .if4 .taken)) (c .refused4 .ensures)
 
 add-byte-at : tie.Need-add-byte-at
 add-byte-at c = search needs
@@ -106,35 +138,9 @@ refused-requires-5 : tie.Need-refused-requires-5
 refused-requires-5 c κs = search needs
 
 returns-5 : tie.Need-returns-5
-unfolding nextOf
 returns-5 c =
     let t5 = c .before in
-    let r = t5 .before in
-    let k = r .before in
-    let z = k .before in
-    let y = z .before in
-    let x = y .before in
-    let t4 = x .before in
-    let t3 = t4 .before in
-    let o = t3 .before in
-    let t2 = o .before in
-    let w = t2 .before in
-    let t1 = w .before .before in
-    simp (
-      lt-leb _ _ (t1 .if1 .left),
-      ← w .width .ensures,
-      ne-eqb _ _ (t2 .if2 .left),
-      ← o .out-of-turn .ensures,
-      t3 .if3 .left,
-      le-ltb _ _ (t4 .if4 .left),
-      ← x .byte-at .ensures,
-      ← y .byte-at2 .ensures,
-      ← z .byte-at3 .ensures,
-      ← k .command .ensures,
-      ← r .out-of-range .ensures,
-      t5 .if5 .taken,
-    )
-    (c .refused5 .ensures)
+    simp (at-range (t5 .before), t5 .if5 .taken) (c .refused5 .ensures)
 
 add-moved-past : tie.Need-add-moved-past
 add-moved-past c = search needs
@@ -143,35 +149,9 @@ moved-past-requires : tie.Need-moved-past-requires
 moved-past-requires c κs = search needs
 
 returns-6 : tie.Need-returns-6
-unfolding nextOf
 returns-6 c =
     let t5 = c .before in
-    let r = t5 .before in
-    let k = r .before in
-    let z = k .before in
-    let y = z .before in
-    let x = y .before in
-    let t4 = x .before in
-    let t3 = t4 .before in
-    let o = t3 .before in
-    let t2 = o .before in
-    let w = t2 .before in
-    let t1 = w .before .before in
-    simp (
-      lt-leb _ _ (t1 .if1 .left),
-      ← w .width .ensures,
-      ne-eqb _ _ (t2 .if2 .left),
-      ← o .out-of-turn .ensures,
-      t3 .if3 .left,
-      le-ltb _ _ (t4 .if4 .left),
-      ← x .byte-at .ensures,
-      ← y .byte-at2 .ensures,
-      ← z .byte-at3 .ensures,
-      ← k .command .ensures,
-      ← r .out-of-range .ensures,
-      t5 .if5 .left,
-      ← c .moved-past .ensures,
-    )
+    simp (at-range (t5 .before), t5 .if5 .left, ← c .moved-past .ensures)
 
 pub next-spec : {M : Type 1} → statement M
 next-spec =
