@@ -1,11 +1,11 @@
 -- Laws of lists made entry by entry.
-use Prim.Native.Nat.{ℕ, zero, suc, _+_, _<_, _≤_}
+use Prim.Native.Nat.{ℕ, zero, suc, _+_, _<_}
 use mathlib.Core.Path.{_≡_, refl, sym, ap, _∙_}
 use mathlib.Core.Logic.{⊎-elim}
 use mathlib.Core.Bool.{cond}
 use mathlib.Core.List.{List, [], _∷_, _++_}
 use native.Mathlib.Omega.{arith}
-use native.Mathlib.Nat.{not-suc-le-zero, add-zero, add-suc, suc-add}
+use native.Mathlib.Nat.{not-suc-le-zero, add-zero}
 use lib.Dec.{T, T-not, eqb, eqb→eq, ltb, ltb→lt, nltb→le}
 use lib.ListN.{length, getD, set, take, List·getD-append, List·getD-eq-default, length-append, length-set, length-take}
 use lib.Seq.{sets, getD-at, getD-set-same, getD-set-other, getD-take, ext-getD}

@@ -1,8 +1,8 @@
 -- The audit says yes exactly where the stage is a rival, with its cells; so it says yes to a quote's own stage, with the cells quoted.
-use Prim.Native.Nat.{ℕ, _^_, _<_, _≤_}
+use Prim.Native.Nat.{ℕ, _^_}
 use mathlib.Core.Path.{_≡_, refl, sym, ap, ap₂, subst, _∙_}
-use mathlib.Core.Logic.{_⊎_, inl, inr, ⊎-elim, _↔_}
-use mathlib.Core.Bool.{Bool, true, false, cond, not, _&&_}
+use mathlib.Core.Logic.{⊎-elim, _↔_}
+use mathlib.Core.Bool.{_&&_}
 use mathlib.Core.List.{List}
 use native.Mathlib.Omega.{arith}
 use borrow.Author.Tests.{eq-eqb}
@@ -11,7 +11,7 @@ use lib.ListN.{length, take}
 use Rattle.base.specs.declared.Refusal.{Refusal}
 use Rattle.base.specs.Refusals.{refusalAt, empty}
 use Rattle.base.proofs.Tests.{decide, test-yes, test-no, and-left, and-right}
-use Rattle.table.specs.Bits.{all, ofBits}
+use Rattle.table.specs.Bits.{ofBits}
 use Rattle.table.specs.Tree.{Tree, follow}
 use Rattle.table.proofs.Bits.{all-at, all-intro}
 use Rattle.relation.specs.Tests.{emptyPattern}
@@ -24,17 +24,14 @@ use Rattle.sheet.specs.Reading.{Reading, holds, refused as unread, readingOf}
 use Rattle.stage.specs.Bytes.{size}
 use Rattle.stage.specs.Read.{StageSheet, got, refused, readStage}
 use Rattle.stage.proofs.Sheets.{accepted}
-use Rattle.unit.specs.declared.Formed.{Formed}
 use Rattle.unit.specs.Relation.{unitRelation}
 use Rattle.unit.specs.Formed.{relationIn, turnedAway, formedOf}
-use Rattle.unit.specs.Rival.{Rival, valueOn}
+use Rattle.unit.specs.Rival.{valueOn}
 use Rattle.unit.proofs.Forming.{formed-refused, formed-empty, formed-whole}
 use Rattle.unit.proofs.Rivals.{byWire, commands-only, rival-told, no-rival}
-use Rattle.quote.specs.declared.Quoted.{Quoted}
-use Rattle.quote.specs.declared.Audited.{Audited}
-use Rattle.quote.specs.declared.Audited.the-variants.{Fits, Differs, SheetRefused, StageRefused}
+use Rattle.quote.specs.declared.Audited.the-variants.{Fits, Differs, SheetRefused}
 use Rattle.quote.specs.Audit.{keepsTo, sizesApart, auditedStage, auditedFrom, auditedOf}
-use Rattle.quote.specs.Promised.{Accepted as Quotes, RivalStage, Promised}
+use Rattle.quote.specs.Promised.{Accepted as Quotes, RivalStage}
 use Rattle.quote.specs.Quote.{quotedOf, bufferQuoted}
 use Rattle.quote.proofs.Auditing.{ordered-at}
 use Rattle.quote.proofs.Demand.{promised}

@@ -1,20 +1,18 @@
 -- The cases of an audit, and the stage's value by its tables.
-use Prim.Native.Nat.{ℕ, zero, suc, _+_, _*_, _^_, _<_, _≤_}
-use mathlib.Core.Path.{_≡_, refl, sym, ap, ap₂, subst, _∙_}
-use mathlib.Core.Logic.{_⊎_, inl, inr, ⊎-elim}
-use mathlib.Core.Bool.{Bool, true, false, cond, _&&_}
+use Prim.Native.Nat.{ℕ, zero, suc, _*_, _^_, _<_, _≤_}
+use mathlib.Core.Path.{_≡_, refl, sym, ap, ap₂, _∙_}
+use mathlib.Core.Bool.{Bool, true, false, cond}
 use mathlib.Core.List.{List, [], _∷_, map}
 use native.Mathlib.Omega.{arith}
 use borrow.Author.Tests.{eq-eqb, ne-eqb}
-use lib.Dec.{T, eqb, ltb, ltb→lt, nltb→le}
-use lib.ListN.{length, getD, take}
+use lib.Dec.{eqb, ltb}
+use lib.ListN.{length, getD}
 use lib.Seq.{getD-take}
 use Rattle.base.specs.declared.Refusal.{Refusal}
 use Rattle.base.specs.Sizes.{maxWires}
-use Rattle.base.proofs.Tests.{decide}
 use Rattle.base.proofs.Rows.{row-at, row-entry}
 use Rattle.table.specs.Bits.{bit, all, ofBits, row}
-use Rattle.table.specs.Tree.{Tree, con, Ordered, follow}
+use Rattle.table.specs.Tree.{Tree, Ordered, follow}
 use Rattle.table.proofs.Bits.{all-cong, sum-cong}
 use Rattle.relation.specs.declared.Relation.{Relation}
 use Rattle.relation.specs.Source.{value}
@@ -26,13 +24,12 @@ use Rattle.stage.specs.declared.reader.StageRead.{StageRead}
 use Rattle.stage.specs.Bytes.{AllOrdered, size}
 use Rattle.stage.specs.Read.{StageSheet, got, refused, readStage}
 use Rattle.stage.specs.Reply.{tableOf, tablesOf, replyOf}
-use Rattle.stage.proofs.Sheets.{Stage, accepted}
+use Rattle.stage.proofs.Sheets.{accepted}
 use Rattle.stage.proofs.Tables.{table-bit}
 use Rattle.sheet.specs.declared.Answer.the-variants.{Accepted as Taken, Refused as NotTaken}
 use Rattle.unit.specs.declared.Formed.{Formed}
 use Rattle.unit.specs.Formed.{formedOf}
 use Rattle.unit.specs.Rival.{valueOn}
-use Rattle.quote.specs.declared.Audited.{Audited}
 use Rattle.quote.specs.declared.Audited.the-variants.{Fits, Differs, SheetRefused, StageRefused}
 use Rattle.quote.specs.Audit.{keepsTo, sizesApart, auditedStage, auditedFrom, auditedOf}
 use Rattle.unit.proofs.Rivals.{byWire}

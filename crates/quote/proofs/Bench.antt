@@ -24,7 +24,6 @@ use Rattle.stage.specs.Written.{stageTrees, stageOf, firstOut, writtenOf, buffe
 use Rattle.sheet.proofs.Rows.{sheetA}
 use Rattle.unit.proofs.Rows as UnitRows
 use Rattle.unit.proofs.Rows.{limitedA}
-use Rattle.quote.specs.declared.Quoted.{Quoted}
 use Rattle.quote.specs.Quote.{refusedQuote, withStage, whereMarked, searched, quotedFrom, quotedOf, bufferSearched, bufferFrom, bufferQuoted}
 
 -- all that a search, a stage and a quote compute by

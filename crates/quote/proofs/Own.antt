@@ -1,23 +1,20 @@
 -- What a search of a relation that passes its test writes: its own stage, and the promise told by lists of trees.
-use Prim.Native.Nat.{ℕ, zero, suc, _+_, _*_, _^_, _<_, _≤_}
-use mathlib.Core.Path.{_≡_, refl, sym, ap, subst, _∙_}
-use mathlib.Core.Logic.{_⊎_, inl, inr, ⊎-elim}
-use mathlib.Core.Bool.{Bool, true, false, cond, not}
-use mathlib.Core.List.{List, [], _∷_, _++_, map}
+use Prim.Native.Nat.{ℕ, zero, suc, _+_, _^_, _<_, _≤_}
+use mathlib.Core.Path.{_≡_, refl, sym, ap, _∙_}
+use mathlib.Core.Bool.{cond, not}
+use mathlib.Core.List.{List, [], _∷_}
 use native.Mathlib.Omega.{arith}
 use borrow.Author.Tests.{lt-leb, le-ltb}
 use native.Mathlib.Nat.{le-refl}
-use lib.Dec.{T, T-not, ltb, leb}
-use lib.ListN.{length, getD, take, drop}
-use Rattle.base.specs.Sizes.{maxWires}
+use lib.Dec.{T, ltb, leb}
+use lib.ListN.{length, getD}
 use Rattle.base.specs.Refusals.{refusalAt, shortBuffer}
-use Rattle.table.specs.Bits.{sum, ofBits}
+use Rattle.table.specs.Bits.{sum}
 use Rattle.table.specs.Cells.{cells}
-use Rattle.table.specs.Tree.{Tree, con, sel, Ordered, follow, selectors, reduced}
+use Rattle.table.specs.Tree.{Tree, selectors, reduced}
 use Rattle.table.proofs.Bits.{sum-cong}
 use Rattle.relation.specs.declared.Relation.{Relation}
 use Rattle.relation.specs.declared.Checked.the-variants.{WellFormed}
-use Rattle.relation.specs.Source.{Rel}
 use Rattle.relation.specs.Tests.{wires}
 use Rattle.relation.specs.Families as Families
 use Rattle.relation.specs.Families.{Family}
@@ -31,13 +28,13 @@ use Rattle.search.proofs.Families.{fair, smallest}
 use Rattle.search.proofs.Promised.{run-promise}
 use Rattle.stage.specs.declared.writer.Written.the-variants.{Length, Refused as NotWritten}
 use Rattle.stage.specs.Bytes.{size}
-use Rattle.stage.specs.Written.{stageTrees, stageOf, stageCells, firstOut, tableOut, writtenOf}
+use Rattle.stage.specs.Written.{stageTrees, stageOf, firstOut, tableOut, writtenOf}
 use Rattle.stage.specs.Read.{got, readStage}
 use Rattle.base.proofs.Lowest.{lowest-none}
 use Rattle.unit.proofs.Choice.{family-same}
 use Rattle.unit.proofs.Rivals.{byWire}
 use Rattle.stage.proofs.Ranges.{Sized, sizes-fit}
-use Rattle.stage.proofs.Lengths.{trees-length, trees-size}
+use Rattle.stage.proofs.Lengths.{trees-length}
 use Rattle.stage.proofs.Sheets.{written-back}
 
 -- the first of a sum apart

@@ -1,13 +1,13 @@
 -- The promise of demand 3, from what the search of the sheet's relation promises.
-use Prim.Native.Nat.{ℕ, _^_, _<_, _≤_}
+use Prim.Native.Nat.{ℕ}
 use mathlib.Core.Path.{_≡_, refl, sym, ap, ap₂, subst, _∙_}
-use mathlib.Core.Logic.{_⊎_, inl, inr, ⊎-elim, _↔_}
+use mathlib.Core.Logic.{⊎-elim, _↔_}
 use mathlib.Core.Bool.{Bool, true, false, cond, not}
 use mathlib.Core.List.{List, _++_}
 use native.Mathlib.Omega.{arith}
 use borrow.Author.Tests.{lt-ltb, le-ltb}
 use lib.Dec.{T, ltb, ltb→lt, nltb→le}
-use lib.ListN.{length, getD, take, drop}
+use lib.ListN.{length, take, drop}
 use lib.Seq.{take-at}
 use Rattle.base.specs.declared.Refusal.{Refusal}
 use Rattle.base.specs.Refusals.{refusalAt, empty, shortBuffer}
@@ -19,23 +19,21 @@ use Rattle.relation.specs.Families.{Family}
 use Rattle.relation.specs.Handed.{relationOf, checkOf}
 use Rattle.search.specs.declared.Answer.{Answer}
 use Rattle.search.specs.declared.Mark.the-variants.{Best, Stopped, Refused}
-use Rattle.search.specs.Search.{floor, run}
+use Rattle.search.specs.Search.{floor}
 use Rattle.search.specs.TreeBoard.{tree}
-use Rattle.search.specs.Reply.{markOf, answerOf, searchOf}
+use Rattle.search.specs.Reply.{markOf, answerOf}
 use Rattle.search.proofs.Entry.{answered}
 use Rattle.sheet.specs.declared.Command.{Command}
 use Rattle.sheet.specs.Commands.{inputsOf, wiresOf}
 use Rattle.sheet.specs.Reading.{holds, readingOf}
 use Rattle.stage.specs.declared.writer.Written.{Written}
 use Rattle.stage.specs.declared.writer.Written.the-variants.{Length, Refused as NotWritten}
-use Rattle.stage.specs.Bytes.{size}
 use Rattle.stage.specs.Read.{got, readStage}
 use Rattle.stage.specs.Written.{stageOf, writtenOf, bufferWith, bufferAfter}
 use Rattle.unit.specs.Rival.{Rival}
 use Rattle.unit.proofs.Rivals.{byWire, commands-only}
-use Rattle.quote.specs.declared.Quoted.{Quoted}
 use Rattle.quote.specs.Quote.{refusedQuote, withStage, whereMarked, searched, bufferSearched}
-use Rattle.quote.specs.Promised.{Accepted, RivalStage, NoRival, Promised}
+use Rattle.quote.specs.Promised.{RivalStage, NoRival, Promised}
 use Rattle.quote.proofs.Own.{found, trees, one-each, own-family, own-size, above, best, within, spent, written, read-back}
 
 -- marks are told apart

@@ -1,10 +1,9 @@
 -- Document 01, "Quote, audit, program": "The audit says whether a stage's value lies in R(p) for every p, and the stage's cells. A stage sheet that is refused
 -- ends the audit there; the sheet is judged before the stage, and the reply names which of them, 13 being the stage's."
 use Prim.Native.Nat.{ℕ, _^_}
-use mathlib.Core.Bool.{Bool, cond, not, _&&_}
+use mathlib.Core.Bool.{Bool, cond, _&&_}
 use mathlib.Core.List.{List}
 use lib.Dec.{eqb}
-use Rattle.base.specs.declared.Refusal.{Refusal}
 use Rattle.base.specs.Refusals.{refusalAt, sizesDiffer}
 use Rattle.table.specs.Bits.{all}
 use Rattle.table.specs.Tree.{Tree}

@@ -1,14 +1,14 @@
 -- Laws of the value of a function, and of the tests: each decides what source 001 defines.
-use Prim.Native.Nat.{ℕ, zero, suc, _+_, _*_, _^_, _-_, _<_, _≤_}
-use mathlib.Core.Path.{_≡_, refl, sym, ap, subst, _∙_}
+use Prim.Native.Nat.{ℕ, _*_, _^_, _<_}
+use mathlib.Core.Path.{_≡_, sym, ap, _∙_}
 use mathlib.Core.Logic.{_⊎_, inl, inr, ⊎-elim, _↔_}
-use mathlib.Core.Bool.{Bool, true, false, cond, not, _&&_, _||_}
+use mathlib.Core.Bool.{Bool, cond, not, _&&_}
 use native.Mathlib.Omega.{arith}
-use lib.Dec.{T, T-not, not-T, eqb, eqb→eq, eqb-refl}
+use lib.Dec.{T, T-not, eqb, eqb→eq}
 use Rattle.base.specs.Lowest.{lowest}
 use Rattle.base.proofs.Tests.{and-intro, and-left, and-right, cond-has, eq-test, not-not}
 use Rattle.base.proofs.Lowest.{lowest-is, lowest-or}
-use Rattle.table.specs.Bits.{bit, all, any, ofBits}
+use Rattle.table.specs.Bits.{bit, any, ofBits}
 use Rattle.table.specs.Pick.{suits}
 use Rattle.table.proofs.Bits.{all-at, all-intro, any-intro, any-at, sum-cong, bit-lt, bit-cases, ofBits-lt, bit-ofBits, bit-ext}
 use Rattle.relation.specs.Source.{Rel, Tables, Projects, Open, WellDefined, Compatible, value}

@@ -1,17 +1,16 @@
 -- Laws of a split (source 001, definition 5.4): theorem 5.2, property 5.4, and the open pair that a split closes.
-use Prim.Native.Nat.{ℕ, zero, suc, _+_, _*_, _^_, _-_, _<_, _≤_}
-use mathlib.Core.Path.{_≡_, refl, sym, ap, subst, _∙_}
+use Prim.Native.Nat.{ℕ, _*_, _^_, _<_, _≤_}
+use mathlib.Core.Path.{_≡_, ap, subst, _∙_}
 use mathlib.Core.Logic.{_⊎_, inl, inr, ⊎-elim, _↔_}
-use mathlib.Core.Bool.{Bool, true, false, cond, not, _&&_, _||_}
+use mathlib.Core.Bool.{Bool, true, false, not, _||_}
 use native.Mathlib.Omega.{arith}
-use lib.Dec.{T, T-not, not-T, eqb, eqb→eq, eqb-refl}
-use Rattle.base.specs.Lowest.{lowest}
+use lib.Dec.{T, T-not, eqb, eqb→eq, eqb-refl}
 use Rattle.base.proofs.Tests.{and-intro, and-left, and-right, or-left, or-right, or-cases, decide, eq-test}
 use Rattle.table.specs.Bits.{bit, sum}
 use Rattle.table.proofs.Bits.{sum-le, sum-lt, sum-bound, bit-cases}
 use Rattle.relation.specs.Source.{Rel, Tables, Part, StrictPart, Split, Open, WellDefined, Compatible, value}
 use Rattle.relation.specs.Tests.{keep, agree, occurs, free, fits, isOne, openPairs}
-use Rattle.relation.proofs.Decide.{value-lt, value-bit, occurs-intro, occurs-at, fits-at, free-both, open-test}
+use Rattle.relation.proofs.Decide.{value-bit, occurs-intro, occurs-at, fits-at, free-both}
 
 -- a part of a split
 module _ (R : Rel) (p j b : ℕ) where

@@ -1,7 +1,7 @@
 -- Document 01, "Refusals": "A relation handed straight to the search is tested for sizes (3, place 0), set bits (3, lowest pattern), then 10; of its
 -- 16 sets those past the last pattern aren't read."
 use Prim.Native.Nat.{ℕ, _^_}
-use mathlib.Core.Bool.{Bool, cond}
+use mathlib.Core.Bool.{cond}
 use mathlib.Core.List.{List}
 use lib.Dec.{leb, ltb}
 use lib.ListN.{getD, take}

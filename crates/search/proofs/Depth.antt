@@ -1,26 +1,17 @@
 -- More depth than open pairs changes nothing: the search of a part is steps 1 to 4 with itself for the parts.
-use Prim.Native.Nat.{ℕ, zero, suc, _+_, _*_, _^_, _-_, _<_, _≤_}
-use mathlib.Core.Path.{_≡_, refl, sym, ap, subst, _∙_}
-use mathlib.Core.Logic.{_⊎_, inl, inr, ⊎-elim}
-use mathlib.Core.Bool.{Bool, true, false, cond, not, _&&_, _||_}
-use mathlib.Core.Option.{Option, none, some}
+use Prim.Native.Nat.{ℕ, zero, suc, _^_, _<_, _≤_}
+use mathlib.Core.Path.{_≡_, refl, ap, _∙_}
 use native.Mathlib.Omega.{arith}
-use native.Mathlib.Nat.{not-suc-le-zero, le-refl, le-trans}
-use lib.Dec.{T, T-not, not-T, leb, ltb, eqb, leb→le, nleb→lt, ltb→lt, nltb→le}
-use lib.ListN.{getD}
+use native.Mathlib.Nat.{not-suc-le-zero}
+use lib.Dec.{T}
 use Rattle.base.specs.Sizes.{maxWires}
-use Rattle.base.proofs.Tests.{cond-has, cond-has₂, below-suc, test-yes}
-use Rattle.table.specs.Bits.{bit, sum, row}
-use Rattle.table.specs.Pick.{Proj, suits, least, leastOf, orZero}
-use Rattle.table.proofs.Bits.{bit-cases, sum-cong, sum-le, row-at}
-use Rattle.table.proofs.Least.{Least, least-is, least-found}
-use Rattle.relation.specs.Source.{Rel, Tables, Part, Stage, WellDefined, Compatible, value}
-use Rattle.relation.specs.Tests.{wires, keep, agree, projection, fits, occurs, free, freeWire, compatible, conflict, openPairs}
-use Rattle.relation.proofs.Decide.{value-cong, value-is, compatible-fits, some-fits, free-both, compatible-at, conflict-is, freeWire-is}
-use Rattle.relation.proofs.Splits.{keep-part, keep-well-defined, keep-compatible, keep-closes, agree-part, agree-bit, agree-well-defined}
+use Rattle.base.proofs.Tests.{cond-has₂}
+use Rattle.relation.specs.Source.{Rel, WellDefined}
+use Rattle.relation.specs.Tests.{wires, keep, free, freeWire, compatible, conflict, openPairs}
+use Rattle.relation.proofs.Decide.{free-both, conflict-is, freeWire-is}
+use Rattle.relation.proofs.Splits.{keep-well-defined, keep-closes}
 use Rattle.search.specs.declared.State.{State}
-use Rattle.search.specs.Search.{Board, tablesOf, total, pick, picks, floor, left, quick, start, split, expand, charge, treat, visit, searchPart, run, charged, discarded, usedUp}
-use Rattle.search.specs.Promise.{Fair, Sound, Promise}
+use Rattle.search.specs.Search.{Board, pick, picks, floor, split, expand, charge, treat, visit, searchPart, charged, discarded, usedUp}
 use Rattle.search.proofs.Picks.{wires-tables, pick-fits}
 
 -- More depth than open pairs changes nothing.

@@ -1,21 +1,17 @@
 -- The promise of the search on the tree board, told by every family of ordered trees.
-use Prim.Native.Nat.{ℕ, _+_, _*_, _^_, _%_, _<_, _≤_}
-use mathlib.Core.Path.{_≡_, refl, sym, ap, _∙_}
-use mathlib.Core.Bool.{not}
-use native.Mathlib.Omega.{arith}
+use Prim.Native.Nat.{ℕ, _*_, _^_, _<_, _≤_}
+use mathlib.Core.Path.{_≡_, sym, ap, _∙_}
 use native.Mathlib.Nat.{mod-eq-of-lt, zero-add, le-trans}
-use lib.Dec.{T}
 use Rattle.base.specs.Sizes.{maxWires}
-use Rattle.table.specs.Bits.{bit, sum, ofBits}
+use Rattle.table.specs.Bits.{bit, ofBits}
 use Rattle.table.specs.Cells.{cells}
-use Rattle.table.specs.Tree.{Tree, Ordered, follow, selectors, reduced}
+use Rattle.table.specs.Tree.{Tree, follow, selectors, reduced}
 use Rattle.table.proofs.Bits.{sum-cong, sum-le, ofBits-lt, bit-ofBits}
 use Rattle.table.proofs.Trees.{follow-lt, least-tree, reduced-selectors, reduced-ordered, reduced-follow}
 use Rattle.relation.specs.Source.{Rel, Tables, Stage, WellDefined, Compatible, value}
 use Rattle.relation.specs.Tests.{wires}
-use Rattle.search.specs.declared.State.{State}
-use Rattle.search.specs.Search.{total, floor, run}
-use Rattle.search.specs.Promise.{Fair, Sound, Promise}
+use Rattle.search.specs.Search.{total, run}
+use Rattle.search.specs.Promise.{Fair}
 use Rattle.relation.specs.Families.{Family, size}
 use Rattle.search.specs.TreeBoard.{tree, Smallest}
 use Rattle.search.proofs.Promised.{run-promise}

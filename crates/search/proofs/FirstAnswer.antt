@@ -1,24 +1,24 @@
 -- The first answer, wire by wire.
-use Prim.Native.Nat.{ℕ, zero, suc, _+_, _*_, _^_, _/_, _%_, _<_, _≤_}
-use mathlib.Core.Path.{_≡_, refl, sym, ap, ap₂, subst, _∙_}
-use mathlib.Core.Logic.{_⊎_, inl, inr, ⊎-elim}
-use mathlib.Core.Bool.{Bool, true, false, cond, not}
+use Prim.Native.Nat.{ℕ, _+_, _*_, _^_, _/_, _%_, _<_, _≤_}
+use mathlib.Core.Path.{_≡_, refl, sym, ap, ap₂, _∙_}
+use mathlib.Core.Logic.{⊎-elim}
+use mathlib.Core.Bool.{false, cond}
 use mathlib.Core.List.{List, [], _∷_}
 use native.Mathlib.Numerals.{add-one}
 use native.Mathlib.Omega.{arith}
 use native.Mathlib.Nat.{lt-of-lt-of-le}
-use borrow.Author.Tests.{lt-ltb, le-ltb}
-use lib.Dec.{T, T-not, eqb, ltb, eqb→eq, ltb→lt, lt→ltb}
+use borrow.Author.Tests.{lt-ltb}
+use lib.Dec.{T-not, eqb, ltb, eqb→eq, ltb→lt, lt→ltb}
 use lib.ListN.{length, getD, set, length-set}
 use lib.Pow.{pow-mono}
 use lib.Seq.{getD-set-same, getD-set-other}
 use Rattle.base.specs.Sizes.{maxWires}
-use Rattle.base.proofs.Tests.{cond-has, decide, eq-test, test-ext}
+use Rattle.base.proofs.Tests.{decide, eq-test, test-ext}
 use Rattle.table.specs.Bits.{sum, row}
 use Rattle.table.specs.Cells.{cells}
 use Rattle.table.specs.Pick.{pickOf, rank, tableSpace}
 use Rattle.table.proofs.Bits.{row-at, row-length, sum-cong}
-use Rattle.relation.specs.Source.{Rel, Tables}
+use Rattle.relation.specs.Source.{Tables}
 use Rattle.relation.specs.Tests.{ofSets, wires, agree}
 use Rattle.relation.specs.Masks.{maskOf, agreed}
 use Rattle.relation.proofs.Splits.{agree-well-defined}

@@ -14,7 +14,7 @@ use Rattle.base.proofs.Lowest.{lowest-at, lowest-below}
 use Rattle.table.specs.Bits.{row}
 use Rattle.table.proofs.Bits.{row-at, row-length}
 use Rattle.relation.specs.Source.{Rel, Tables, value}
-use Rattle.relation.specs.Tests.{ofSets, wires, free, freeWire, fits, compatible, conflict}
+use Rattle.relation.specs.Tests.{ofSets, wires, free, freeWire, compatible, conflict}
 use Rattle.relation.specs.Masks.{member, sideBySide, valueIn}
 use Rattle.relation.proofs.Decide.{compatible-at, compatible-test, conflict-is, freeWire-is}
 use Rattle.relation.proofs.Sets.{member-sets, free-four, value-four}

@@ -1,27 +1,26 @@
 -- Laws of picks, the floor and the first answer, over the board.
-use Prim.Native.Nat.{ℕ, zero, suc, _+_, _*_, _^_, _-_, _<_, _≤_}
-use mathlib.Core.Path.{_≡_, refl, sym, ap, subst, _∙_}
-use mathlib.Core.Logic.{_⊎_, inl, inr, ⊎-elim}
-use mathlib.Core.Bool.{Bool, true, false, cond, not, _&&_, _||_}
-use mathlib.Core.Option.{Option, none, some}
+use Prim.Native.Nat.{ℕ, zero, suc, _^_, _<_, _≤_}
+use mathlib.Core.Path.{_≡_, sym, ap, _∙_}
+use mathlib.Core.Logic.{⊎-elim}
+use mathlib.Core.Bool.{cond}
+use mathlib.Core.Option.{some}
 use native.Mathlib.Omega.{arith}
-use native.Mathlib.Nat.{not-suc-le-zero, le-refl, le-trans}
-use lib.Dec.{T, T-not, not-T, leb, ltb, eqb, leb→le, nleb→lt, ltb→lt, nltb→le}
-use lib.ListN.{length, getD}
+use native.Mathlib.Nat.{not-suc-le-zero}
+use lib.Dec.{T, ltb}
+use lib.ListN.{length}
 use Rattle.base.specs.Sizes.{maxWires}
-use Rattle.base.proofs.Tests.{cond-has, cond-has₂, below-suc, test-yes}
-use Rattle.table.specs.Bits.{bit, sum, row}
-use Rattle.table.specs.Pick.{Proj, suits, least, leastOf, orZero}
-use Rattle.table.proofs.Bits.{bit-cases, sum-cong, sum-le, row-at, row-length}
+use Rattle.base.proofs.Tests.{below-suc}
+use Rattle.table.specs.Bits.{bit}
+use Rattle.table.specs.Pick.{suits, least, leastOf}
+use Rattle.table.proofs.Bits.{sum-cong, sum-le, row-at, row-length}
 use Rattle.table.proofs.Least.{Least, least-is, least-found}
-use Rattle.relation.specs.Source.{Rel, Tables, Part, Stage, WellDefined, Compatible, value}
-use Rattle.relation.specs.Tests.{wires, keep, agree, projection, fits, occurs, free, freeWire, compatible, conflict, openPairs}
-use Rattle.relation.proofs.Decide.{value-cong, value-is, compatible-fits, some-fits, free-both, compatible-at, conflict-is, freeWire-is}
-use Rattle.relation.proofs.Splits.{keep-part, keep-well-defined, keep-compatible, keep-closes, agree-part, agree-bit, agree-well-defined}
-use Rattle.search.specs.declared.State.{State}
+use Rattle.relation.specs.Source.{Rel, Tables, Part, Stage, WellDefined, Compatible}
+use Rattle.relation.specs.Tests.{wires, projection, fits}
+use Rattle.relation.proofs.Decide.{value-cong, value-is, compatible-fits, some-fits}
+use Rattle.relation.proofs.Splits.{agree-part, agree-bit, agree-well-defined}
 use borrow.Author.Tests.{lt-ltb}
-use Rattle.search.specs.Search.{Board, tablesOf, total, pick, picks, floor, left, quick, start, split, expand, charge, treat, visit, searchPart, run}
-use Rattle.search.specs.Promise.{Fair, Sound, Promise}
+use Rattle.search.specs.Search.{Board, tablesOf, total, pick, picks, floor, left, quick}
+use Rattle.search.specs.Promise.{Fair}
 
 pub total-cong : (b : Board) (X Y : Tables) → ((j : ℕ) → j < b .m → X j ≡ Y j) → total b X ≡ total b Y
 unfolding total

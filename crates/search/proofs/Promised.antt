@@ -1,25 +1,19 @@
 -- The search keeps its promise, over the count and the order as parameters.
-use Prim.Native.Nat.{ℕ, zero, suc, _+_, _*_, _^_, _-_, _<_, _≤_}
-use mathlib.Core.Path.{_≡_, refl, sym, ap, subst, _∙_}
-use mathlib.Core.Logic.{_⊎_, inl, inr, ⊎-elim}
-use mathlib.Core.Bool.{Bool, true, false, cond, not, _&&_, _||_}
-use mathlib.Core.Option.{Option, none, some}
+use Prim.Native.Nat.{ℕ, zero, suc, _+_, _^_, _<_, _≤_}
+use mathlib.Core.Path.{_≡_, refl}
+use mathlib.Core.Logic.{⊎-elim}
+use mathlib.Core.Bool.{not}
 use native.Mathlib.Omega.{arith}
 use native.Mathlib.Nat.{not-suc-le-zero, le-refl, le-trans}
-use lib.Dec.{T, T-not, not-T, leb, ltb, eqb, leb→le, nleb→lt, ltb→lt, nltb→le}
-use lib.ListN.{getD}
-use Rattle.base.specs.Sizes.{maxWires}
-use Rattle.base.proofs.Tests.{cond-has, cond-has₂, below-suc, test-yes}
-use Rattle.table.specs.Bits.{bit, sum, row}
-use Rattle.table.specs.Pick.{Proj, suits, least, leastOf, orZero}
-use Rattle.table.proofs.Bits.{bit-cases, sum-cong, sum-le, row-at}
-use Rattle.table.proofs.Least.{Least, least-is, least-found}
+use lib.Dec.{T, T-not, not-T, leb→le, nleb→lt}
+use Rattle.base.proofs.Tests.{cond-has}
+use Rattle.table.proofs.Bits.{bit-cases}
 use Rattle.relation.specs.Source.{Rel, Tables, Part, Stage, WellDefined, Compatible, value}
-use Rattle.relation.specs.Tests.{wires, keep, agree, projection, fits, occurs, free, freeWire, compatible, conflict, openPairs}
-use Rattle.relation.proofs.Decide.{value-cong, value-is, compatible-fits, some-fits, free-both, compatible-at, conflict-is, freeWire-is}
-use Rattle.relation.proofs.Splits.{keep-part, keep-well-defined, keep-compatible, keep-closes, agree-part, agree-bit, agree-well-defined}
+use Rattle.relation.specs.Tests.{wires, keep, free, freeWire, compatible, conflict, openPairs}
+use Rattle.relation.proofs.Decide.{free-both, compatible-at, conflict-is, freeWire-is}
+use Rattle.relation.proofs.Splits.{keep-part, keep-well-defined, keep-compatible, keep-closes}
 use Rattle.search.specs.declared.State.{State}
-use Rattle.search.specs.Search.{Board, tablesOf, total, pick, picks, floor, left, quick, start, split, expand, charge, treat, visit, searchPart, run, charged, discarded, usedUp}
+use Rattle.search.specs.Search.{Board, total, pick, picks, floor, start, split, expand, charge, treat, visit, searchPart, run, charged, discarded, usedUp}
 use Rattle.search.specs.Promise.{Fair, Sound, Promise}
 use Rattle.search.proofs.Picks.{wires-tables, tables-long, quick-long, tables-stage, floor-picks, pick-stage, pick-fits, floor-le, quick-compatible, quick-stage}
 

@@ -1,20 +1,15 @@
 -- The cases of a visit: each return of the code is the written treatment of the part.
-use Prim.Native.Nat.{ℕ, _+_, _*_, _^_, _<_, _≤_}
-use mathlib.Core.Path.{_≡_, refl, sym, ap, ap₂, subst, _∙_}
-use mathlib.Core.Logic.{⊎-elim}
-use mathlib.Core.Bool.{Bool, true, false, cond, not}
+use Prim.Native.Nat.{ℕ, _^_, _<_, _≤_}
+use mathlib.Core.Path.{_≡_, sym, _∙_}
 use mathlib.Core.List.{List}
-use native.Mathlib.Omega.{arith}
 use borrow.Author.Tests.{le-leb, lt-leb}
-use lib.Dec.{T, leb}
-use Rattle.base.specs.Sizes.{maxWires}
-use Rattle.base.proofs.Tests.{decide, test-yes, test-no}
-use Rattle.relation.specs.Source.{Rel, Tables}
-use Rattle.relation.specs.Tests.{ofSets, wires, keep, free, freeWire, compatible, conflict, openPairs}
+use lib.Dec.{T}
+use Rattle.base.proofs.Tests.{test-yes, test-no}
+use Rattle.relation.specs.Source.{Rel}
+use Rattle.relation.specs.Tests.{ofSets, wires, free, compatible, openPairs}
 use Rattle.relation.specs.Masks.{narrowed}
 use Rattle.relation.proofs.Splits.{keep-closes}
 use Rattle.search.specs.declared.State.{State}
-use Rattle.search.specs.declared.Open.{Open}
 use Rattle.search.specs.declared.Open.the-variants.{Pair, Closed}
 use Rattle.search.specs.Search.{picks, floor, halted, charged, improved, split, expand, charge, treat, searchPart}
 use Rattle.search.specs.TreeBoard.{tree}

@@ -2,7 +2,6 @@
 -- else the cells) and the visits, the number of parts expanded." Or the refusal of the relation.
 use Prim.Native.Nat.{ℕ, zero}
 use mathlib.Core.Bool.{Bool, true, false, cond}
-use mathlib.Core.List.{List}
 use Rattle.base.specs.Sizes.{maxWires}
 use Rattle.base.specs.declared.Refusal.{Refusal}
 use Rattle.table.specs.Bits.{row}

@@ -1,20 +1,13 @@
 -- Laws of what a list of commands says, and of lists made entry by entry.
-use Prim.Native.Nat.{ℕ, zero, suc, _<_}
+use Prim.Native.Nat.{ℕ, zero, suc}
 use mathlib.Core.Path.{_≡_, refl, sym, ap, _∙_}
-use mathlib.Core.Logic.{⊎-elim}
-use mathlib.Core.Bool.{Bool, true, false, _&&_}
+use mathlib.Core.Bool.{true, false, _&&_}
 use mathlib.Core.List.{List, [], _∷_, _++_, append-assoc, append-nil}
-use native.Mathlib.Nat.{not-suc-le-zero}
 use native.Mathlib.Omega.{arith}
-use lib.Dec.{T-not, eqb, eqb→eq}
-use lib.ListN.{length, getD, set, length-append, length-set, List·getD-append}
-use lib.Seq.{getD-at, getD-set-same, getD-set-other, ext-getD}
+use lib.ListN.{length, getD}
 use borrow.Author.Tests.{eq-eqb, ne-eqb}
-use Rattle.base.specs.Lowest.{lowest}
-use Rattle.base.proofs.Tests.{below-suc, decide, eq-test}
 use Rattle.sheet.specs.declared.Command.{Command}
 use Rattle.sheet.specs.Commands.{isEmpty, collect, about}
-use Rattle.sheet.specs.Gathered.{row}
 
 -- one command more
 pub collect-snoc {ℓ} : {A : Type ℓ} (says : Command → List A) (cs : List Command) (c : Command) → collect says (cs ++ c ∷ []) ≡ collect says cs ++ says c

@@ -1,10 +1,9 @@
 -- What the reply of `read_sheet` tells of the reading.
 use Prim.Native.Nat.{ℕ}
-use mathlib.Core.Path.{_≡_, refl, sym, ap, _∙_}
+use mathlib.Core.Path.{_≡_, refl}
 use mathlib.Core.List.{List}
 use native.Mathlib.Omega.{arith}
 use Rattle.base.specs.declared.Refusal.{Refusal}
-use Rattle.sheet.specs.declared.Answer.{Answer}
 use Rattle.sheet.specs.declared.Answer.the-variants.{Accepted, Refused}
 use Rattle.sheet.specs.declared.Command.{Command}
 use Rattle.sheet.specs.declared.Reply.{Reply}
@@ -34,7 +33,3 @@ module _ (x : Reading) (r : Reply) (e : r ≡ replyOf x) where
 
   pub refused-reply : (f : Refusal) → r .answer ≡ Refused f → x ≡ refused f
   refused-reply f a = refusing x f (rw e at a)
-
--- a reading gives one answer
-pub holds-same : (cs ds : List Command) → holds cs ≡ holds ds → cs ≡ ds
-holds-same cs ds e = cc

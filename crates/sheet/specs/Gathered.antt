@@ -1,7 +1,7 @@
 -- What is gathered from the commands of a sheet.
-use Prim.Native.Nat.{ℕ, zero, suc, _-_, _^_, min}
+use Prim.Native.Nat.{ℕ, _-_, _^_, min}
 use mathlib.Core.Bool.{cond}
-use mathlib.Core.List.{List, [], _∷_, _++_}
+use mathlib.Core.List.{List, [], _∷_}
 use lib.ListN.{length, getD}
 use lib.Bits.{bitAnd}
 use Rattle.base.specs.Sizes.{maxInputs, maxWires}

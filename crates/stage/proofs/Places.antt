@@ -1,5 +1,5 @@
 -- Laws of reading at a place of a slice: what stands there, in the meanings' terms of the bytes that are left.
-use Prim.Native.Nat.{ℕ, suc, _+_, _^_, _-_, _<_, _≤_}
+use Prim.Native.Nat.{ℕ, suc, _+_, _^_, _<_, _≤_}
 use mathlib.Core.Path.{_≡_, sym, ap, _∙_}
 use mathlib.Core.Logic.{⊎-elim}
 use mathlib.Core.Bool.{cond}

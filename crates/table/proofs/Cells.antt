@@ -1,12 +1,12 @@
 -- Laws of halving a table and of its cells, over the width.
-use Prim.Native.Nat.{ℕ, zero, suc, _+_, _*_, _^_, _/_, _%_, _-_, _<_, _≤_}
+use Prim.Native.Nat.{ℕ, zero, suc, _+_, _*_, _^_, _-_, _<_, _≤_}
 use mathlib.Core.Path.{_≡_, refl, sym, ap, _∙_}
 use mathlib.Core.Logic.{_⊎_, inl, inr, ⊎-elim}
-use mathlib.Core.Bool.{Bool, cond, _||_}
+use mathlib.Core.Bool.{_||_}
 use native.Mathlib.Omega.{arith}
 use native.Mathlib.Nat.{mod-lt, two-pow-succ, zero-mod, zero-div}
 use lib.Arith.{digits-div, digits-mod}
-use lib.Dec.{T, eqb, eqb→eq}
+use lib.Dec.{eqb, eqb→eq}
 use lib.Pow.{pow-pos, pow-add, shr-lt}
 use Rattle.base.proofs.Tests.{cond-has, cond-has₂, eqb-yes, eqb-not, or-cases}
 use Rattle.table.specs.Bits.{bit}

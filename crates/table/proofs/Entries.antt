@@ -1,16 +1,16 @@
 -- What `pick` returns at each width, from the table of blocks.
-use Prim.Native.Nat.{ℕ, zero, suc, _+_, _*_, _^_, _/_, _%_, _-_, _<_, _≤_, min}
-use mathlib.Core.Path.{_≡_, refl, sym, ap, ap₂, subst, _∙_}
+use Prim.Native.Nat.{ℕ, _+_, _*_, _^_, _/_, _%_, _<_, _≤_, min}
+use mathlib.Core.Path.{_≡_, ap, ap₂, subst, _∙_}
 use mathlib.Core.Option.{Option, none, some}
 use native.Mathlib.Omega.{arith}
 use lib.Arith.{digits-div, digits-mod}
 use lib.Bits.{bitAnd}
 use Rattle.table.specs.Cells.{cells, low, high}
 use Rattle.table.specs.Pick.{Proj, leastOf, masked, pickOf, rank}
-use Rattle.table.specs.Blocks.{noTable, entryOf, blockOf, Shown, Covered}
+use Rattle.table.specs.Blocks.{entryOf, blockOf, Shown, Covered}
 use Rattle.table.proofs.Cells.{cells-lt}
 use Rattle.table.proofs.Count.{repeated}
-use Rattle.table.proofs.Halving.{upper, common, join, Best, IsBest, least-best, join-lt}
+use Rattle.table.proofs.Halving.{upper, common, join, IsBest, least-best}
 use Rattle.table.proofs.Ranks.{ShownPair, ShownTwice, lesser-shows}
 use Rattle.table.proofs.Masks.{least-low, least-high, least-common, least-repeated, pick-some}
 

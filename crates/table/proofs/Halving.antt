@@ -2,7 +2,7 @@
 use Prim.Native.Nat.{ℕ, zero, suc, _+_, _*_, _^_, _/_, _%_, _-_, _<_, _≤_, min}
 use mathlib.Core.Path.{_≡_, refl, sym, ap, subst, _∙_}
 use mathlib.Core.Logic.{_⊎_, inl, inr, ⊎-elim}
-use mathlib.Core.Bool.{Bool, true, false, cond, not, _&&_}
+use mathlib.Core.Bool.{cond, not, _&&_}
 use mathlib.Core.Option.{Option, none, some}
 use native.Mathlib.Omega.{arith}
 use native.Mathlib.Nat.{le-refl, le-antisymm, mul-le-mul-right, two-pow-succ, mod-add-div', add-comm}
@@ -15,7 +15,7 @@ use Rattle.table.specs.Cells.{low, high, cells}
 use Rattle.table.specs.Pick.{Proj, suits, least, leastOf}
 use Rattle.table.proofs.Bits.{all-at, all-intro, bit-zero}
 use Rattle.table.proofs.Cells.{low-lt, high-lt, low-bit, high-bit, cells-same, cells-differ, cells-most}
-use Rattle.table.proofs.Least.{Least, least-is, least-only}
+use Rattle.table.proofs.Least.{Least, least-is}
 
 -- the projection where the first input is 1, and what both halves have
 unfoldable pub upper : ℕ → Proj → Proj

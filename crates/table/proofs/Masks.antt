@@ -1,14 +1,14 @@
 -- The projection that two masks tell, by its halves.
-use Prim.Native.Nat.{ℕ, zero, suc, _+_, _*_, _^_, _<_, _≤_}
+use Prim.Native.Nat.{ℕ, suc, _+_, _*_, _^_, _<_, _≤_}
 use mathlib.Core.Path.{_≡_, refl, sym, ap, ap₂, subst, _∙_, fun-ext}
 use mathlib.Core.Logic.{_⊎_, inl, inr, ⊎-elim}
-use mathlib.Core.Bool.{Bool, true, false, cond, not, _&&_}
+use mathlib.Core.Bool.{Bool, true, false, cond, _&&_}
 use mathlib.Core.Option.{Option, none, some}
 use native.Mathlib.Omega.{arith}
 use lib.Bits.{bitAnd, and-self}
 use lib.Dec.{T, T-not, eqb}
-use Rattle.base.proofs.Tests.{cond-has, decide, eq-test, test-yes}
-use Rattle.table.specs.Bits.{bit, all, ofBits}
+use Rattle.base.proofs.Tests.{cond-has, eq-test}
+use Rattle.table.specs.Bits.{bit, ofBits}
 use Rattle.table.specs.Cells.{cells, low, high}
 use Rattle.table.specs.Pick.{Proj, suits, least, orZero, leastOf, masked, pickOf}
 use Rattle.table.specs.Blocks.{Covered}

@@ -1,18 +1,17 @@
 -- Ranks: a table and its cells as one number. The least number of three halves shows the least table of one input more.
-use Prim.Native.Nat.{ℕ, zero, suc, _+_, _*_, _^_, _-_, _<_, _≤_, min}
-use mathlib.Core.Path.{_≡_, refl, sym, ap, ap₂, subst, _∙_}
-use mathlib.Core.Logic.{_⊎_, inl, inr, ⊎-elim}
-use mathlib.Core.Bool.{Bool, true, false, cond, not}
+use Prim.Native.Nat.{ℕ, suc, _+_, _*_, _^_, _<_, _≤_, min}
+use mathlib.Core.Path.{_≡_, refl, sym, ap, ap₂, _∙_}
+use mathlib.Core.Logic.{⊎-elim}
 use mathlib.Core.Option.{Option, none, some}
 use native.Mathlib.Omega.{arith}
-use native.Mathlib.Nat.{mul-le-mul-right, le-refl, le-antisymm}
-use lib.Dec.{T, T-not, eqb, ltb, ltb→lt, nltb→le, eqb→eq}
+use native.Mathlib.Nat.{mul-le-mul-right, le-antisymm}
+use lib.Dec.{T-not, eqb, ltb, ltb→lt, nltb→le, eqb→eq}
 use Rattle.base.proofs.Tests.{cond-has, decide, eq-test}
-use Rattle.table.specs.Cells.{cells, low, high}
-use Rattle.table.specs.Pick.{Proj, suits, leastOf}
+use Rattle.table.specs.Cells.{cells}
+use Rattle.table.specs.Pick.{Proj, leastOf}
 use Rattle.table.specs.Blocks.{noTable, Shown}
 use Rattle.table.proofs.Cells.{cells-lt, cells-same, cells-differ}
-use Rattle.table.proofs.Halving.{upper, common, join, joins, closer, closest, closer-left, Best, IsBest, least-best, least-halves, join-low, join-high, join-lt, suits-common, common-suits}
+use Rattle.table.proofs.Halving.{upper, common, join, joins, closer, closest, Best, IsBest, least-best, least-halves, join-low, join-high, join-lt, suits-common, common-suits}
 
 -- the order of ranks is "fewest cells, then the smallest number"
 pub closer-rank : (key : ℕ → ℕ) (w s t : ℕ) → s < w → t < w → min (key s * w + s) (key t * w + t) ≡ key (closer key s t) * w + closer key s t

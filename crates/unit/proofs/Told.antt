@@ -12,7 +12,7 @@ use borrow.Author.Tests.{lt-ltb, le-ltb, ne-eqb}
 use Rattle.base.specs.Refusals.{refusalAt, empty}
 use Rattle.base.specs.Sizes.{sizesOut, maxInputs, maxWires}
 use Rattle.base.proofs.Lowest.{lowest-none}
-use Rattle.base.proofs.Tests.{decide, and-false, cond-has, test-yes, test-no}
+use Rattle.base.proofs.Tests.{decide, cond-has, test-yes, test-no}
 use Rattle.table.specs.Bits.{bit, any, ofBits}
 use Rattle.table.specs.Tree.{Tree, follow}
 use Rattle.table.proofs.Bits.{any-cong, ofBits-lt}
@@ -80,12 +80,6 @@ module _ (cs : List Command) (s : Sound cs) where
 
   pub set-told : (p v : ℕ) → p < 2 ^ inputsOf cs → v < 2 ^ wiresOf cs → relationOf (relationIn cs) p v ≡ unitRelation cs p v
   set-told p v l b = sets-told p v ∙ rw (lt-ltb p (2 ^ inputsOf cs) l, lt-ltb v (2 ^ wiresOf cs) b)
-
-  pub past-pattern : (p v : ℕ) → 2 ^ inputsOf cs ≤ p → relationOf (relationIn cs) p v ≡ false
-  past-pattern p v l = sets-told p v ∙ rw (le-ltb p (2 ^ inputsOf cs) l)
-
-  pub past-value : (p v : ℕ) → 2 ^ wiresOf cs ≤ v → relationOf (relationIn cs) p v ≡ false
-  past-value p v l = sets-told p v ∙ rw (past-values p v l) (and-false (ltb p (2 ^ inputsOf cs)))
 
   -- the same families of trees are compatible, and the same patterns are empty
   pub family-told : (x : ℕ → Tree) → Family (inputsOf cs) (wiresOf cs) (relationOf (relationIn cs)) x ↔ Family (inputsOf cs) (wiresOf cs) (unitRelation cs) x
