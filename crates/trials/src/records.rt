@@ -1,13 +1,16 @@
 // The input: records that follow each other with nothing between. Each begins with a kind byte; numbers of more than one byte come low byte first.
-// Inner functions: the main loop and the replies meet the bounds on places, which are there for the sums alone. What the numbers are is not proved here:
-// the program's output is compared with the solver's.
+// Proved: each number, part and length is the one that the bytes say.
+// Inner functions: the main loop and the replies meet the bounds on places, which are there for the sums alone.
 use base::byte_at;
+ghost use mathlib.Core.Path.{_≡_};
 ghost use Prim.Native.Nat.{_≤_};
 ghost use lib.ListN.{length};
+ghost use Rattle.trials.specs.Records.{fourAt, partOf, recordLength, twoAt};
 
 // The number of two bytes at a place; bytes past the end count as 0.
 pub fn u16_at(s: &[u8], at: usize) -> u16
     requires { ⌜ at ≤ 100000 ⌝ }
+    ensures { λ r. ⌜ r ≡ twoAt (now (s .entry)) at ⌝ }
 {
     let low = byte_at(s, at) as u16;
     let high = byte_at(s, at + 1) as u16;
@@ -17,6 +20,7 @@ pub fn u16_at(s: &[u8], at: usize) -> u16
 // The number of four bytes at a place.
 pub fn u32_at(s: &[u8], at: usize) -> u32
     requires { ⌜ at ≤ 90000 ⌝ }
+    ensures { λ r. ⌜ r ≡ fourAt (now (s .entry)) at ⌝ }
 {
     let low = u16_at(s, at) as u32;
     let high = u16_at(s, at + 2) as u32;
@@ -26,7 +30,7 @@ pub fn u32_at(s: &[u8], at: usize) -> u32
 // A length of two bytes at a place.
 pub fn length_at(s: &[u8], at: usize) -> usize
     requires { ⌜ at ≤ 90000 ⌝ }
-    ensures { λ r. ⌜ r ≤ 65535 ⌝ }
+    ensures { λ r. ⌜ (r ≡ twoAt (now (s .entry)) at) × (r ≤ 65535) ⌝ }
 {
     u16_at(s, at) as usize
 }
@@ -34,7 +38,7 @@ pub fn length_at(s: &[u8], at: usize) -> usize
 // `count` bytes from a place on, or none where the bytes end before.
 pub fn part(s: &[u8], from: usize, count: usize) -> &[u8]
     requires { ⌜ (from ≤ 1000000) × (count ≤ 65535) ⌝ }
-    ensures { λ r. ⌜ length (now r) ≤ 65535 ⌝ }
+    ensures { λ r. ⌜ (now r ≡ partOf (now (s .entry)) from count) × (length (now r) ≤ 65535) ⌝ }
 {
     let end = from + count;
     if end <= s.len() {
@@ -46,7 +50,7 @@ pub fn part(s: &[u8], from: usize, count: usize) -> &[u8]
 // The bytes of the record at a place. An unknown kind byte is a record by itself.
 pub fn record_length(s: &[u8], at: usize) -> usize
     requires { ⌜ at ≤ 65536 ⌝ }
-    ensures { λ r. ⌜ (1 ≤ r) × (r ≤ 140000) ⌝ }
+    ensures { λ r. ⌜ (r ≡ recordLength (now (s .entry)) at) × (1 ≤ r) × (r ≤ 140000) ⌝ }
 {
     let kind = byte_at(s, at);
     match kind {

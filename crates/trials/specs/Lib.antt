@@ -1,0 +1,2 @@
+-- What the input of the trials holds.
+pub mod Records
