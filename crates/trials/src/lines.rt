@@ -1,4 +1,5 @@
 // The parts of which the reply lines are made, put into a lent buffer at a place, each with the place after it.
+// Inner functions: the replies meet what they require, bounds on places and lengths that are there for the sums alone.
 use base::Refusal;
 use report::text::put_byte;
 use report::text::put_decimal;

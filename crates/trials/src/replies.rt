@@ -1,4 +1,5 @@
 // The reply to a record: the library is called on what it holds, and its answer put as text into a lent buffer at a place; the place after it is handed back.
+// Inner functions: the main loop meets what `put_reply` requires, and the functions here what the others do: bounds that are there for the sums alone.
 use crate::lines::FILL;
 use crate::lines::put_counts;
 use crate::lines::put_kept;

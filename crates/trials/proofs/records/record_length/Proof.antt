@@ -49,14 +49,14 @@ returns : tie.Need-returns
 unfolding recordLength
 returns c =
     let l = c .length-at .ensures in
-    (simp (← c .before .before .byte-at .ensures, c .before .match .keys1, ← l .0), omega arith, omega (arith, l .1))
+    (simp (← c .before .before .byte-at .ensures, c .before .match .keys1) (omega (arith, l .0)), omega arith, omega (arith, l .1))
 
 returns-2 : tie.Need-returns-2
 unfolding recordLength
 returns-2 c =
     let k = c .before .length-at2 .ensures in
     let l = c .length-at3 .ensures in
-    (simp (← c .before .before .before .byte-at .ensures, c .before .before .match .keys2, ← k .0, ← l .0), omega arith, omega (arith, k .1, l .1))
+    (simp (← c .before .before .before .byte-at .ensures, c .before .before .match .keys2) (omega (arith, k .0, l .0)), omega arith, omega (arith, k .1, l .1))
 
 returns-3 : tie.Need-returns-3
 unfolding recordLength
@@ -70,7 +70,7 @@ returns-5 : tie.Need-returns-5
 unfolding recordLength
 returns-5 c =
     let l = c .length-at4 .ensures in
-    (simp (← c .before .before .byte-at .ensures, c .before .match .keys5, ← l .0), omega arith, omega (arith, l .1))
+    (simp (← c .before .before .byte-at .ensures, c .before .match .keys5) (omega (arith, l .0)), omega arith, omega (arith, l .1))
 
 returns-6 : tie.Need-returns-6
 unfolding recordLength
