@@ -1,2 +1,3 @@
--- What the input of the trials holds.
+-- What the input of the trials holds, and what its replies are made of.
 pub mod Records
+pub mod Lines

@@ -1,6 +1,6 @@
 // A program for trials of the library: it reads records from standard input, calls the library on each, and prints the reply.
 // What it prints is compared with the replies of a solver that was written apart from the library, and is not proved here;
-// that the program is safe and ends is, and that the numbers, parts and lengths of a record are what its bytes say.
+// that the program is safe and ends is, that the numbers, parts and lengths of a record are what its bytes say, and what the parts of the reply lines put.
 use libc::STDIN_FILENO;
 use libc::STDOUT_FILENO;
 ghost use Prim.Native.Nat.{_≤_};

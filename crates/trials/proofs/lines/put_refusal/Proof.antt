@@ -1,0 +1,42 @@
+-- `lines::put_refusal` meets its contract: two numbers, each after its name.
+use native.Mathlib.Omega.{arith}
+use Rattle.report.proofs.Stores.{put-then}
+use borrow.Author.Needs.{needs}
+use Rattle.trials.proofs.lines.put_refusal.Statement.{statement}
+use Rattle.trials.proofs.lines.put_refusal.Tie as tie
+
+slice-aggregate-put-named : tie.Need-slice-aggregate-put-named
+slice-aggregate-put-named c = search needs
+
+cast-put-named : tie.Need-cast-put-named
+cast-put-named c = search needs
+
+put-named-requires : tie.Need-put-named-requires
+put-named-requires c κs = search needs
+
+slice-aggregate-put-named-2 : tie.Need-slice-aggregate-put-named-2
+slice-aggregate-put-named-2 c = search needs
+
+put-named-requires-2 : tie.Need-put-named-requires-2
+put-named-requires-2 c κs = search needs
+
+same-length : tie.Need-same-length
+same-length c = search needs
+
+returns : tie.Need-returns
+returns c =
+    let x = c .before .before .before .before .before .before .before .put-named .ensures in
+    let y = c .before .before .put-named2 .ensures in
+    (put-then (x .0) (y .0), omega (arith, x .1, y .1))
+
+pub put-refusal-spec : {M : Type 1} → statement M
+put-refusal-spec =
+    tie.close
+    (tie.spec
+    slice-aggregate-put-named
+    cast-put-named
+    put-named-requires
+    slice-aggregate-put-named-2
+    put-named-requires-2
+    same-length
+    returns)
