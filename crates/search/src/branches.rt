@@ -58,7 +58,8 @@ pub fn visit(
     }
 }
 
-// The part with wire j at 0 on pattern p, then the part with it at 1. A part that will be discarded is not visited.
+// The part with wire j at 0 on pattern p, then the part with it at 1. The picks of both are made before the first visit, while what they are made from is
+// at hand. A part that will be discarded is not visited.
 fn split(
     e: &[u16; 256],
     sets: &mut [u16; 16],
@@ -77,16 +78,23 @@ fn split(
 {
     let at = p as usize;
     let set = sets[at];
-    for b in 0..2u8 {
-        let part = with_bit(set, j, b);
-        sets[at] = part;
-        let w = cut_pairs(pairs, p, part);
-        let r = ranks_again(e, n, ranks, p, part, w);
-        let floor = floor_of(r);
-        if floor < tally[0] {
-            let from = first_change(ranks, r, p);
-            visit(e, sets, best, tally, n, m, w, r, floor, from, budget);
-        }
+    let zero = with_bit(set, j, 0);
+    let one = with_bit(set, j, 1);
+    let w0 = cut_pairs(pairs, p, zero);
+    let w1 = cut_pairs(pairs, p, one);
+    let r0 = ranks_again(e, n, ranks, p, zero, w0);
+    let r1 = ranks_again(e, n, ranks, p, one, w1);
+    let floor0 = floor_of(r0);
+    let floor1 = floor_of(r1);
+    if floor0 < tally[0] {
+        sets[at] = zero;
+        let from = first_change(ranks, r0, p);
+        visit(e, sets, best, tally, n, m, w0, r0, floor0, from, budget);
+    }
+    if floor1 < tally[0] {
+        sets[at] = one;
+        let from = first_change(ranks, r1, p);
+        visit(e, sets, best, tally, n, m, w1, r1, floor1, from, budget);
     }
     sets[at] = set;
 }

@@ -48,16 +48,6 @@ visit-at t = and 4 visit-kinds.ps (is 4 visit-kinds.ps μ-visit t) visit.Pre
 abbrev visit-below : ℕ → In 4 visit-kinds.ps
 visit-below t = and 4 visit-kinds.ps (falls 4 visit-kinds.ps _<_ μ-visit t) visit.Pre
 
-abbrev split-Inv-loop : split-lts.InvT-loop
-split-Inv-loop e sets₀ best₀ tally₀ n m pairs ranks p j budget at own b₀ sets best tally b =
-    (b ≤ 2)
-    × ((x : ℕ) → set sets p x ≡ set sets₀ p x)
-    × (stateOf best tally ≡ treated n m budget (ofSets sets₀) p j (stateOf best₀ tally₀) b)
-    × (length tally ≡ 3)
-
-abbrev split-μ-loop : split-lts.MeasureT-loop
-split-μ-loop e sets₀ best₀ tally₀ n m pairs ranks p j budget at set b₀ sets best tally b = 2 - b
-
 abbrev split-claims : ℕ → split-lts.Claims
 split-claims t = (
   with-bit-reads.Asked,
@@ -77,111 +67,178 @@ split-claims t = (
 abbrev visit-claims : ℕ → visit-lts.Claims
 visit-claims t = (tables-of-reads.Asked, tables-of-reads.Learnt, first-open-reads.Asked, first-open-reads.Learnt, split-below t, split.Post)
 
-split-mul-set : (t : ℕ) → split-lts.Need-mul-set (split-claims t) (split-at t) split.Post split-Inv-loop split-μ-loop
+split-mul-set : (t : ℕ) → split-lts.Need-mul-set (split-claims t) (split-at t) split.Post
 split-mul-set t c = omega arith
 
-split-element-copy-out-set : (t : ℕ) → split-lts.Need-element-copy-out-set (split-claims t) (split-at t) split.Post split-Inv-loop split-μ-loop
+split-element-copy-out-set : (t : ℕ) → split-lts.Need-element-copy-out-set (split-claims t) (split-at t) split.Post
 split-element-copy-out-set t c = let q = c .pre .1 in pattern-lt (q .1 .sized) (q .2)
 
-split-loop-holds : (t : ℕ) → split-lts.Need-loop-holds (split-claims t) (split-at t) split.Post split-Inv-loop split-μ-loop
-unfolding treated
-split-loop-holds t c = (omega arith, λ x. refl, refl, c .before .pre .1 .6)
+split-with-bit-requires : (t : ℕ) → split-lts.Need-with-bit-requires (split-claims t) (split-at t) split.Post
+split-with-bit-requires t c κs = let q = c .before .pre .1 in (omega (arith, q .3, q .1 .sized .wires), omega arith)
 
-split-with-bit-requires : (t : ℕ) → split-lts.Need-with-bit-requires (split-claims t) (split-at t) split.Post split-Inv-loop split-μ-loop
-split-with-bit-requires t c κs = let q = c .before .before .before .pre .1 in (omega (arith, q .3, q .1 .sized .wires), omega (arith, c .loop-test .taken))
+split-with-bit-requires-2 : (t : ℕ) → split-lts.Need-with-bit-requires-2 (split-claims t) (split-at t) split.Post
+split-with-bit-requires-2 t c κs = let q = c .before .before .pre .1 in (omega (arith, q .3, q .1 .sized .wires), omega arith)
 
-split-mul-sets : (t : ℕ) → split-lts.Need-mul-sets (split-claims t) (split-at t) split.Post split-Inv-loop split-μ-loop
-split-mul-sets t c = omega arith
+split-cut-pairs-requires : (t : ℕ) → split-lts.Need-cut-pairs-requires (split-claims t) (split-at t) split.Post
+split-cut-pairs-requires t c κs = let q = c .before .before .before .pre .1 in pattern-lt (q .1 .sized) (q .2)
 
-split-element-write-sets : (t : ℕ) → split-lts.Need-element-write-sets (split-claims t) (split-at t) split.Post split-Inv-loop split-μ-loop
-split-element-write-sets t c = let q = c .before .before .before .before .pre .1 in pattern-lt (q .1 .sized) (q .2)
+split-cut-pairs-requires-2 : (t : ℕ) → split-lts.Need-cut-pairs-requires-2 (split-claims t) (split-at t) split.Post
+split-cut-pairs-requires-2 t c κs = let q = c .before .before .before .before .pre .1 in pattern-lt (q .1 .sized) (q .2)
 
-split-cut-pairs-requires : (t : ℕ) → split-lts.Need-cut-pairs-requires (split-claims t) (split-at t) split.Post split-Inv-loop split-μ-loop
-split-cut-pairs-requires t c κs = let q = c .before .before .before .before .pre .1 in pattern-lt (q .1 .sized) (q .2)
-
-split-ranks-again-requires : (t : ℕ) → split-lts.Need-ranks-again-requires (split-claims t) (split-at t) split.Post split-Inv-loop split-μ-loop
+split-ranks-again-requires : (t : ℕ) → split-lts.Need-ranks-again-requires (split-claims t) (split-at t) split.Post
 split-ranks-again-requires t c κs =
     let a = c .before .before .before .before .before .args in
     let q = c .before .before .before .before .before .pre .1 in
-    let l = c .before .before .before .loop in
-    let w = c .before .with-bit in
+    let w = c .before .before .before .with-bit in
     let S = a .sets .now in
-    let N = set (l .sets) (a .p) (w .result) in
-    let lb = c .before .before .loop-test .taken in
-    (q .0, q .1 .sized .one, q .1 .sized .inputs, pattern-lt (q .1 .sized) (q .2), next-cover (a .n) (a .m) S (a .pairs) (a .ranks) (q .1) (a .p) (a .j) (q .2) (q .3) (q .4) (l .b) lb (w .result) (w .ensures) N (l .inv .1 (w .result)) (c .cut-pairs .ensures))
+    let N = set S (a .p) (w .result) in
+    let eN : N ≡ set S (a .p) (w .result) = refl in
+    (q .0, q .1 .sized .one, q .1 .sized .inputs, pattern-lt (q .1 .sized) (q .2), next-cover (a .n) (a .m) S (a .pairs) (a .ranks) (q .1) (a .p) (a .j) (q .2) (q .3) (q .4) 0 (omega arith) (w .result) (w .ensures) N eN (c .before .cut-pairs .ensures))
 
-split-floor-of-requires : (t : ℕ) → split-lts.Need-floor-of-requires (split-claims t) (split-at t) split.Post split-Inv-loop split-μ-loop
+split-ranks-again-requires-2 : (t : ℕ) → split-lts.Need-ranks-again-requires-2 (split-claims t) (split-at t) split.Post
+split-ranks-again-requires-2 t c κs =
+    let a = c .before .before .before .before .before .before .args in
+    let q = c .before .before .before .before .before .before .pre .1 in
+    let w = c .before .before .before .with-bit2 in
+    let S = a .sets .now in
+    let N = set S (a .p) (w .result) in
+    let eN : N ≡ set S (a .p) (w .result) = refl in
+    (q .0, q .1 .sized .one, q .1 .sized .inputs, pattern-lt (q .1 .sized) (q .2), next-cover (a .n) (a .m) S (a .pairs) (a .ranks) (q .1) (a .p) (a .j) (q .2) (q .3) (q .4) 1 (omega arith) (w .result) (w .ensures) N eN (c .before .cut-pairs2 .ensures))
+
+split-floor-of-requires : (t : ℕ) → split-lts.Need-floor-of-requires (split-claims t) (split-at t) split.Post
 split-floor-of-requires t c κs = search needs
 
-split-element-copy-out-if1 : (t : ℕ) → split-lts.Need-element-copy-out-if1 (split-claims t) (split-at t) split.Post split-Inv-loop split-μ-loop
+split-floor-of-requires-2 : (t : ℕ) → split-lts.Need-floor-of-requires-2 (split-claims t) (split-at t) split.Post
+split-floor-of-requires-2 t c κs = search needs
+
+split-element-copy-out-if1 : (t : ℕ) → split-lts.Need-element-copy-out-if1 (split-claims t) (split-at t) split.Post
 split-element-copy-out-if1 t c = search needs
 
-split-first-change-requires : (t : ℕ) → split-lts.Need-first-change-requires (split-claims t) (split-at t) split.Post split-Inv-loop split-μ-loop
-split-first-change-requires t c κs = let q = c .before .before .before .before .before .before .before .before .before .pre .1 in pattern-lt (q .1 .sized) (q .2)
+split-mul-sets : (t : ℕ) → split-lts.Need-mul-sets (split-claims t) (split-at t) split.Post
+split-mul-sets t c = omega arith
 
-split-visit-requires : (t : ℕ) → split-lts.Need-visit-requires (split-claims t) (split-at t) split.Post split-Inv-loop split-μ-loop
+split-element-write-sets : (t : ℕ) → split-lts.Need-element-write-sets (split-claims t) (split-at t) split.Post
+split-element-write-sets t c = let q = c .before .before .before .before .before .before .before .before .before .before .before .pre .1 in pattern-lt (q .1 .sized) (q .2)
+
+split-first-change-requires : (t : ℕ) → split-lts.Need-first-change-requires (split-claims t) (split-at t) split.Post
+split-first-change-requires t c κs = let q = c .before .before .before .before .before .before .before .before .before .before .before .pre .1 in pattern-lt (q .1 .sized) (q .2)
+
+split-visit-requires : (t : ℕ) → split-lts.Need-visit-requires (split-claims t) (split-at t) split.Post
 split-visit-requires t c κs =
-    let a = c .before .before .before .before .before .before .before .before .before .before .before .before .before .args in
-    let q = c .before .before .before .before .before .before .before .before .before .before .before .before .before .pre .1 in
-    let l = c .before .before .before .before .before .before .before .before .before .before .before .loop in
-    let w = c .before .before .before .before .before .before .before .before .before .with-bit in
+    let a = c .before .before .before .before .before .before .before .before .before .before .before .before .before .before .before .args in
+    let q = c .before .before .before .before .before .before .before .before .before .before .before .before .before .before .before .pre .1 in
+    let w = c .before .before .before .before .before .before .before .before .before .before .before .before .before .with-bit in
     let S = a .sets .now in
-    let N = set (l .sets) (a .p) (w .result) in
-    let lb = c .before .before .before .before .before .before .before .before .before .before .loop-test .taken in
-    let ex = c .before .before .before .before .before .before .before .before .cut-pairs .ensures in
-    let er = c .before .before .before .before .before .before .before .ranks-again .ensures in
+    let N = set S (a .p) (w .result) in
+    let eN : N ≡ set S (a .p) (w .result) = refl in
+    let ex = c .before .before .before .before .before .before .before .before .before .before .before .cut-pairs .ensures in
+    let r = c .before .before .before .before .before .before .before .before .before .ranks-again in
     let f = c .before .before .before .first-change in
-    let fewer = next-pairs (a .n) (a .m) S (a .pairs) (a .ranks) (q .1) (a .p) (a .j) (q .2) (q .3) (q .4) (l .b) lb (w .result) (w .ensures) N (l .inv .1 (w .result)) in (
-      omega (arith, fewer, c .before .before .before .before .before .before .before .before .before .before .before .before .before .pre .0),
-      (q .0, next-held (a .n) (a .m) S (a .pairs) (a .ranks) (q .1) (a .p) (a .j) (q .2) (q .3) (q .4) (l .b) lb (w .result) (w .ensures) N (l .inv .1 (w .result)) ex er, c .before .before .before .before .before .before .floor-of .ensures, omega (arith, f .ensures .0, q .2), next-settled (a .n) (a .m) S (a .pairs) (a .ranks) (q .1) (a .p) (a .j) (q .2) (q .3) (q .4) (l .b) lb (w .result) (w .ensures) N (l .inv .1 (w .result)) (q .5) (c .before .before .before .before .before .before .before .ranks-again .result) (f .result) (f .ensures .0) (f .ensures .1), l .inv .3),
+    let fewer = next-pairs (a .n) (a .m) S (a .pairs) (a .ranks) (q .1) (a .p) (a .j) (q .2) (q .3) (q .4) 0 (omega arith) (w .result) (w .ensures) N eN in (
+      omega (arith, fewer, c .before .before .before .before .before .before .before .before .before .before .before .before .before .before .before .pre .0),
+      (q .0, next-held (a .n) (a .m) S (a .pairs) (a .ranks) (q .1) (a .p) (a .j) (q .2) (q .3) (q .4) 0 (omega arith) (w .result) (w .ensures) N eN ex (r .ensures), c .before .before .before .before .before .before .before .floor-of .ensures, omega (arith, f .ensures .0, q .2), next-settled (a .n) (a .m) S (a .pairs) (a .ranks) (q .1) (a .p) (a .j) (q .2) (q .3) (q .4) 0 (omega arith) (w .result) (w .ensures) N eN (q .5) (r .result) (f .result) (f .ensures .0) (f .ensures .1), q .6),
     )
 
-split-add-b : (t : ℕ) → split-lts.Need-add-b (split-claims t) (split-at t) split.Post split-Inv-loop split-μ-loop
-split-add-b t c = omega arith
-
-split-loop-less : (t : ℕ) → split-lts.Need-loop-less (split-claims t) (split-at t) split.Post split-Inv-loop split-μ-loop
-split-loop-less t c = omega (arith, c .before .before .before .before .before .before .loop-test .taken)
-
-split-loop-again : (t : ℕ) → split-lts.Need-loop-again (split-claims t) (split-at t) split.Post split-Inv-loop split-μ-loop
-split-loop-again t c =
-    let a = c .before .before .before .before .before .before .before .before .before .args in
-    let q = c .before .before .before .before .before .before .before .before .before .pre .1 in
-    let l = c .before .before .before .before .before .before .before .loop in
-    let w = c .before .before .before .before .before .with-bit in
+-- once the first part is treated
+split-first : (t : ℕ) (c : split-lts.Joined1 (split-claims t) (split-at t) split.Post)
+    → ((x : ℕ) → set (c .if1 .sets) (c .before .before .before .before .before .before .before .before .before .before .before .args .p) x ≡ set (c .before .before .before .before .before .before .before .before .before .before .before .args .sets .now) (c .before .before .before .before .before .before .before .before .before .before .before .args .p) x)
+    × (stateOf (c .if1 .best) (c .if1 .tally) ≡ treated (c .before .before .before .before .before .before .before .before .before .before .before .args .n) (c .before .before .before .before .before .before .before .before .before .before .before .args .m) (c .before .before .before .before .before .before .before .before .before .before .before .args .budget) (ofSets (c .before .before .before .before .before .before .before .before .before .before .before .args .sets .now)) (c .before .before .before .before .before .before .before .before .before .before .before .args .p) (c .before .before .before .before .before .before .before .before .before .before .before .args .j) (stateOf (c .before .before .before .before .before .before .before .before .before .before .before .args .best .now) (c .before .before .before .before .before .before .before .before .before .before .before .args .tally .now)) 1)
+    × (length (c .if1 .tally) ≡ 3)
+unfolding treated
+split-first t c =
+    let a = c .before .before .before .before .before .before .before .before .before .before .before .args in
+    let q = c .before .before .before .before .before .before .before .before .before .before .before .pre .1 in
+    let w = c .before .before .before .before .before .before .before .before .before .with-bit in
     let S = a .sets .now in
-    let N = set (l .sets) (a .p) (w .result) in
-    let lb = c .before .before .before .before .before .before .loop-test .taken in
     let i = c .if1 in
-    let s = stateOf (l .best) (l .tally) in
     let s₀ = stateOf (a .best .now) (a .tally .now) in
-    let ex = c .before .before .before .before .cut-pairs .ensures in
-    let er = c .before .before .before .ranks-again .ensures in
-    let held = next-held (a .n) (a .m) S (a .pairs) (a .ranks) (q .1) (a .p) (a .j) (q .2) (q .3) (q .4) (l .b) lb (w .result) (w .ensures) N (l .inv .1 (w .result)) ex er in
+    let N = set S (a .p) (w .result) in
+    let eN : N ≡ set S (a .p) (w .result) = refl in
+    let s = s₀ in
+    let before : s ≡ treated (a .n) (a .m) (a .budget) (ofSets S) (a .p) (a .j) s₀ 0 = refl in
+    let held = next-held (a .n) (a .m) S (a .pairs) (a .ranks) (q .1) (a .p) (a .j) (q .2) (q .3) (q .4) 0 (omega arith) (w .result) (w .ensures) N eN (c .before .before .before .before .before .before .before .cut-pairs .ensures) (c .before .before .before .before .before .ranks-again .ensures) in
     ⊎-elim
     (λ v.
     let st : stateOf (i .best) (i .tally) ≡ searchPart (tree (a .n) (a .m)) (a .budget) (ofSets N) s = ap₂ stateOf (v .7) (v .8) ∙ v .5 .ensures .1 in
-    (omega arith, next-same (a .n) (a .m) S (a .pairs) (a .ranks) (q .1) (a .p) (a .j) (q .2) (q .3) (q .4) (l .b) lb (w .result) (w .ensures) N (l .inv .1 (w .result)) (v .6 ∙ v .5 .ensures .0), next-treated (a .n) (a .m) S (a .pairs) (a .ranks) (q .1) (a .p) (a .j) (q .2) (q .3) (q .4) (l .b) lb (w .result) (w .ensures) N (l .inv .1 (w .result)) (a .budget) s (stateOf (i .best) (i .tally)) s₀ (l .inv .2) st, ap length (v .8) ∙ v .5 .ensures .2))
+    (next-same (a .n) (a .m) S (a .pairs) (a .ranks) (q .1) (a .p) (a .j) (q .2) (q .3) (q .4) 0 (omega arith) (w .result) (w .ensures) N eN (v .6 ∙ v .5 .ensures .0), next-treated (a .n) (a .m) S (a .pairs) (a .ranks) (q .1) (a .p) (a .j) (q .2) (q .3) (q .4) 0 (omega arith) (w .result) (w .ensures) N eN (a .budget) s (stateOf (i .best) (i .tally)) s₀ before st, ap length (v .8) ∙ v .5 .ensures .2))
     (λ v.
-    let st : stateOf (i .best) (i .tally) ≡ searchPart (tree (a .n) (a .m)) (a .budget) (ofSets N) s = ap₂ stateOf (v .2) (v .3)
-    ∙ next-discards (a .n) (a .m) S (a .pairs) (a .ranks) (q .1) (a .p) (a .j) (q .2) (q .3) (q .4) (l .b) lb (w .result) (w .ensures) N (l .inv .1 (w .result)) (a .budget) held (c .before .before .floor-of .ensures) s (v .0 .left) in
-    (omega arith, next-same (a .n) (a .m) S (a .pairs) (a .ranks) (q .1) (a .p) (a .j) (q .2) (q .3) (q .4) (l .b) lb (w .result) (w .ensures) N (l .inv .1 (w .result)) (v .1), next-treated (a .n) (a .m) S (a .pairs) (a .ranks) (q .1) (a .p) (a .j) (q .2) (q .3) (q .4) (l .b) lb (w .result) (w .ensures) N (l .inv .1 (w .result)) (a .budget) s (stateOf (i .best) (i .tally)) s₀ (l .inv .2) st, ap length (v .3) ∙ l .inv .3))
+    let st : stateOf (i .best) (i .tally) ≡ searchPart (tree (a .n) (a .m)) (a .budget) (ofSets N) s =
+    ap₂ stateOf (v .2) (v .3) ∙ next-discards (a .n) (a .m) S (a .pairs) (a .ranks) (q .1) (a .p) (a .j) (q .2) (q .3) (q .4) 0 (omega arith) (w .result) (w .ensures) N eN (a .budget) held (c .before .before .before .floor-of .ensures) s (v .0 .left) in
+    (λ x. ap (λ l. set l (a .p) x) (v .1), next-treated (a .n) (a .m) S (a .pairs) (a .ranks) (q .1) (a .p) (a .j) (q .2) (q .3) (q .4) 0 (omega arith) (w .result) (w .ensures) N eN (a .budget) s (stateOf (i .best) (i .tally)) s₀ before st, ap length (v .3) ∙ q .6))
     (i .came)
 
-split-mul-sets-2 : (t : ℕ) → split-lts.Need-mul-sets-2 (split-claims t) (split-at t) split.Post split-Inv-loop split-μ-loop
+split-element-copy-out-if2 : (t : ℕ) → split-lts.Need-element-copy-out-if2 (split-claims t) (split-at t) split.Post
+split-element-copy-out-if2 t c = search needs
+
+split-mul-sets-2 : (t : ℕ) → split-lts.Need-mul-sets-2 (split-claims t) (split-at t) split.Post
 split-mul-sets-2 t c = omega arith
 
-split-element-write-sets-2 : (t : ℕ) → split-lts.Need-element-write-sets-2 (split-claims t) (split-at t) split.Post split-Inv-loop split-μ-loop
-split-element-write-sets-2 t c = let q = c .before .before .before .pre .1 in pattern-lt (q .1 .sized) (q .2)
+split-element-write-sets-2 : (t : ℕ) → split-lts.Need-element-write-sets-2 (split-claims t) (split-at t) split.Post
+split-element-write-sets-2 t c = let q = c .before .before .before .before .before .before .before .before .before .before .before .before .before .pre .1 in pattern-lt (q .1 .sized) (q .2)
 
-split-returns : (t : ℕ) → split-lts.Need-returns (split-claims t) (split-at t) split.Post split-Inv-loop split-μ-loop
+split-first-change-requires-2 : (t : ℕ) → split-lts.Need-first-change-requires-2 (split-claims t) (split-at t) split.Post
+split-first-change-requires-2 t c κs = let q = c .before .before .before .before .before .before .before .before .before .before .before .before .before .pre .1 in pattern-lt (q .1 .sized) (q .2)
+
+split-visit-requires-2 : (t : ℕ) → split-lts.Need-visit-requires-2 (split-claims t) (split-at t) split.Post
+split-visit-requires-2 t c κs =
+    let a = c .before .before .before .before .before .before .before .before .before .before .before .before .before .before .before .before .before .args in
+    let q = c .before .before .before .before .before .before .before .before .before .before .before .before .before .before .before .before .before .pre .1 in
+    let w = c .before .before .before .before .before .before .before .before .before .before .before .before .before .before .with-bit2 in
+    let S = a .sets .now in
+    let first = split-first t (c .before .before .before .before .before .before) in
+    let N = set (c .before .before .before .before .before .before .if1 .sets) (a .p) (w .result) in
+    let eN = first .0 (w .result) in
+    let ex = c .before .before .before .before .before .before .before .before .before .before .before .before .cut-pairs2 .ensures in
+    let r = c .before .before .before .before .before .before .before .before .before .before .ranks-again2 in
+    let f = c .before .before .before .first-change2 in
+    let fewer = next-pairs (a .n) (a .m) S (a .pairs) (a .ranks) (q .1) (a .p) (a .j) (q .2) (q .3) (q .4) 1 (omega arith) (w .result) (w .ensures) N eN in (
+      omega (arith, fewer, c .before .before .before .before .before .before .before .before .before .before .before .before .before .before .before .before .before .pre .0),
+      (q .0, next-held (a .n) (a .m) S (a .pairs) (a .ranks) (q .1) (a .p) (a .j) (q .2) (q .3) (q .4) 1 (omega arith) (w .result) (w .ensures) N eN ex (r .ensures), c .before .before .before .before .before .before .before .before .floor-of2 .ensures, omega (arith, f .ensures .0, q .2), next-settled (a .n) (a .m) S (a .pairs) (a .ranks) (q .1) (a .p) (a .j) (q .2) (q .3) (q .4) 1 (omega arith) (w .result) (w .ensures) N eN (q .5) (r .result) (f .result) (f .ensures .0) (f .ensures .1), first .2),
+    )
+
+-- and once the second is
+split-second : (t : ℕ) (c : split-lts.Joined2 (split-claims t) (split-at t) split.Post)
+    → ((x : ℕ) → set (c .if2 .sets) (c .before .before .before .before .before .before .before .before .before .before .before .before .before .args .p) x ≡ set (c .before .before .before .before .before .before .before .before .before .before .before .before .before .args .sets .now) (c .before .before .before .before .before .before .before .before .before .before .before .before .before .args .p) x)
+    × (stateOf (c .if2 .best) (c .if2 .tally) ≡ treated (c .before .before .before .before .before .before .before .before .before .before .before .before .before .args .n) (c .before .before .before .before .before .before .before .before .before .before .before .before .before .args .m) (c .before .before .before .before .before .before .before .before .before .before .before .before .before .args .budget) (ofSets (c .before .before .before .before .before .before .before .before .before .before .before .before .before .args .sets .now)) (c .before .before .before .before .before .before .before .before .before .before .before .before .before .args .p) (c .before .before .before .before .before .before .before .before .before .before .before .before .before .args .j) (stateOf (c .before .before .before .before .before .before .before .before .before .before .before .before .before .args .best .now) (c .before .before .before .before .before .before .before .before .before .before .before .before .before .args .tally .now)) 2)
+    × (length (c .if2 .tally) ≡ 3)
+unfolding treated
+split-second t c =
+    let a = c .before .before .before .before .before .before .before .before .before .before .before .before .before .args in
+    let q = c .before .before .before .before .before .before .before .before .before .before .before .before .before .pre .1 in
+    let w = c .before .before .before .before .before .before .before .before .before .before .with-bit2 in
+    let S = a .sets .now in
+    let i = c .if2 in
+    let s₀ = stateOf (a .best .now) (a .tally .now) in
+    let first = split-first t (c .before .before) in
+    let l = c .before .before .if1 in
+    let N = set (l .sets) (a .p) (w .result) in
+    let eN = first .0 (w .result) in
+    let s = stateOf (l .best) (l .tally) in
+    let before = first .1 in
+    let held = next-held (a .n) (a .m) S (a .pairs) (a .ranks) (q .1) (a .p) (a .j) (q .2) (q .3) (q .4) 1 (omega arith) (w .result) (w .ensures) N eN (c .before .before .before .before .before .before .before .before .cut-pairs2 .ensures) (c .before .before .before .before .before .before .ranks-again2 .ensures) in
+    ⊎-elim
+    (λ v.
+    let st : stateOf (i .best) (i .tally) ≡ searchPart (tree (a .n) (a .m)) (a .budget) (ofSets N) s = ap₂ stateOf (v .7) (v .8) ∙ v .5 .ensures .1 in
+    (next-same (a .n) (a .m) S (a .pairs) (a .ranks) (q .1) (a .p) (a .j) (q .2) (q .3) (q .4) 1 (omega arith) (w .result) (w .ensures) N eN (v .6 ∙ v .5 .ensures .0), next-treated (a .n) (a .m) S (a .pairs) (a .ranks) (q .1) (a .p) (a .j) (q .2) (q .3) (q .4) 1 (omega arith) (w .result) (w .ensures) N eN (a .budget) s (stateOf (i .best) (i .tally)) s₀ before st, ap length (v .8) ∙ v .5 .ensures .2))
+    (λ v.
+    let st : stateOf (i .best) (i .tally) ≡ searchPart (tree (a .n) (a .m)) (a .budget) (ofSets N) s =
+    ap₂ stateOf (v .2) (v .3) ∙ next-discards (a .n) (a .m) S (a .pairs) (a .ranks) (q .1) (a .p) (a .j) (q .2) (q .3) (q .4) 1 (omega arith) (w .result) (w .ensures) N eN (a .budget) held (c .before .before .before .before .floor-of2 .ensures) s (v .0 .left) in
+    (λ x. ap (λ l. set l (a .p) x) (v .1) ∙ first .0 x, next-treated (a .n) (a .m) S (a .pairs) (a .ranks) (q .1) (a .p) (a .j) (q .2) (q .3) (q .4) 1 (omega arith) (w .result) (w .ensures) N eN (a .budget) s (stateOf (i .best) (i .tally)) s₀ before st, ap length (v .3) ∙ first .2))
+    (i .came)
+
+split-mul-sets-3 : (t : ℕ) → split-lts.Need-mul-sets-3 (split-claims t) (split-at t) split.Post
+split-mul-sets-3 t c = omega arith
+
+split-element-write-sets-3 : (t : ℕ) → split-lts.Need-element-write-sets-3 (split-claims t) (split-at t) split.Post
+split-element-write-sets-3 t c = let q = c .before .before .before .before .before .before .before .before .before .before .before .before .before .pre .1 in pattern-lt (q .1 .sized) (q .2)
+
+split-returns : (t : ℕ) → split-lts.Need-returns (split-claims t) (split-at t) split.Post
 split-returns t c =
-    let a = c .before .before .before .args in
-    let l = c .before .loop in
-    let two : l .b ≡ 2 = omega (arith, l .inv .0, c .loop-test .left) in (
-      l .inv .1 (getD (a .sets .now) (a .p) 0) ∙ set-getD (a .sets .now) (a .p) 0,
-      l .inv .2 ∙ ap (treated (a .n) (a .m) (a .budget) (ofSets (a .sets .now)) (a .p) (a .j) (stateOf (a .best .now) (a .tally .now))) two
-          ∙ treated-both (a .n) (a .m) (a .budget) (ofSets (a .sets .now)) (a .p) (a .j) (stateOf (a .best .now) (a .tally .now)),
-      l .inv .3,
+    let a = c .before .before .before .before .before .before .before .before .before .before .before .before .before .args in
+    let second = split-second t c in (
+      second .0 (getD (a .sets .now) (a .p) 0) ∙ set-getD (a .sets .now) (a .p) 0,
+      second .1 ∙ treated-both (a .n) (a .m) (a .budget) (ofSets (a .sets .now)) (a .p) (a .j) (stateOf (a .best .now) (a .tally .now)),
+      second .2,
     )
 
 visit-element-copy-out-if1 : (t : ℕ) → visit-lts.Need-element-copy-out-if1 (visit-claims t) (visit-at t) visit.Post
@@ -280,25 +337,28 @@ pub +split+visit-spec : {M : Type 1} → statement M
 +split+visit-spec = close μ-split μ-visit (λ t. split-lts.spec (split-claims t)
     (split-at t)
     split.Post
-    split-Inv-loop
-    split-μ-loop
     (split-mul-set t)
     (split-element-copy-out-set t)
-    (split-loop-holds t)
     (split-with-bit-requires t)
+    (split-with-bit-requires-2 t)
+    (split-cut-pairs-requires t)
+    (split-cut-pairs-requires-2 t)
+    (split-ranks-again-requires t)
+    (split-ranks-again-requires-2 t)
+    (split-floor-of-requires t)
+    (split-floor-of-requires-2 t)
+    (split-element-copy-out-if1 t)
     (split-mul-sets t)
     (split-element-write-sets t)
-    (split-cut-pairs-requires t)
-    (split-ranks-again-requires t)
-    (split-floor-of-requires t)
-    (split-element-copy-out-if1 t)
     (split-first-change-requires t)
     (split-visit-requires t)
-    (split-add-b t)
-    (split-loop-less t)
-    (split-loop-again t)
+    (split-element-copy-out-if2 t)
     (split-mul-sets-2 t)
     (split-element-write-sets-2 t)
+    (split-first-change-requires-2 t)
+    (split-visit-requires-2 t)
+    (split-mul-sets-3 t)
+    (split-element-write-sets-3 t)
     (split-returns t))
     λ t. visit-lts.spec (visit-claims t)
     (visit-at t)
