@@ -59,7 +59,7 @@ pub fn visit(
 }
 
 // The part with wire j at 0 on pattern p, then the part with it at 1. The picks of both are made before the first visit, while what they are made from is
-// at hand. A part that will be discarded is not visited.
+// at hand; w and r are a part's pairs and ranks. A part that will be discarded is not visited.
 fn split(
     e: &[u16; 256],
     sets: &mut [u16; 16],

@@ -1,4 +1,4 @@
-use mathlib.Core.Path.{refl}
+use mathlib.Core.Path.{_≡_, refl}
 use native.Mathlib.Omega.{arith}
 use borrow.Author.Tests.{eq-eqb, ne-eqb}
 use Rattle.relation.specs.Tests.{ofSets}
@@ -45,27 +45,31 @@ array-read-visits c = search needs
 array-read-if1 : tie.Need-array-read-if1
 array-read-if1 c = search needs
 
+-- the state that the cycle leaves is the run's
+at-end : (c : tie.After-visit)
+    → stateOf (c .visit .last .1 .1 .0) (c .visit .last .1 .1 .1 .0) ≡ run (tree (c .before .before .before .before .before .before .before .before .before .before .before .before .before .before .args .n) (c .before .before .before .before .before .before .before .before .before .before .before .before .before .before .args .m)) (c .before .before .before .before .before .before .before .before .before .before .before .before .before .before .args .budget) (ofSets (c .before .before .before .before .before .before .before .before .before .before .before .before .before .before .args .sets))
+at-end c =
+    let a = c .before .before .before .before .before .before .before .before .before .before .before .before .before .before .args in
+    let st = c .before .before .before .before .before .before .before .before .quick in
+    let v = c .visit in
+    ran (a .n) (a .m) (a .budget) (ofSets (a .sets)) (st .result) (stateOf (v .last .1 .1 .0) (v .last .1 .1 .1 .0)) (st .ensures) (v .ensures .1)
+
 returns : tie.Need-returns
 returns c =
     let a = c .before .before .before .before .before .before .before .before .before .before .before .before .before .before .before .args in
     let w = c .before .before .before .before .before .before .before .before .before .before .before .before .whole in
-    let st = c .before .before .before .before .before .before .before .before .before .quick in
     let v = c .before .visit in
     let R = ofSets (a .sets) in
-    let s = stateOf (v .last .1 .1 .0) (v .last .1 .1 .1 .0) in
-    let e = ran (a .n) (a .m) (a .budget) R (st .result) s (st .ensures) (v .ensures .1) in
-    let f = floor-is (held-whole (w .result) (w .ensures .0) (w .ensures .1) (w .ensures .2) (w .ensures .3)) (c .before .before .before .before .before .before .before .floor-of .ensures) in
-    stopped-answer (a .n) (a .m) R s (run (tree (a .n) (a .m)) (a .budget) R) (c .before .before .before .before .before .before .before .floor-of .result) e (eq-eqb _ _ (c .if1 .taken)) f
+    let f = c .before .before .before .before .before .before .before .floor-of in
+    stopped-answer (a .n) (a .m) R (stateOf (v .last .1 .1 .0) (v .last .1 .1 .1 .0)) (run (tree (a .n) (a .m)) (a .budget) R) (f .result) (at-end (c .before)) (eq-eqb _ _ (c .if1 .taken))
+    (floor-is (held-whole (w .result) (w .ensures .0) (w .ensures .1) (w .ensures .2) (w .ensures .3)) (f .ensures))
 
 returns-2 : tie.Need-returns-2
 returns-2 c =
     let a = c .before .before .before .before .before .before .before .before .before .before .before .before .before .before .before .args in
-    let st = c .before .before .before .before .before .before .before .before .before .quick in
     let v = c .before .visit in
     let R = ofSets (a .sets) in
-    let s = stateOf (v .last .1 .1 .0) (v .last .1 .1 .1 .0) in
-    let e = ran (a .n) (a .m) (a .budget) R (st .result) s (st .ensures) (v .ensures .1) in
-    best-answer (a .n) (a .m) R s (run (tree (a .n) (a .m)) (a .budget) R) e (ne-eqb _ _ (c .if1 .left))
+    best-answer (a .n) (a .m) R (stateOf (v .last .1 .1 .0) (v .last .1 .1 .1 .0)) (run (tree (a .n) (a .m)) (a .budget) R) (at-end (c .before)) (ne-eqb _ _ (c .if1 .left))
 
 pub search-sets-spec : {M : Type 1} → statement M
 search-sets-spec =
