@@ -196,7 +196,7 @@ impl Sheet {
         self
     }
 
-    // One command more, whose first byte is at a place: 6, 7, 8 or taken.
+    // One command more, whose first byte is at a place: 6, 7, 8 or taken. The reader has tested the command's pattern.
     pub(crate) fn add(self, c: Command, at: usize) -> Reply
         requires { ⌜ patternOf c < maxPatterns ⌝ }
         ensures { λ r. ⌜ Adds self c at r ⌝ }

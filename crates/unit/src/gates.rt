@@ -65,7 +65,7 @@ fn signals_on(sheet: Sheet, v: u8) -> [u8; MAX_SIGNALS]
     signals
 }
 
-// The outputs for a wire value as one number, so that two values are alike where the numbers are equal.
+// The outputs for a wire value as one number, so that two values are alike where the numbers are equal. `form` has the sheet from its reader.
 pub(crate) fn outputs_on(sheet: Sheet, v: u8) -> u8
     requires { ⌜ Held sheet ⌝ }
     ensures { λ r. ⌜ ((h : Held sheet) → r ≡ codeOf (h .commands) v) ⌝ }

@@ -55,7 +55,7 @@ fn set_on(sheet: Sheet, codes: [u8; MAX_VALUES], p: u8) -> u16
     allowed & alike(codes, codes[present])
 }
 
-// The relation, with empty sets past the last pattern.
+// The relation, with empty sets past the last pattern. `form` has the sheet from its reader.
 pub(crate) fn relation_of(sheet: Sheet) -> Relation
     requires { ⌜ Held sheet ⌝ }
     ensures { λ r. ⌜ ((h : Held sheet) → r ≡ relationIn (h .commands)) ⌝ }
