@@ -1,9 +1,10 @@
 -- Laws of sets as numbers: the relation that a list of sets tells under what the code does to the numbers.
+use Rattle.relation.proofs.Splits.{occurs-part}
 use mathlib.Core.Path.{_≡_, refl, sym, ap, ap₂, subst, _∙_, fun-ext}
 use mathlib.Core.Logic.{⊎-elim}
-use mathlib.Core.Bool.{Bool, cond, not, _&&_, _||_}
+use mathlib.Core.Bool.{Bool, cond, not, _&&_, _||_, true, false}
 use mathlib.Core.List.{List}
-use Prim.Native.Nat.{ℕ, zero, suc, _+_, _^_, _<_, _≤_}
+use Prim.Native.Nat.{ℕ, zero, suc, _+_, _^_, _<_, _≤_, _*_}
 use native.Mathlib.Omega.{arith}
 use native.Mathlib.Nat.{lt-of-le-of-lt, lt-of-lt-of-le}
 use lib.Dec.{T, T-not, not-T, eqb, ltb, ltb→lt, nltb→le, eqb→eq}
@@ -11,13 +12,13 @@ use lib.Pow.{pow-mono, pow-pos}
 use lib.ListN.{length, getD, set, take, length-set, List·getD-eq-default}
 use lib.Seq.{getD-set-same, getD-set-other}
 use borrow.Author.Tests.{le-ltb}
-use Rattle.base.proofs.Tests.{decide, eq-test, cond-has, test-ext, test-yes, test-no, and-true}
-use Rattle.table.specs.Bits.{bit, ofBits, row}
+use Rattle.base.proofs.Tests.{decide, eq-test, cond-has, test-ext, test-yes, test-no, and-true, and-left}
+use Rattle.table.specs.Bits.{bit, ofBits, row, sum}
 use Rattle.table.specs.Pick.{masked}
-use Rattle.table.proofs.Bits.{bit-cases, bit-ofBits, row-length, row-at}
+use Rattle.table.proofs.Bits.{bit-cases, bit-ofBits, row-length, row-at, sum-cong, sum-but-one}
 use Rattle.relation.specs.Source.{WellDefined, value}
 use Rattle.relation.specs.Tests.{ofSets, wires, keep, agree, occurs, free, isOne}
-use Rattle.relation.specs.Masks.{member, withBit, maskOf, narrowed, agreed, cleared, NonePast}
+use Rattle.relation.specs.Masks.{member, withBit, maskOf, narrowed, agreed, cleared, NonePast, cut}
 use Rattle.relation.proofs.Decide.{occurs-intro, occurs-at}
 use Rattle.relation.proofs.Columns.{one-test, isOne-lt-two, no-member, member-lt, with-test, with-le, maskBit, found-lt}
 use Rattle.table.proofs.Bits.{zero-bit, ofBits-short}
@@ -184,3 +185,38 @@ mask-covers n m sets j p hm hn w wd l =
 pub value-four : (m : ℕ) (ts : List ℕ) (p : ℕ) → m ≤ 4 → ((j : ℕ) → m ≤ j → wires ts j ≡ 0) → value 4 (wires ts) p ≡ value m (wires ts) p
 unfolding value
 value-four m ts p h z = ofBits-short (λ j. bit (wires ts j) p) m 4 h (λ j l. ap (λ x. bit x p) (z j l) ∙ zero-bit p)
+
+-- a split changes one bit of a mask at most
+pub mask-narrowed : (sets : List ℕ) (p j b i c : ℕ) → p < 16 → length sets ≡ 16 → getD sets p 0 < 65536
+    → maskOf (narrowed sets p j b) i c ≡ cut (maskOf sets i c) p (occurs 4 (member (withBit (getD sets p 0) j b)) i c)
+unfolding maskOf narrowed ofBits cut isOne ofSets member
+mask-narrowed sets p j b i c hp len small = go (occurs 4 (member w) i c) refl
+  where
+    w : ℕ
+    w = withBit (getD sets p 0) j b
+
+    f : ℕ → ℕ
+    f q = maskBit (set sets p w) i c q * 2 ^ q
+
+    g : ℕ → ℕ
+    g q = maskBit sets i c q * 2 ^ q
+
+    off : (q : ℕ) → (q ≡ p → ⊥) → f q ≡ g q
+    off q ne = ap (λ x. isOne (occurs 4 (member x) i c) * 2 ^ q) (getD-set-other sets p q w 0 ne)
+
+    at : (t : Bool) → occurs 4 (member w) i c ≡ t → f p ≡ isOne t * 2 ^ p
+    at t e = ap (λ x. isOne (occurs 4 (member x) i c) * 2 ^ p) (getD-set-same sets p w 0 (omega arith)) ∙ ap (λ x. isOne x * 2 ^ p) e
+
+    whole : T (occurs 4 (member w) i c) → T (occurs 4 (member (getD sets p 0)) i c)
+    whole =
+        occurs-part 4 (member w) (member (getD sets p 0)) i c
+        (λ v t. and-left (member (getD sets p 0) v) (eqb (bit v j) b) (subst T (with-test (getD sets p 0) j b v small) t))
+
+    go : (t : Bool) → occurs 4 (member w) i c ≡ t → sum 16 f ≡ cut (sum 16 g) p t
+    go true e =
+        let same : f p ≡ g p = at true e ∙ ap (λ x. isOne x * 2 ^ p) (sym (test-yes (occurs 4 (member (getD sets p 0)) i c) (whole (rw e tt)))) in
+        sum-cong 16 f g (λ q _. ⊎-elim (λ (d : T (eqb q p)). rw (eqb→eq q p d) same) (λ d. off q (λ h. T-not (eqb q p) d (eq-test h))) (decide (eqb q p)))
+    go false e =
+        let gp : bit (sum 16 g) p * 2 ^ p ≡ g p = ap (λ x. x * 2 ^ p) (mask-bit sets i c p hp) in
+        let fp : f p ≡ 0 * 2 ^ p = at false e in
+        omega (arith, sum-but-one f g 16 p hp off)

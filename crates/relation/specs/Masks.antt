@@ -1,7 +1,7 @@
 -- Sets of values and of patterns as numbers, which the code computes with. Sixteen values and sixteen patterns are the most there are.
-use Prim.Native.Nat.{ℕ, _+_, _*_, _^_, _≤_}
+use Prim.Native.Nat.{ℕ, _+_, _*_, _-_, _^_, _≤_}
 use mathlib.Core.Path.{_≡_}
-use mathlib.Core.Bool.{Bool, cond}
+use mathlib.Core.Bool.{Bool, true, false, cond}
 use mathlib.Core.List.{List}
 use lib.Bits.{bitAnd}
 use lib.Dec.{eqb, ltb}
@@ -36,6 +36,11 @@ valueIn x p = ofBits 4 (λ j. bit x (16 * j + p))
 -- no value is allowed past the last pattern of n inputs
 abbrev pub NonePast : ℕ → List ℕ → Type 0
 NonePast n sets = (p : ℕ) → 2 ^ n ≤ p → getD sets p 0 ≡ 0
+
+-- mask x with pattern p taken out unless the test holds
+unfoldable pub cut : ℕ → ℕ → Bool → ℕ
+cut x p true = x
+cut x p false = x - bit x p * 2 ^ p
 
 -- the sets once wire j is b on pattern p
 unfoldable pub narrowed : List ℕ → ℕ → ℕ → ℕ → List ℕ

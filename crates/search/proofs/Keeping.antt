@@ -18,7 +18,7 @@ use Rattle.table.specs.Bits.{bit}
 use Rattle.table.specs.Cells.{cells}
 use Rattle.table.specs.Pick.{suits, leastOf, orZero, masked, pickOf, rank, tableSpace}
 use Rattle.table.specs.Blocks.{Covered}
-use Rattle.table.specs.Pairs.{seat, zerosIn, onesIn}
+use Rattle.table.specs.Pairs.{zerosIn, onesIn}
 use Rattle.table.proofs.Bits.{bit-lt, bit-past, all-at, all-intro, row-at, row-cong, sum-cong, sum-short}
 use Rattle.table.proofs.Cells.{constant-cells}
 use Rattle.table.proofs.Least.{Least, least-only}
@@ -149,8 +149,8 @@ module _ (n m : ℕ) (sz : Sized n m) (sets : List ℕ) (ok : Sets n m sets) (p 
   unfolding cutPairs pairsOf
   with-pairs =
       let w = withBit (getD sets p 0) j b in
-      row-cong maxWires (λ i. cutPair (getD (pairsOf sets) i 0) (seat p) w i) (pairOf (narrowed sets p j b))
-      (λ i l. ap (λ x. cutPair x (seat p) w i) (row-at maxWires (pairOf sets) i l) ∙ sym (pair-cut sets p j b i sixteen (ok .long) small))
+      row-cong maxWires (λ i. cutPair (getD (pairsOf sets) i 0) p w i) (pairOf (narrowed sets p j b))
+      (λ i l. ap (λ x. cutPair x p w i) (row-at maxWires (pairOf sets) i l) ∙ sym (pair-cut sets p j b i sixteen (ok .long) small))
 
   -- a pick whose bit on p still occurs still suits, and so is still the pick
   module _ (i : ℕ) (still : T (occurs 4 (member (withBit (getD sets p 0) j b)) i (bit (pickOf n (maskOf sets i 0) (maskOf sets i 1)) p))) where

@@ -1,6 +1,6 @@
 -- The two masks of a wire in one number: its bits, how it is put together pattern by pattern, and how a split cuts it.
 use Prim.Native.Nat.{ℕ, zero, suc, _+_, _*_, _-_, _^_, _/_, _%_, _<_, _≤_}
-use mathlib.Core.Path.{_≡_, sym, ap, ap₂, subst, _∙_}
+use mathlib.Core.Path.{_≡_, refl, sym, ap, ap₂, _∙_}
 use mathlib.Core.Logic.{⊎-elim}
 use mathlib.Core.Bool.{Bool, true, false, cond, not}
 use mathlib.Core.List.{List}
@@ -8,21 +8,20 @@ use native.Mathlib.Numerals.{add-one}
 use native.Mathlib.Omega.{arith}
 use native.Mathlib.Nat.{le-refl, mul-le-mul-right, add-mul, add-zero, mod-eq-of-lt, mod-lt, div-add-mod', div-div-eq-div-mul}
 use lib.Bits.{bitAnd, and-mask, and-zero-r, and-block}
-use lib.Dec.{T, eqb}
+use lib.Dec.{T-not, eqb, eqb→eq}
 use lib.ListN.{length, getD}
 use lib.Pow.{pow-mono, pow-pos, pow-add}
-use lib.Seq.{getD-set-same, getD-set-other}
 use Rattle.base.specs.Sizes.{maxWires}
-use Rattle.base.proofs.Tests.{cond-has, and-left, below-suc, eqb-yes, eqb-not}
+use Rattle.base.proofs.Tests.{cond-has, below-suc, eq-test, eqb-yes, eqb-not}
 use Rattle.table.specs.Bits.{bit, sum, ofBits, row}
-use Rattle.table.specs.Pairs.{seat, zerosIn, onesIn}
-use Rattle.table.proofs.Bits.{sum-cong, sum-le, sum-short, sum-but-one, bit-ofBits, row-at, row-cong}
-use Rattle.relation.specs.Tests.{ofSets, isOne, occurs}
-use Rattle.relation.specs.Masks.{member, withBit, narrowed, maskOf, NonePast}
-use Rattle.relation.proofs.Columns.{isOne-lt-two, with-test}
-use Rattle.relation.proofs.Splits.{occurs-part}
-use Rattle.relation.proofs.Sets.{member-sets, none-occurs}
-use Rattle.search.specs.Kept.{sidesOf, lostOf, pairOf, pairsOf, cutPair}
+use Rattle.table.specs.Pairs.{seat, zerosIn, onesIn, paired}
+use Rattle.table.proofs.Pairs.{ones-at, zeros-at, ones-lt, zeros-lt}
+use Rattle.table.proofs.Bits.{sum-cong, sum-le, sum-short, sum-but-one, bit-lt, bit-ofBits, ofBits-bit, row-at, row-cong}
+use Rattle.relation.specs.Tests.{isOne, occurs}
+use Rattle.relation.specs.Masks.{member, withBit, narrowed, maskOf, cut, NonePast}
+use Rattle.relation.proofs.Columns.{isOne-lt-two, found-lt}
+use Rattle.relation.proofs.Sets.{member-sets, none-occurs, mask-bit, mask-narrowed}
+use Rattle.search.specs.Kept.{sidesOf, pairOf, pairsOf, cutPair}
 
 -- two masks, one bit after the other as they stand in the number
 mixed : (ℕ → ℕ) → (ℕ → ℕ) → ℕ → ℕ
@@ -51,34 +50,96 @@ module _ (f h : ℕ → ℕ) (lf : (p : ℕ) → f p < 2) (lh : (p : ℕ) → h 
       ap (λ x. bit x s) (in-order f h) ∙ bit-ofBits (mixed f h) 32 (λ i _. mixed-lt i) s (omega arith)
       ∙ eqb-not (s / 4 % 2) 0 (f (s / 8 * 4 + s % 4)) (h (s / 8 * 4 + s % 4)) (λ e. absurd (omega arith)) ∙ ap h (omega arith)
 
--- the bits of a pair, and its masks
+-- a number is the pair of its two masks
+module _ (zeros ones : ℕ) where
+  pub paired-ones : ones < 65536 → onesIn (paired zeros ones) ≡ ones
+  unfolding onesIn paired ofBits
+  paired-ones h =
+      sum-cong 16 (λ p. bit (paired zeros ones) (seat p) * 2 ^ p) (λ p. bit ones p * 2 ^ p) (λ p l. ap (λ x. x * 2 ^ p) (bit-one (bit ones) (bit zeros) (bit-lt ones) (bit-lt zeros) p l))
+      ∙ ofBits-bit 16 ones h
+
+  pub paired-zeros : zeros < 65536 → zerosIn (paired zeros ones) ≡ zeros
+  unfolding zerosIn paired ofBits
+  paired-zeros h =
+      sum-cong 16 (λ p. bit (paired zeros ones) (seat p + 4) * 2 ^ p) (λ p. bit zeros p * 2 ^ p) (λ p l. ap (λ x. x * 2 ^ p) (bit-zero (bit ones) (bit zeros) (bit-lt ones) (bit-lt zeros) p l))
+      ∙ ofBits-bit 16 zeros h
+
+seated : (k r : ℕ) → r < 4 → seat (k * 4 + r) ≡ k * 8 + r
+unfolding seat
+seated k r h = omega arith
+
+pub paired-back : (x : ℕ) → x < 2 ^ 32 → paired (zerosIn x) (onesIn x) ≡ x
+unfolding paired ofBits mixed
+paired-back x h =
+    let f : ℕ → ℕ = λ p. bit x (seat p) in
+    let g : ℕ → ℕ = λ p. bit x (seat p + 4) in
+    sum-cong 16 (λ p. (bit (onesIn x) p + 16 * bit (zerosIn x) p) * 2 ^ seat p) (λ p. (f p + 16 * g p) * 2 ^ seat p)
+    (λ p l. ap₂ (λ y z. (y + 16 * z) * 2 ^ seat p) (ones-at x p l) (zeros-at x p l))
+    ∙ in-order f g
+    ∙ sum-cong 32 (λ i. mixed f g i * 2 ^ i) (λ i. bit x i * 2 ^ i)
+    (λ i l.
+    let s : seat (i / 8 * 4 + i % 4) ≡ i / 8 * 8 + i % 4 = seated (i / 8) (i % 4) (omega arith) in
+    ap (λ y. y * 2 ^ i)
+    (cond-has (λ y. y ≡ bit x i) (eqb (i / 4 % 2) 0)
+    (λ t. let e = eqb→eq (i / 4 % 2) 0 t in ap (bit x) (omega arith))
+    (λ t. let ne : i / 4 % 2 ≡ 0 → ⊥ = λ d. T-not (eqb (i / 4 % 2) 0) t (eq-test d) in ap (bit x) (omega arith))))
+    ∙ ofBits-bit 32 x h
+
+-- a mask without a pattern, bit by bit
+module _ (x p : ℕ) (d : Bool) (lx : x < 65536) (lp : p < 16) where
+  left : ℕ → ℕ
+  left q = cond (eqb q p) (bit x q * isOne d) (bit x q)
+
+  left-lt : (q : ℕ) → left q < 2
+  unfolding left isOne
+  left-lt q =
+      cond-has (λ y. y < 2) (eqb q p) (λ _. small d) (λ _. bit-lt x q)
+    where
+      small : (e : Bool) → bit x q * isOne e < 2
+      small true = omega (arith, bit-lt x q)
+      small false = omega arith
+
+  left-at : left p ≡ bit x p * isOne d
+  unfolding left
+  left-at = eqb-yes p p (bit x p * isOne d) (bit x p) refl
+
+  left-off : (q : ℕ) → (q ≡ p → ⊥) → left q ≡ bit x q
+  unfolding left
+  left-off q ne = eqb-not q p (bit x q * isOne d) (bit x q) ne
+
+  cut-left : cut x p d ≡ ofBits 16 left
+  unfolding ofBits cut isOne
+  cut-left = go d left-at (sum-but-one (λ q. left q * 2 ^ q) (λ q. bit x q * 2 ^ q) 16 p lp (λ q ne. ap (λ y. y * 2 ^ q) (left-off q ne)))
+    where
+      go : (e : Bool) → left p ≡ bit x p * isOne e → sum 16 (λ q. left q * 2 ^ q) + bit x p * 2 ^ p ≡ sum 16 (λ q. bit x q * 2 ^ q) + left p * 2 ^ p → cut x p e ≡ sum 16 (λ q. left q * 2 ^ q)
+      go true a s = let w : left p * 2 ^ p ≡ bit x p * 2 ^ p = ap (λ y. y * 2 ^ p) (a ∙ omega arith) in omega (arith, ofBits-bit 16 x lx)
+      go false a s = let w : left p * 2 ^ p ≡ 0 * 2 ^ p = ap (λ y. y * 2 ^ p) (a ∙ omega arith) in omega (arith, ofBits-bit 16 x lx)
+
+  cut-bit : (q : ℕ) → q < 16 → bit (cut x p d) q ≡ left q
+  cut-bit q l = ap (λ y. bit y q) cut-left ∙ bit-ofBits left 16 (λ i _. left-lt i) q l
+
+-- a pair's masks are those of the projection, and it is the sum of what each pattern puts in
 module _ (sets : List ℕ) (j : ℕ) where
-  side : ℕ → ℕ → ℕ
-  side b p = isOne (occurs 4 (member (getD sets p 0)) j b)
-
-  side-lt : (b p : ℕ) → side b p < 2
-  unfolding side
-  side-lt b p = isOne-lt-two (occurs 4 (member (getD sets p 0)) j b)
-
-  pair-one : (p : ℕ) → p < 16 → bit (pairOf sets j) (seat p) ≡ side 1 p
-  unfolding pairOf sidesOf side
-  pair-one p l = bit-one (side 1) (side 0) (side-lt 1) (side-lt 0) p l
-
-  pair-zero : (p : ℕ) → p < 16 → bit (pairOf sets j) (seat p + 4) ≡ side 0 p
-  unfolding pairOf sidesOf side
-  pair-zero p l = bit-zero (side 1) (side 0) (side-lt 1) (side-lt 0) p l
+  mask-small : (b : ℕ) → maskOf sets j b < 65536
+  unfolding maskOf
+  mask-small b = found-lt sets j b 16
 
   pub pair-ones : onesIn (pairOf sets j) ≡ maskOf sets j 1
-  unfolding onesIn maskOf ofBits side
-  pair-ones =
-      sum-cong 16 (λ p. bit (pairOf sets j) (seat p) * 2 ^ p) (λ p. isOne (occurs 4 (ofSets sets p) j 1) * 2 ^ p)
-      (λ p l. ap (λ x. x * 2 ^ p) (pair-one p l ∙ ap (λ S. isOne (occurs 4 S j 1)) (sym (member-sets sets p))))
+  unfolding pairOf
+  pair-ones = paired-ones (maskOf sets j 0) (maskOf sets j 1) (mask-small 1)
 
   pub pair-zeros : zerosIn (pairOf sets j) ≡ maskOf sets j 0
-  unfolding zerosIn maskOf ofBits side
-  pair-zeros =
-      sum-cong 16 (λ p. bit (pairOf sets j) (seat p + 4) * 2 ^ p) (λ p. isOne (occurs 4 (ofSets sets p) j 0) * 2 ^ p)
-      (λ p l. ap (λ x. x * 2 ^ p) (pair-zero p l ∙ ap (λ S. isOne (occurs 4 S j 0)) (sym (member-sets sets p))))
+  unfolding pairOf
+  pair-zeros = paired-zeros (maskOf sets j 0) (maskOf sets j 1) (mask-small 0)
+
+  pair-sum : pairOf sets j ≡ sum 16 (λ p. sidesOf (getD sets p 0) j * 2 ^ seat p)
+  unfolding pairOf paired sidesOf
+  pair-sum =
+      let at : (b p : ℕ) → p < 16 → bit (maskOf sets j b) p ≡ isOne (occurs 4 (member (getD sets p 0)) j b) =
+      λ b p l. mask-bit sets j b p l ∙ ap (λ S. isOne (occurs 4 S j b)) (member-sets sets p) in
+      sum-cong 16 (λ p. (bit (maskOf sets j 1) p + 16 * bit (maskOf sets j 0) p) * 2 ^ seat p)
+      (λ p. (isOne (occurs 4 (member (getD sets p 0)) j 1) + 16 * isOne (occurs 4 (member (getD sets p 0)) j 0)) * 2 ^ seat p)
+      (λ p l. ap₂ (λ x y. (x + 16 * y) * 2 ^ seat p) (at 1 p l) (at 0 p l))
 
 -- the pair of the patterns below p, and one pattern more
 abbrev pub pairBelow : ℕ → List ℕ → ℕ → ℕ
@@ -106,12 +167,13 @@ unfolding sum
 below-more p sets j = ap (λ k. pairBelow k sets j) (sym (add-one p))
 
 pub below-all : (n : ℕ) (sets : List ℕ) (j : ℕ) → n ≤ 4 → NonePast n sets → pairBelow (2 ^ n) sets j ≡ pairOf sets j
-unfolding pairOf sidesOf
+unfolding sidesOf
 below-all n sets j h past =
     sym (sum-short (λ q. sidesOf (getD sets q 0) j * 2 ^ seat q) (2 ^ n) 16 (pow-mono {i = n} {j = 4} h)
     (λ q l.
     let none : (b : ℕ) → isOne (occurs 4 (member (getD sets q 0)) j b) ≡ 0 = λ b. ap (λ S. isOne (occurs 4 S j b)) (sym (member-sets sets q)) ∙ none-occurs sets q j b (past q l) in
     rw (none 1, none 0) (omega arith)))
+    ∙ sym (pair-sum sets j)
 
 -- the pairs of all wires
 abbrev pub pairsBelow : ℕ → List ℕ → List ℕ
@@ -137,9 +199,12 @@ shifted x s lx ls =
     mod-eq-of-lt (omega arith)
 
 -- the bits at a seat that are lost
-pub lost-le : (w j : ℕ) → lostOf w j ≤ 17
-unfolding lostOf
-lost-le w j = omega (arith, isOne-lt-two (not (occurs 4 (member w) j 1)), isOne-lt-two (not (occurs 4 (member w) j 0)))
+complement : (c e : Bool) → 17 - (isOne c + 16 * isOne e) ≡ isOne (not c) + 16 * isOne (not e)
+unfolding isOne
+complement true true = omega arith
+complement true false = omega arith
+complement false true = omega arith
+complement false false = omega arith
 
 and-bit : (x : ℕ) (t : Bool) → bitAnd x (isOne t) ≡ x % 2 * isOne t
 unfolding isOne
@@ -155,74 +220,73 @@ and-two v t u =
     ap₂ bitAnd (sym ev) (sym el) ∙ and-block 4 (v / 16) (isOne u) (v % 16) (isOne t) (omega arith) lt
     ∙ ap₂ (λ x y. x * 16 + y) (and-bit (v / 16) u) (and-bit (v % 16) t ∙ ap (λ x. x * isOne t) low) ∙ omega arith
 
-pub and-lost : (x s w j : ℕ) {l : ℕ} → l ≡ lostOf w j
+and-lost : (x s w j : ℕ) {l : ℕ} → l ≡ 17 - sidesOf w j
     → bitAnd x (l * 2 ^ s) ≡ (bit x s * isOne (not (occurs 4 (member w) j 1)) + 16 * (bit x (s + 4) * isOne (not (occurs 4 (member w) j 0)))) * 2 ^ s
-unfolding lostOf bit
+unfolding sidesOf bit
 and-lost x s w j {l} e =
     let t = not (occurs 4 (member w) j 1) in
     let u = not (occurs 4 (member w) j 0) in
     let v = x / 2 ^ s in
     let k = isOne t + 16 * isOne u in
     let high : x / 2 ^ (s + 4) ≡ v / 16 = ap (λ y. x / y) (pow-add 2 s 4) ∙ sym (div-div-eq-div-mul x (2 ^ s) 16) in
-    ap₂ bitAnd (sym (div-add-mod' x (2 ^ s))) (ap (λ y. y * 2 ^ s) e ∙ sym (add-zero (k * 2 ^ s)))
+    ap₂ bitAnd (sym (div-add-mod' x (2 ^ s))) (ap (λ y. y * 2 ^ s) (e ∙ complement (occurs 4 (member w) j 1) (occurs 4 (member w) j 0)) ∙ sym (add-zero (k * 2 ^ s)))
     ∙ and-block s v k (x % 2 ^ s) 0 (mod-lt x (pow-pos s)) (pow-pos s)
     ∙ ap₂ (λ y z. y * 2 ^ s + z) (and-two v t u) (and-zero-r (x % 2 ^ s)) ∙ add-zero ((v % 2 * isOne t + 16 * (v / 16 % 2 * isOne u)) * 2 ^ s)
     ∙ ap (λ y. (v % 2 * isOne t + 16 * (y % 2 * isOne u)) * 2 ^ s) (sym high)
 
 -- a split cuts two bits of a pair at most
-apart : (c d : Bool) → (T d → T c) → isOne c ≡ isOne d + isOne c * isOne (not d)
+parted : (y : ℕ) (d : Bool) → y ≡ y * isOne d + y * isOne (not d)
 unfolding isOne
-apart true true h = omega arith
-apart true false h = omega arith
-apart false true h = absurd (h tt)
-apart false false h = omega arith
+parted y true = omega arith
+parted y false = omega arith
 
-taken : (c₁ d₁ c₀ d₀ : Bool) → (T d₁ → T c₁) → (T d₀ → T c₀) → (x y k : ℕ) → y + (isOne c₁ + 16 * isOne c₀) * k ≡ x + (isOne d₁ + 16 * isOne d₀) * k
-    → y ≡ x - (isOne c₁ * isOne (not d₁) + 16 * (isOne c₀ * isOne (not d₀))) * k
-taken c₁ d₁ c₀ d₀ h₁ h₀ x y k e =
-    let a = isOne d₁ + 16 * isOne d₀ in
-    let b = isOne c₁ * isOne (not d₁) + 16 * (isOne c₀ * isOne (not d₀)) in
-    let s : isOne c₁ + 16 * isOne c₀ ≡ a + b = omega (arith, apart c₁ d₁ h₁, apart c₀ d₀ h₀) in
-    let t : (isOne c₁ + 16 * isOne c₀) * k ≡ a * k + b * k = ap (λ z. z * k) s ∙ add-mul a b k in
-    omega arith
-
-module _ (sets : List ℕ) (p j b i : ℕ) (lp : p < 16) (long : length sets ≡ 16) (small : getD sets p 0 < 65536) where
-  set-left : ℕ
-  set-left = withBit (getD sets p 0) j b
-
+module _ (zeros ones p : ℕ) (d₀ d₁ : Bool) (lz : zeros < 65536) (lo : ones < 65536) (lp : p < 16) where
   after : ℕ → ℕ
-  after q = sidesOf (getD (narrowed sets p j b) q 0) i * 2 ^ seat q
+  after q = (left ones p d₁ lo lp q + 16 * left zeros p d₀ lz lp q) * 2 ^ seat q
 
   before : ℕ → ℕ
-  before q = sidesOf (getD sets q 0) i * 2 ^ seat q
+  before q = (bit ones q + 16 * bit zeros q) * 2 ^ seat q
 
-  off : (q : ℕ) → (q ≡ p → ⊥) → after q ≡ before q
-  unfolding narrowed after before
-  off q ne = ap (λ x. sidesOf x i * 2 ^ seat q) (getD-set-other sets p q (withBit (getD sets p 0) j b) 0 ne)
+  after-off : (q : ℕ) → (q ≡ p → ⊥) → after q ≡ before q
+  unfolding after before
+  after-off q ne = ap₂ (λ x y. (x + 16 * y) * 2 ^ seat q) (left-off ones p d₁ lo lp q ne) (left-off zeros p d₀ lz lp q ne)
 
-  at : after p ≡ sidesOf set-left i * 2 ^ seat p
-  unfolding narrowed after set-left
-  at = ap (λ x. sidesOf x i * 2 ^ seat p) (getD-set-same sets p (withBit (getD sets p 0) j b) 0 (omega arith))
+  after-sum : paired (cut zeros p d₀) (cut ones p d₁) ≡ sum 16 after
+  unfolding paired after
+  after-sum =
+      sum-cong 16 (λ q. (bit (cut ones p d₁) q + 16 * bit (cut zeros p d₀) q) * 2 ^ seat q) (λ q. (left ones p d₁ lo lp q + 16 * left zeros p d₀ lz lp q) * 2 ^ seat q)
+      (λ q l. ap₂ (λ x y. (x + 16 * y) * 2 ^ seat q) (cut-bit ones p d₁ lo lp q l) (cut-bit zeros p d₀ lz lp q l))
 
-  fewer : (c : ℕ) → T (occurs 4 (member set-left) i c) → T (occurs 4 (member (getD sets p 0)) i c)
-  unfolding set-left
-  fewer c =
-      occurs-part 4 (member set-left) (member (getD sets p 0)) i c
-      (λ v t. and-left (member (getD sets p 0) v) (eqb (bit v j) b) (subst T (with-test (getD sets p 0) j b v small) t))
+  paired-cut : paired (cut zeros p d₀) (cut ones p d₁) ≡ paired zeros ones - (bit ones p * isOne (not d₁) + 16 * (bit zeros p * isOne (not d₀))) * 2 ^ seat p
+  unfolding paired after before
+  paired-cut =
+      let k = 2 ^ seat p in
+      let a = bit ones p * isOne d₁ + 16 * (bit zeros p * isOne d₀) in
+      let b = bit ones p * isOne (not d₁) + 16 * (bit zeros p * isOne (not d₀)) in
+      let s : bit ones p + 16 * bit zeros p ≡ a + b = omega (arith, parted (bit ones p) d₁, parted (bit zeros p) d₀) in
+      let was : before p ≡ a * k + b * k = ap (λ z. z * k) s ∙ add-mul a b k in
+      let is : after p ≡ a * k = ap₂ (λ x y. (x + 16 * y) * k) (left-at ones p d₁ lo lp) (left-at zeros p d₀ lz lp) in
+      let t : sum 16 after + before p ≡ sum 16 before + after p = sum-but-one after before 16 p lp after-off in
+      let e : sum 16 after ≡ sum 16 before - b * k = omega arith in
+      after-sum ∙ e
 
-  summed : sum 16 after + before p ≡ sum 16 before + sidesOf set-left i * 2 ^ seat p
-  summed = sum-but-one after before 16 p lp off ∙ ap (λ y. sum 16 before + y) at
+-- what the code takes off is what the masks lose
+pub cut-taken : (x p w j : ℕ) {l s : ℕ} → x < 2 ^ 32 → p < 16 → l ≡ 17 - sidesOf w j → s ≡ seat p → x - bitAnd x (l * 2 ^ s) ≡ cutPair x p w j
+unfolding cutPair
+cut-taken x p w j {l} {s} lx lp el es =
+    let t = not (occurs 4 (member w) j 1) in
+    let u = not (occurs 4 (member w) j 0) in
+    ap (λ y. x - y)
+    (ap (λ i. bitAnd x (l * 2 ^ i)) es ∙ and-lost x (seat p) w j el
+    ∙ ap₂ (λ y z. (y * isOne t + 16 * (z * isOne u)) * 2 ^ seat p) (sym (ones-at x p lp)) (sym (zeros-at x p lp)))
+    ∙ ap (λ y. y - (bit (onesIn x) p * isOne t + 16 * (bit (zerosIn x) p * isOne u)) * 2 ^ seat p) (sym (paired-back x lx))
+    ∙ sym (paired-cut (zerosIn x) (onesIn x) p (occurs 4 (member w) j 0) (occurs 4 (member w) j 1) (zeros-lt x) (ones-lt x) lp)
 
-  less : sum 16 after
-      ≡ sum 16 before - (side sets i 1 p * isOne (not (occurs 4 (member set-left) i 1)) + 16 * (side sets i 0 p * isOne (not (occurs 4 (member set-left) i 0)))) * 2 ^ seat p
-  unfolding before sidesOf side
-  less =
-      taken (occurs 4 (member (getD sets p 0)) i 1) (occurs 4 (member set-left) i 1) (occurs 4 (member (getD sets p 0)) i 0) (occurs 4 (member set-left) i 0) (fewer 1) (fewer 0)
-      (sum 16 before) (sum 16 after) (2 ^ seat p) summed
-
-  pub pair-cut : pairOf (narrowed sets p j b) i ≡ cutPair (pairOf sets i) (seat p) (withBit (getD sets p 0) j b) i
-  unfolding cutPair pairOf after before set-left
-  pair-cut =
-      less
-      ∙ ap₂ (λ x y. pairOf sets i - (x * isOne (not (occurs 4 (member set-left) i 1)) + 16 * (y * isOne (not (occurs 4 (member set-left) i 0)))) * 2 ^ seat p)
-      (sym (pair-one sets i p lp)) (sym (pair-zero sets i p lp))
+pub pair-cut : (sets : List ℕ) (p j b i : ℕ) → p < 16 → length sets ≡ 16 → getD sets p 0 < 65536
+    → pairOf (narrowed sets p j b) i ≡ cutPair (pairOf sets i) p (withBit (getD sets p 0) j b) i
+unfolding pairOf cutPair
+pair-cut sets p j b i lp long small =
+    let w = withBit (getD sets p 0) j b in
+    ap₂ paired
+    (mask-narrowed sets p j b i 0 lp long small ∙ ap (λ x. cut x p (occurs 4 (member w) i 0)) (sym (pair-zeros sets i)))
+    (mask-narrowed sets p j b i 1 lp long small ∙ ap (λ x. cut x p (occurs 4 (member w) i 1)) (sym (pair-ones sets i)))

@@ -1,7 +1,7 @@
 -- What the code keeps of a part: its sets, and for each wire the two masks of its projection in one number and the rank of its pick.
-use Prim.Native.Nat.{ℕ, _+_, _*_, _-_, _^_, _/_, _%_, _<_, _≤_}
+use Prim.Native.Nat.{ℕ, _+_, _*_, _^_, _/_, _%_, _<_, _≤_}
 use mathlib.Core.Path.{_≡_}
-use mathlib.Core.Bool.{cond, not}
+use mathlib.Core.Bool.{cond}
 use lib.Dec.{T, eqb}
 use mathlib.Core.List.{List}
 use lib.ListN.{length, getD}
@@ -9,10 +9,10 @@ use Rattle.base.specs.Sizes.{maxInputs, maxWires}
 use Rattle.table.specs.Bits.{bit, sum, row}
 use Rattle.table.specs.Pick.{pickOf, rank, tableSpace}
 use Rattle.table.specs.Blocks.{Covered}
-use Rattle.table.specs.Pairs.{seat, zerosIn, onesIn}
+use Rattle.table.specs.Pairs.{zerosIn, onesIn, paired}
 use Rattle.relation.specs.Source.{Rel, Tables, WellDefined, value}
 use Rattle.relation.specs.Tests.{ofSets, wires, isOne, occurs, compatible, conflict, freeWire}
-use Rattle.relation.specs.Masks.{member, maskOf, NonePast}
+use Rattle.relation.specs.Masks.{member, maskOf, cut, NonePast}
 use Rattle.search.specs.declared.Part.{Part}
 use Rattle.search.specs.declared.State.{State}
 use Rattle.search.specs.declared.Open.{Open}
@@ -30,13 +30,9 @@ pub record Sets (n m : ℕ) (sets : List ℕ) : Type 0 where
   pub past : NonePast n sets
   pub defined : WellDefined n m (ofSets sets)
 
--- what occurs of wire j in the set w: 1 where 1 does, and 16 where 0 does
-unfoldable pub sidesOf : ℕ → ℕ → ℕ
-sidesOf w j = isOne (occurs 4 (member w) j 1) + 16 * isOne (occurs 4 (member w) j 0)
-
 -- the two masks of wire j's projection in one number, and those of all wires
 unfoldable pub pairOf : List ℕ → ℕ → ℕ
-pairOf sets j = sum 16 (λ p. sidesOf (getD sets p 0) j * 2 ^ seat p)
+pairOf sets j = paired (maskOf sets j 0) (maskOf sets j 1)
 
 unfoldable pub pairsOf : List ℕ → List ℕ
 pairsOf sets = row maxWires (pairOf sets)
@@ -80,16 +76,16 @@ tablesIn ranks = row maxWires (λ j. getD ranks j 0 % tableSpace)
 unfoldable pub cellsIn : List ℕ → ℕ
 cellsIn ranks = sum maxWires (λ j. getD ranks j 0 / tableSpace)
 
--- what does not occur of wire j in the set w
-unfoldable pub lostOf : ℕ → ℕ → ℕ
-lostOf w j = isOne (not (occurs 4 (member w) j 1)) + 16 * isOne (not (occurs 4 (member w) j 0))
+-- a pattern's bits in a pair, before they are put at its seat: what occurs of wire j in its set w
+unfoldable pub sidesOf : ℕ → ℕ → ℕ
+sidesOf w j = isOne (occurs 4 (member w) j 1) + 16 * isOne (occurs 4 (member w) j 0)
 
--- a pair once the pattern at seat s has the set w: the pattern goes from the masks of what no longer occurs
+-- a pair once pattern p has the set w: the pattern goes from the masks of what no longer occurs
 unfoldable pub cutPair : ℕ → ℕ → ℕ → ℕ → ℕ
-cutPair x s w j = x - (bit x s * isOne (not (occurs 4 (member w) j 1)) + 16 * (bit x (s + 4) * isOne (not (occurs 4 (member w) j 0)))) * 2 ^ s
+cutPair x p w j = paired (cut (zerosIn x) p (occurs 4 (member w) j 0)) (cut (onesIn x) p (occurs 4 (member w) j 1))
 
 unfoldable pub cutPairs : List ℕ → ℕ → ℕ → List ℕ
-cutPairs pairs p w = row maxWires (λ j. cutPair (getD pairs j 0) (seat p) w j)
+cutPairs pairs p w = row maxWires (λ j. cutPair (getD pairs j 0) p w j)
 
 -- the rank once pattern p has the set w: a pick whose bit on p still occurs is still the pick
 unfoldable pub rankAgain : ℕ → ℕ → ℕ → ℕ → ℕ → ℕ → ℕ

@@ -4,12 +4,11 @@
 use relation::patterns::patterns_of;
 use relation::values::has;
 ghost use mathlib.Core.Path.{_≡_};
-ghost use mathlib.Core.Bool.{not};
 ghost use Prim.Native.Nat.{_+_, _*_, _<_, _≤_, _^_};
 ghost use Rattle.table.specs.Pairs.{seat};
 ghost use Rattle.relation.specs.Tests.{isOne};
 ghost use Rattle.relation.specs.Masks.{NonePast};
-ghost use Rattle.search.specs.Kept.{sidesOf, lostOf, pairOf, pairsOf, cutPair, cutPairs};
+ghost use Rattle.search.specs.Kept.{sidesOf, pairOf, pairsOf, cutPair, cutPairs};
 
 fn one(there: bool) -> u32
     ensures { λ r. ⌜ r ≡ isOne there ⌝ }
@@ -23,14 +22,6 @@ fn sides(set: u16, j: u8) -> u32
     ensures { λ r. ⌜ (r ≡ sidesOf set j) × (r ≤ 17) ⌝ }
 {
     one(has(set, j, 1)) + 16 * one(has(set, j, 0))
-}
-
-// What does not occur.
-fn lost(set: u16, j: u8) -> u32
-    requires { ⌜ j < 4 ⌝ }
-    ensures { λ r. ⌜ (r ≡ lostOf set j) × (r ≤ 17) ⌝ }
-{
-    one(!has(set, j, 1)) + 16 * one(!has(set, j, 0))
 }
 
 // Where the bits of a pattern stand: the lower of them.
@@ -81,23 +72,24 @@ pub fn pairs_of(n: u8, sets: [u16; 16]) -> [u32; 4]
     found
 }
 
-// A pair once the pattern at a seat has a set: the pattern goes from the masks of what no longer occurs.
-fn cut_pair(x: u32, seat: u8, set: u16, j: u8) -> u32
-    requires { ⌜ (seat < 28) × (j < 4) ⌝ }
-    ensures { λ r. ⌜ r ≡ cutPair x seat set j ⌝ }
+// A pair once pattern p has a set: the pattern goes from the masks of what no longer occurs.
+fn cut_pair(x: u32, p: u8, set: u16, j: u8) -> u32
+    requires { ⌜ (p < 16) × (j < 4) ⌝ }
+    ensures { λ r. ⌜ r ≡ cutPair x p set j ⌝ }
 {
-    x - (x & (lost(set, j) << seat))
+    // 17 is both sides
+    let lost = 17 - sides(set, j);
+    x - (x & (lost << seat_of(p)))
 }
 
 pub fn cut_pairs(pairs: [u32; 4], p: u8, set: u16) -> [u32; 4]
     requires { ⌜ p < 16 ⌝ }
     ensures { λ r. ⌜ r ≡ cutPairs pairs p set ⌝ }
 {
-    let s = seat_of(p);
     [
-        cut_pair(pairs[0], s, set, 0),
-        cut_pair(pairs[1], s, set, 1),
-        cut_pair(pairs[2], s, set, 2),
-        cut_pair(pairs[3], s, set, 3),
+        cut_pair(pairs[0], p, set, 0),
+        cut_pair(pairs[1], p, set, 1),
+        cut_pair(pairs[2], p, set, 2),
+        cut_pair(pairs[3], p, set, 3),
     ]
 }
