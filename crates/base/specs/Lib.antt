@@ -1,5 +1,6 @@
 -- What every format shares.
 pub mod Refusals
+pub mod Cases
 pub mod Sizes
 pub mod Lowest
 pub mod Rows

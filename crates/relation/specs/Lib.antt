@@ -4,3 +4,4 @@ pub mod Tests
 pub mod Masks
 pub mod Handed
 pub mod Families
+pub mod Cases

@@ -4,3 +4,4 @@ pub mod Promise
 pub mod TreeBoard
 pub mod Reply
 pub mod Kept
+pub mod Cases

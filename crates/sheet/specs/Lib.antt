@@ -4,3 +4,4 @@ pub mod Reader
 pub mod Gathered
 pub mod Reading
 pub mod Turn
+pub mod Cases

@@ -1,0 +1,41 @@
+-- Document 01, "Which form goes where": an answer that is an enum is told by numbers. Each such enum has one definition, in the meanings of its own crate, that
+-- gives the numbers of each of its cases; contracts and promises speak of an answer through it.
+use Prim.Native.Nat.{ℕ}
+use mathlib.Core.Bool.{Bool}
+use lib.Dec.{leb}
+use Rattle.base.specs.declared.Refusal.{Refusal}
+
+-- the outcome, which tells a case from the other cases of its enum; the number and the place of its refusal, 0 where it refuses nothing; and its own value (cells,
+-- a length), 0 where it has none
+pub record Case : Type 0 where
+  pub outcome : ℕ
+  pub number : ℕ
+  pub place : ℕ
+  pub value : ℕ
+
+-- The outcomes that enums share: nothing is refused; something is; of two things handed in, the second is. An enum that accepts in two ways names its own two, 0 and 1.
+abbrev pub acceptedOutcome : ℕ
+acceptedOutcome = 0
+
+abbrev pub refusedOutcome : ℕ
+refusedOutcome = 2
+
+abbrev pub secondRefusedOutcome : ℕ
+secondRefusedOutcome = 3
+
+-- a case that refuses nothing
+abbrev pub accepting : (outcome value : ℕ) → Case
+accepting o v = record { outcome = o; number = 0; place = 0; value = v }
+
+-- a case that refuses
+abbrev pub refusing : (outcome : ℕ) → Refusal → Case
+refusing o f = record { outcome = o; number = f .number; place = f .place; value = 0 }
+
+abbrev pub acceptedCase : Case
+acceptedCase = accepting acceptedOutcome 0
+
+abbrev pub refusedCase : Refusal → Case
+refusedCase f = refusing refusedOutcome f
+
+abbrev pub isRefused : Case → Bool
+isRefused c = leb refusedOutcome (c .outcome)
