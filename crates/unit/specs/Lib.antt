@@ -2,5 +2,6 @@
 pub mod Gates
 pub mod Relation
 pub mod Rival
+pub mod Cases
 pub mod Formed
 pub mod Parts
