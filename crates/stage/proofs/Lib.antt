@@ -3,6 +3,7 @@ pub mod Lengths
 pub mod Writing
 pub mod Reading
 pub mod Sheets
+pub mod Ends
 pub mod Tables
 pub mod Places
 pub mod Gather

@@ -19,9 +19,8 @@ use Rattle.table.proofs.Bits.{sum-cong, ofBits-bit}
 use Rattle.table.proofs.Trees.{reduced-ordered, reduced-follow}
 use Rattle.stage.specs.Bytes.{treeBytes, wireBytes, stageBytes, AllOrdered, size}
 use Rattle.stage.specs.Written.{stageTrees, stageOf, stageCells}
-use Rattle.stage.specs.Read.{Read, taken, fault, andThen, known, misplaced, dueNumber, due, operand, treeAt, wireAt, wiresAt, nothingAfter, endAt, StageSheet, got, refused, judged, closed, readStage}
+use Rattle.stage.specs.Read.{Read, taken, fault, andThen, known, misplaced, dueNumber, due, operand, treeAt, wireAt, wiresAt, nothingAfter, endAt, StageSheet, got, refused, closed, readStage}
 use Rattle.stage.specs.Reply.{tableOf, tablesOf}
-use Rattle.stage.specs.declared.reader.Answer.the-variants.{Refused}
 use Rattle.stage.proofs.Lengths.{trees-length, trees-size}
 use Rattle.stage.proofs.Ranges.{Sized, sizes-in, sizes-fit}
 use Rattle.stage.proofs.Reading.{Told, tree-told, tree-back}
@@ -121,12 +120,12 @@ abbrev ToldSheet : List ℕ → StageSheet → Type 0
 ToldSheet bytes (got n m trees) = Stage bytes n m trees
 ToldSheet bytes (refused f) = Unit {0}
 
-end-told : (n m at : ℕ) (trees : List Tree) (bytes rest : List ℕ) → (rest ≡ 0x2F ∷ [] → Stage bytes n m trees) → ToldSheet bytes (judged n m trees (endAt at rest))
-unfolding endAt judged nothingAfter
+end-told : (n m at : ℕ) (trees : List Tree) (bytes rest : List ℕ) → (rest ≡ 0x2F ∷ [] → Stage bytes n m trees) → ToldSheet bytes (endAt refused (got n m trees) at rest)
+unfolding endAt nothingAfter
 end-told n m at trees bytes rest h =
-    due-has (λ a. ToldSheet bytes (judged n m trees a)) Refused 0x2F at (nothingAfter at) (λ _. tt) rest (λ q e. go q e)
+    due-has (ToldSheet bytes) refused 0x2F at (nothingAfter refused (got n m trees) at) (λ _. tt) rest (λ q e. go q e)
   where
-    go : (q : List ℕ) → rest ≡ 0x2F ∷ q → ToldSheet bytes (judged n m trees (nothingAfter at q))
+    go : (q : List ℕ) → rest ≡ 0x2F ∷ q → ToldSheet bytes (nothingAfter refused (got n m trees) at q)
     go [] e = h e
     go (b ∷ q) e = tt
 
@@ -163,7 +162,7 @@ accepted bytes n m trees e = subst (ToldSheet bytes) e (sheet-told bytes)
 
 -- (1) the bytes of ordered trees, one for each wire, are read as those trees
 pub read-back : (n m : ℕ) (trees : List Tree) → Sized n m → length trees ≡ m → AllOrdered n trees → readStage (stageBytes n m trees) ≡ got n m trees
-unfolding readStage due dueNumber operand stageBytes closed judged endAt nothingAfter
+unfolding readStage due dueNumber operand stageBytes closed endAt nothingAfter
 read-back n m trees z l o =
     let w = wires-back trees n m 0 3 (0x2F ∷ []) (omega arith) o in
     let w′ : wiresAt m n m 0 3 (wireBytes 0 trees ++ 0x2F ∷ []) ≡ taken trees (3 + length (wireBytes 0 trees)) (0x2F ∷ []) = rw l at w in

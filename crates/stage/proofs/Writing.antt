@@ -12,6 +12,7 @@ use lib.ListN.{length, getD, set, take, drop, length-append, drop-of-length-le}
 use lib.Seq.{sets, sets-eq, drop-cons, getD-take, length-take-le}
 use borrow.Author.Tests.{eq-eqb, ne-eqb}
 use Rattle.base.proofs.Rows.{sets-append}
+use Rattle.base.specs.Cases.{accepting, acceptedOutcome, refusedCase}
 use Rattle.base.specs.declared.Refusal.{Refusal}
 use Rattle.base.proofs.Tests.{decide}
 use Rattle.base.proofs.Lowest.{lowest-below}
@@ -19,7 +20,6 @@ use Rattle.table.specs.Cells.{low, high}
 use Rattle.table.specs.Tree.{Tree, sel, reduced}
 use Rattle.stage.specs.Bytes.{treeBytes, wireBytes, stageBytes}
 use Rattle.stage.specs.Written.{stageTrees, wireOf, wiresOf, stageOf, tableOut, firstOut, writtenOf, bufferAfter}
-use Rattle.stage.specs.declared.writer.Written.the-variants.{Length, Refused}
 
 -- the reduced tree of a table of w inputs by the table's halves
 abbrev split : Tree → Tree → ℕ → ℕ → ℕ → Tree
@@ -108,11 +108,11 @@ tables-in n m tables h j l =
 
 -- the buffer after a refusal, and after a stage was written
 module _ (n m : ℕ) (tables b : List ℕ) where
-  pub kept : (f : Refusal) → writtenOf n m tables (length b) ≡ Refused f → b ≡ bufferAfter n m tables b
+  pub kept : (f : Refusal) → writtenOf n m tables (length b) ≡ refusedCase f → b ≡ bufferAfter n m tables b
   unfolding bufferAfter
   kept f e = rw e
 
-  pub written : (k : ℕ) (c : List ℕ) → writtenOf n m tables (length b) ≡ Length k → k ≡ length (stageOf n m tables) → k ≤ length b
+  pub written : (k : ℕ) (c : List ℕ) → writtenOf n m tables (length b) ≡ accepting acceptedOutcome k → k ≡ length (stageOf n m tables) → k ≤ length b
       → c ≡ sets b 0 (stageOf n m tables) → c ≡ bufferAfter n m tables b
   unfolding bufferAfter
   written k c e f h s = rw e (front b c (stageOf n m tables) k f h s)

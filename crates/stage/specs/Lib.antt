@@ -1,5 +1,6 @@
 -- Stage sheets: their bytes, the writer's and the reader's replies.
 pub mod Bytes
+pub mod Cases
 pub mod Written
 pub mod Read
 pub mod Reply

@@ -9,8 +9,6 @@ use Rattle.base.specs.Refusals.{refusalAt, cutShort, unknown, outOfRange, trail
 use Rattle.base.specs.declared.Refusal.{Refusal}
 use Rattle.base.specs.Sizes.{countOut, sizesOut}
 use Rattle.table.specs.Tree.{Tree, con, sel}
-use Rattle.stage.specs.declared.reader.Answer.{Answer}
-use Rattle.stage.specs.declared.reader.Answer.the-variants.{Accepted, Refused}
 
 -- what reading at a place takes, with the place and the bytes after it; or the refusal
 pub data Read (A : Type 0) : Type 0 where
@@ -90,24 +88,20 @@ wiresAt (suc left) n m j at bytes =
     (λ x at′ rest. andThen (wiresAt left n m (suc j) at′ rest) (λ xs at″ rest″. taken (x ∷ xs) at″ rest″))
 
 -- 2F, and "4 bytes after the end; place: the first of them"
-unfoldable pub nothingAfter : ℕ → List ℕ → Answer
-nothingAfter at [] = Accepted
-nothingAfter at (b ∷ rest) = Refused (refusalAt trailing (at + 1))
+unfoldable pub nothingAfter : {A : Type 0} → (Refusal → A) → A → ℕ → List ℕ → A
+nothingAfter stop whole at [] = whole
+nothingAfter stop whole at (b ∷ rest) = stop (refusalAt trailing (at + 1))
 
-unfoldable pub endAt : ℕ → List ℕ → Answer
-endAt at = due Refused 0x2F at (nothingAfter at)
+unfoldable pub endAt : {A : Type 0} → (Refusal → A) → A → ℕ → List ℕ → A
+endAt stop whole at = due stop 0x2F at (nothingAfter stop whole at)
 
 -- what a stage sheet holds: its sizes and one tree for each wire; or the refusal
 pub data StageSheet : Type 0 where
   got : ℕ → ℕ → List Tree → StageSheet
   refused : Refusal → StageSheet
 
-unfoldable pub judged : ℕ → ℕ → List Tree → Answer → StageSheet
-judged n m trees Accepted = got n m trees
-judged n m trees (Refused f) = refused f
-
 unfoldable pub closed : ℕ → ℕ → Read (List Tree) → StageSheet
-closed n m (taken trees at rest) = judged n m trees (endAt at rest)
+closed n m (taken trees at rest) = endAt refused (got n m trees) at rest
 closed n m (fault f) = refused f
 
 -- a whole stage sheet: "20 n m; then for each wire j from 0 upward 21 j and one tree; then 2F"

@@ -4,16 +4,16 @@ use mathlib.Core.Bool.{cond}
 use mathlib.Core.List.{List, map}
 use lib.Dec.{eqb}
 use lib.ListN.{getD, replicate}
+use Rattle.base.specs.Cases.{acceptedCase, refusedCase}
 use Rattle.base.specs.declared.Refusal.{Refusal}
 use Rattle.base.specs.Sizes.{maxWires}
 use Rattle.table.specs.Bits.{bit, ofBits, row}
 use Rattle.table.specs.Tree.{Tree, follow, selectors}
 use Rattle.stage.specs.Bytes.{size}
+use Rattle.stage.specs.Cases.{StageReply}
 use Rattle.stage.specs.Read.{Read, taken, fault, StageSheet, got, refused}
 use Rattle.stage.specs.declared.reader.TreeStep.{TreeStep}
 use Rattle.stage.specs.declared.reader.TreeStep.the-variants.{Tree as TreeTaken, Refused as TreeRefused}
-use Rattle.stage.specs.declared.reader.Answer.the-variants.{Accepted, Refused}
-use Rattle.stage.specs.declared.reader.StageRead.{StageRead}
 
 -- the truth table of a tree: bit p is the constant that is reached on pattern p
 unfoldable pub tableOf : ℕ → Tree → ℕ
@@ -32,11 +32,11 @@ unfoldable pub tablesOf : ℕ → List Tree → List ℕ
 tablesOf n trees = row maxWires (λ j. getD (map (tableOf n) trees) j 0)
 
 -- a refused sheet leaves nothing of what was read
-abbrev pub refusedReply : Refusal → StageRead
-refusedReply f = record { n = 0; m = 0; tables = replicate maxWires 0; cells = 0; answer = Refused f }
+abbrev pub refusedReply : Refusal → StageReply
+refusedReply f = record { n = 0; m = 0; tables = replicate maxWires 0; cells = 0; answer = refusedCase f }
 
-unfoldable pub replyOf : StageSheet → StageRead
-replyOf (got n m trees) = record { n = n; m = m; tables = tablesOf n trees; cells = size trees; answer = Accepted }
+unfoldable pub replyOf : StageSheet → StageReply
+replyOf (got n m trees) = record { n = n; m = m; tables = tablesOf n trees; cells = size trees; answer = acceptedCase }
 replyOf (refused f) = refusedReply f
 
 -- what the reader of one tree hands back: its table, its selectors, and the place after it

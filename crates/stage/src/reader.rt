@@ -5,6 +5,8 @@ ghost use mathlib.Core.Path.{_≡_};
 ghost use Prim.Native.Nat.{_+_, _^_, _<_, _≤_};
 ghost use lib.ListN.{length, drop};
 ghost use Rattle.table.specs.Tree.{con};
+ghost use Rattle.base.specs.Cases.{acceptedCase, refusedCase};
+ghost use Rattle.stage.specs.Cases.{answerCase, stageReply};
 ghost use Rattle.stage.specs.Read.{misplaced, dueNumber, branchesAt, treeAt, selectorAt, wireAt, wiresAt, endAt, closed, readStage};
 ghost use Rattle.stage.specs.Reply.{tableOf, columnOf, selectOf, stepOf, refusedReply, replyOf};
 
@@ -192,7 +194,7 @@ fn read_wire(s: &[u8], at: usize, j: u8, n: u8, m: u8) -> TreeStep
 
 // 2F, and nothing after it.
 fn read_end(s: &[u8], at: usize) -> Answer
-    ensures { λ r. ⌜ r ≡ endAt at (drop at (now (s .entry))) ⌝ }
+    ensures { λ r. ⌜ answerCase r ≡ endAt refusedCase acceptedCase at (drop at (now (s .entry))) ⌝ }
 {
     let f = due_number(s, at, 0x2F);
     if f != 0 {
@@ -206,7 +208,7 @@ fn read_end(s: &[u8], at: usize) -> Answer
 
 // A refused sheet leaves nothing of what was read.
 fn refused(f: Refusal) -> StageRead
-    ensures { λ r. ⌜ r ≡ refusedReply f ⌝ }
+    ensures { λ r. ⌜ stageReply r ≡ refusedReply f ⌝ }
 {
     StageRead {
         n: 0,
@@ -220,7 +222,7 @@ fn refused(f: Refusal) -> StageRead
 // The wires of a stage sheet from place 3 on, and its end.
 fn read_wires(s: &[u8], n: u8, m: u8) -> StageRead
     requires { ⌜ (n ≤ 4) × (m ≤ 4) ⌝ }
-    ensures { λ r. ⌜ r ≡ replyOf (closed n m (wiresAt m n m 0 3 (drop 3 (now (s .entry))))) ⌝ }
+    ensures { λ r. ⌜ stageReply r ≡ replyOf (closed n m (wiresAt m n m 0 3 (drop 3 (now (s .entry))))) ⌝ }
 {
     let mut tables = [0u16; 4];
     let mut cells: u8 = 0;
@@ -257,7 +259,7 @@ fn read_wires(s: &[u8], n: u8, m: u8) -> StageRead
 
 // A whole stage sheet: its tables and its cells, or the refusal.
 pub fn read_stage(s: &[u8]) -> StageRead
-    ensures { λ r. ⌜ r ≡ replyOf (readStage (now (s .entry))) ⌝ }
+    ensures { λ r. ⌜ stageReply r ≡ replyOf (readStage (now (s .entry))) ⌝ }
 {
     let f = due_number(s, 0, 0x20);
     if f != 0 {

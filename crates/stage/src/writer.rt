@@ -8,6 +8,7 @@ ghost use Prim.Native.Nat.{ℕ, _+_, _*_, _^_, _<_, _≤_};
 ghost use lib.ListN.{length, getD};
 ghost use lib.Seq.{sets};
 ghost use Rattle.table.specs.Tree.{reduced};
+ghost use Rattle.stage.specs.Cases.{writtenCase};
 ghost use Rattle.stage.specs.Bytes.{constantByte, treeBytes};
 ghost use Rattle.stage.specs.Written.{wireOf, wiresOf, stageOf, stageCells, tableOut, firstOut, writtenOf, bufferAfter};
 
@@ -148,7 +149,7 @@ fn stage_length(m: u8, cells: u8) -> usize
 
 // Writes a stage at the start of a buffer; a refusal changes no byte, and later bytes stay.
 pub fn write_stage(n: u8, m: u8, tables: [u16; 4], buffer: &mut [u8]) -> Written
-    ensures { λ r. ⌜ (r ≡ writtenOf n m tables (length (now (buffer .entry)))) × (now (buffer .exit) ≡ bufferAfter n m tables (now (buffer .entry))) ⌝ }
+    ensures { λ r. ⌜ (writtenCase r ≡ writtenOf n m tables (length (now (buffer .entry)))) × (now (buffer .exit) ≡ bufferAfter n m tables (now (buffer .entry))) ⌝ }
 {
     if sizes_out(n, m) {
         return Written::Refused(Refusal::at(Refusal::OUT_OF_RANGE, 0));

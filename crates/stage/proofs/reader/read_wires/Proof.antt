@@ -6,7 +6,7 @@ use native.Mathlib.Omega.{arith}
 use borrow.Author.Needs.{needs}
 use lib.ListN.{length, length-set}
 use Rattle.stage.specs.Bytes.{size}
-use Rattle.stage.specs.Read.{closed, judged}
+use Rattle.stage.specs.Read.{closed}
 use Rattle.stage.specs.Reply.{replyOf}
 use Rattle.stage.proofs.Gather.{filled, replyWith, left, wire-few, goes-on, stops, ends, from-nothing}
 use Rattle.stage.proofs.reader.read_wires.Statement.{statement}
@@ -107,23 +107,23 @@ refused-requires-2 : tie.Need-refused-requires-2 Inv-loop μ-loop
 refused-requires-2 c κs = search needs
 
 returns-2 : tie.Need-returns-2 Inv-loop μ-loop
-unfolding replyWith judged filled size
+unfolding replyWith filled size
 returns-2 c =
     let e = c .before .before in
     let t = e .before in
     let l = t .before .loop in
     let a = t .before .before .before .args in
-    let h = ends (a .s .now) (a .n) (a .m) (l .j) (l .at) (l .tables) (l .cells) _ (l .inv .3) _ (t .loop-test .left) (e .read-end .ensures) in
+    let h = ends (a .s .now) (a .n) (a .m) (l .j) (l .at) (l .tables) (l .cells) _ (l .inv .3) (e .read-end .result) (t .loop-test .left) (e .read-end .ensures) in
     simp (c .enum-told .given .1, add-zero, sub-zero) at h
 
 returns-3 : tie.Need-returns-3 Inv-loop μ-loop
-unfolding replyWith judged
+unfolding replyWith
 returns-3 c =
     let e = c .before .before .before .before in
     let t = e .before in
     let l = t .before .loop in
     let a = t .before .before .before .args in
-    let h = ends (a .s .now) (a .n) (a .m) (l .j) (l .at) (l .tables) (l .cells) _ (l .inv .3) _ (t .loop-test .left) (e .read-end .ensures) in
+    let h = ends (a .s .now) (a .n) (a .m) (l .j) (l .at) (l .tables) (l .cells) _ (l .inv .3) (e .read-end .result) (t .loop-test .left) (e .read-end .ensures) in
     c .refused2 .ensures ∙ simp (c .before .before .answer .given .1, sub-zero) at h
 
 pub read-wires-spec : {M : Type 1} → statement M

@@ -5,8 +5,8 @@ use native.Mathlib.Omega.{arith}
 use lib.ListN.{length}
 use borrow.Author.Needs.{needs}
 use borrow.Author.Tests.{lt-ltb, le-ltb}
+use Rattle.base.specs.Cases.{accepting, acceptedOutcome, refusedCase}
 use Rattle.stage.specs.Written.{stageOf, writtenOf}
-use Rattle.stage.specs.declared.writer.Written.the-variants.{Length, Refused}
 use Rattle.stage.proofs.Lengths.{stage-length}
 use Rattle.stage.proofs.Ranges.{Sized, sizes-in}
 use Rattle.stage.proofs.Writing.{tables-in, kept, written}
@@ -40,7 +40,7 @@ unfolding writtenOf
 returns c =
     let o = c .before .before in
     let a = o .before .before .args in
-    let e : writtenOf (a .n) (a .m) (a .tables) (length (a .buffer .now)) ≡ Refused (c .at .result) =
+    let e : writtenOf (a .n) (a .m) (a .tables) (length (a .buffer .now)) ≡ refusedCase (c .at .result) =
     simp (← o .sizes-out .ensures, c .before .if1 .taken, c .at .ensures) in
     (sym e, kept (a .n) (a .m) (a .tables) (a .buffer .now) _ e)
 
@@ -59,7 +59,7 @@ returns-2 c =
     let f = c .before .before in
     let e1 = f .before in
     let a = e1 .before .before .before .args in
-    let e : writtenOf (a .n) (a .m) (a .tables) (length (a .buffer .now)) ≡ Refused (c .at2 .result) =
+    let e : writtenOf (a .n) (a .m) (a .tables) (length (a .buffer .now)) ≡ refusedCase (c .at2 .result) =
     simp (← e1 .before .sizes-out .ensures, e1 .if1 .left, ← f .first-out .ensures, lt-ltb _ _ (c .before .if2 .taken), c .at2 .ensures) in
     (sym e, kept (a .n) (a .m) (a .tables) (a .buffer .now) _ e)
 
@@ -85,7 +85,7 @@ returns-3 c =
     let e1 = f .before in
     let a = e1 .before .before .before .args in
     let long = length-is l in
-    let e : writtenOf (a .n) (a .m) (a .tables) (length (a .buffer .now)) ≡ Refused (c .at3 .result) =
+    let e : writtenOf (a .n) (a .m) (a .tables) (length (a .buffer .now)) ≡ refusedCase (c .at3 .result) =
     simp (
       ← e1 .before .sizes-out .ensures,
       e1 .if1 .left,
@@ -115,7 +115,7 @@ returns-4 c =
     let e1 = f .before in
     let a = e1 .before .before .before .args in
     let long = length-is l in
-    let e : writtenOf (a .n) (a .m) (a .tables) (length (a .buffer .now)) ≡ Length (l .stage-length .result) =
+    let e : writtenOf (a .n) (a .m) (a .tables) (length (a .buffer .now)) ≡ accepting acceptedOutcome (l .stage-length .result) =
     simp (
       ← e1 .before .sizes-out .ensures,
       e1 .if1 .left,
