@@ -1,4 +1,5 @@
 use mathlib.Core.Path.{_≡_, sym, ap, _∙_}
+use Rattle.stage.specs.Cases.{writtenCase}
 use Rattle.quote.specs.Quote.{withStage}
 use borrow.Author.Needs.{needs}
 use Rattle.quote.proofs.quotes.quote_answer.Statement.{statement}
@@ -25,14 +26,14 @@ same-length c = search needs
 
 returns : tie.Need-returns
 unfolding withStage
-returns c = let w = c .before .before .before .before .before .write-stage .ensures in (rw (sym (w .0) ∙ c .before .written .given .1), w .1)
+returns c = let w = c .before .before .before .before .before .write-stage .ensures in (rw (sym (w .0) ∙ ap writtenCase (c .before .written .given .1)), w .1)
 
 same-length-2 : tie.Need-same-length-2
 same-length-2 c = search needs
 
 returns-2 : tie.Need-returns-2
 unfolding withStage
-returns-2 c = let w = c .before .before .before .before .before .before .write-stage .ensures in (rw (sym (w .0) ∙ c .before .before .written2 .given .1) (c .refused-quote .ensures), w .1)
+returns-2 c = let w = c .before .before .before .before .before .before .write-stage .ensures in (rw (sym (w .0) ∙ ap writtenCase (c .before .before .written2 .given .1)) (c .refused-quote .ensures), w .1)
 
 pub quote-answer-spec : {M : Type 1} → statement M
 quote-answer-spec =
