@@ -1,17 +1,20 @@
 -- The cases of a quote: each return of the code is the written reply, with the buffer as it is to be.
 use Prim.Native.Nat.{ℕ}
-use mathlib.Core.Path.{_≡_, _∙_}
+use mathlib.Core.Path.{_≡_, sym, ap, _∙_}
 use mathlib.Core.Bool.{false}
 use mathlib.Core.List.{List}
 use lib.ListN.{length}
 use Rattle.base.specs.declared.Refusal.{Refusal}
-use Rattle.base.specs.Cases.{isRefused}
+use Rattle.base.specs.Cases.{Case, isRefused}
 use Rattle.relation.specs.declared.Relation.{Relation}
 use Rattle.search.specs.declared.Answer.{Answer}
 use Rattle.search.specs.declared.Mark.the-variants.{Refused}
 use Rattle.search.specs.Cases.{markCase, searchReply}
 use Rattle.search.specs.Reply.{searchOf}
 use Rattle.sheet.specs.declared.Answer.the-variants.{Accepted, Refused as SheetRefused}
+use Rattle.stage.specs.declared.writer.Written.{Written}
+use Rattle.stage.specs.declared.writer.Written.the-variants.{Length, Refused as NotWritten}
+use Rattle.stage.specs.Cases.{writtenCase}
 use Rattle.stage.specs.Written.{writtenOf, bufferAfter}
 use Rattle.unit.specs.declared.Formed.{Formed}
 use Rattle.unit.specs.Cases.{formedReply}
@@ -20,6 +23,17 @@ use Rattle.quote.specs.Cases.{QuoteReply}
 use Rattle.quote.specs.Quote.{refusedQuote, withStage, searched, bufferSearched, quotedFrom, quotedOf, bufferFrom, bufferQuoted}
 use Rattle.quote.specs.Promised.{Promised}
 use Rattle.quote.proofs.Demand.{promised}
+
+-- the writer's answer taken over
+module _ (a : Answer) (w : Written) {x : Case} (e : writtenCase w ≡ x) where
+  pub with-length : (k : ℕ) → w ≡ Length k
+      → _≡_ {A = QuoteReply} (record { cells = a .cells; floor = a .floor; visits = a .visits; length = k; mark = markCase (a .mark) }) (withStage (searchReply a) x)
+  unfolding withStage
+  with-length k d = rw (← (ap writtenCase (sym d) ∙ e))
+
+  pub with-refusal : {q : QuoteReply} (f : Refusal) → w ≡ NotWritten f → q ≡ refusedQuote f → q ≡ withStage (searchReply a) x
+  unfolding withStage
+  with-refusal f d eq = eq ∙ rw (← (ap writtenCase (sym d) ∙ e))
 
 module _ (r : Relation) (budget : ℕ) (buffer : List ℕ) (a : Answer) (ea : searchReply a ≡ searchOf r budget) where
   -- the search has a stage
