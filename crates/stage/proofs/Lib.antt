@@ -7,4 +7,5 @@ pub mod Ends
 pub mod Tables
 pub mod Places
 pub mod Gather
+pub mod RoundTrip
 pub mod Rows

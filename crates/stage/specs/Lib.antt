@@ -4,3 +4,4 @@ pub mod Cases
 pub mod Written
 pub mod Read
 pub mod Reply
+pub mod RoundTrip
