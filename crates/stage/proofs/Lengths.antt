@@ -12,7 +12,7 @@ use Rattle.table.specs.Tree.{Tree, con, sel, selectors, reduced}
 use Rattle.table.proofs.Bits.{sum-bound}
 use Rattle.table.proofs.Cells.{cells-lt}
 use Rattle.table.proofs.Trees.{reduced-selectors}
-use Rattle.stage.specs.Bytes.{treeBytes, wireBytes, stageBytes, size}
+use Rattle.stage.specs.Bytes.{treeBytes, wireBytes, stageBytes, size, longestStage}
 use Rattle.stage.specs.Written.{stageTrees, stageOf, stageCells, wireOf}
 
 -- a tree takes a byte, and three more for each selector
@@ -62,7 +62,7 @@ pub stage-cells-few : (n m : ℕ) (tables : List ℕ) → n ≤ 4 → stageCells
 unfolding stageCells
 stage-cells-few n m tables h = sum-bound m 15 (λ j. cells n (getD tables j 0)) (λ j _. cells-few n (getD tables j 0) h)
 
-pub stage-length-most : (n m : ℕ) (tables : List ℕ) → m ≤ length tables → n ≤ 4 → m ≤ 4 → length (stageOf n m tables) ≤ 196
+pub stage-length-most : (n m : ℕ) (tables : List ℕ) → m ≤ length tables → n ≤ 4 → m ≤ 4 → length (stageOf n m tables) ≤ longestStage
 stage-length-most n m tables h a b = omega (arith, stage-length n m tables h, stage-cells-few n m tables a)
 
 -- one wire's part of a stage

@@ -8,4 +8,5 @@ pub mod Tables
 pub mod Places
 pub mod Gather
 pub mod RoundTrip
+pub mod Prefix
 pub mod Rows

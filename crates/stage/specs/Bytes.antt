@@ -32,3 +32,7 @@ AllOrdered n (x ∷ xs) = Ordered n 0 x × AllOrdered n xs
 unfoldable pub size : List Tree → ℕ
 size [] = zero
 size (x ∷ xs) = selectors x + size xs
+
+-- the length of the longest stage: four wires of 15 selectors each
+abbrev pub longestStage : ℕ
+longestStage = 196
