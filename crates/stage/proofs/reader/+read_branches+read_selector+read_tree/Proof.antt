@@ -1,11 +1,11 @@
 -- `read_tree`, `read_selector` and `read_branches` meet their contracts: what they hand back is told by the tree that the meaning takes.
 -- The measure: the inputs that are left fall at each selector.
-use Prim.Native.Nat.{_+_, _*_, _-_}
+use Prim.Native.Nat.{_+_, _*_, _-_, _≤_}
 use mathlib.Core.Path.{sym, ap, _∙_}
 use native.Mathlib.Omega.{arith}
 use borrow.Author.Needs.{needs}
 use borrow.Author.Tests.{lt-ltb, le-ltb, le-leb, eq-eqb, ne-eqb}
-use lib.ListN.{drop}
+use lib.ListN.{getD, drop}
 use Rattle.table.specs.Tree.{selectors}
 use Rattle.stage.specs.Read.{fault, selectorAt, treeFrom}
 use Rattle.stage.specs.Reply.{stepOf}
@@ -125,7 +125,9 @@ read-branches-select-requires t c κs =
     let fo = c .before in
     let second = sym (fo .for-one .given .1) ∙ fo .before .before .read-tree2 .ensures in
     let p = s .pre .1 in
-    (p .0, p .1, p .2, tree-bounds (a .s .now) (a .n) (a .i) (a .at) _ _ _ (s .pre .1 .1) (s .pre .1 .2) first .0, tree-bounds (a .s .now) (a .n) (a .i) _ _ _ _ (s .pre .1 .1) (s .pre .1 .2) second .0)
+    let fits-off = tree-bounds (a .s .now) (a .n) (a .i) (a .at) _ _ _ (p .1) (p .2) first .0 in
+    let fits-on = tree-bounds (a .s .now) (a .n) (a .i) _ _ _ _ (p .1) (p .2) second .0 in
+    (p .0, p .1, p .2, omega (arith, fits-off, fits-on), omega (arith, fits-off, fits-on))
 
 read-branches-add-t14 : (t : ℕ) → read-branches-lts.Need-add-t14 (read-branches-claims t) (read-branches-at t) read-branches.Post
 read-branches-add-t14 t c =
@@ -207,7 +209,8 @@ read-selector-returns-4 t c =
     let i2 = i3 .before in
     let e1 = i2 .before .before in
     let a = e1 .before .before .args in
-    rw (selector-goes (a .s .now) (a .n) (a .k) (a .at) (e1 .if1 .left), ne-eqb _ _ (i2 .if2 .left), le-ltb _ _ (i3 .if3 .left), le-leb _ _ (i4 .if4 .taken))
+    let not-above : getD (a .s .now) (a .at + 1) 0 ≤ a .k = i4 .if4 .taken in
+    rw (selector-goes (a .s .now) (a .n) (a .k) (a .at) (e1 .if1 .left), ne-eqb _ _ (i2 .if2 .left), le-ltb _ _ (i3 .if3 .left), le-leb _ _ not-above)
     (ap TreeRefused (c .at4 .ensures))
 
 read-selector-add-read-branches : (t : ℕ) → read-selector-lts.Need-add-read-branches (read-selector-claims t) (read-selector-at t) read-selector.Post
