@@ -1,4 +1,4 @@
--- Laws of the length of a stage: "length 4 + 3 × m + 3 × cells, at most 196".
+-- Laws of the length of a stage (document 01, "Stage sheet"): four bytes for the head and the end, three for each wire and three for each cell.
 use Prim.Native.Nat.{ℕ, zero, suc, _+_, _*_, _^_, _≤_}
 use mathlib.Core.Path.{_≡_, refl, _∙_}
 use mathlib.Core.List.{List, [], _∷_, _++_, map, map-append}
@@ -48,7 +48,7 @@ trees-size n (suc m) tables h =
     rw (take-suc tables m 0 h, map-append (reduced n 0) (take m tables) (t ∷ []))
     (omega (arith, size-append (map (reduced n 0) (take m tables)) (reduced n 0 t ∷ []), trees-size n m tables (omega arith), reduced-selectors n 0 t))
 
--- the law of document 01
+-- the length by wires and cells, and its bound
 pub stage-length : (n m : ℕ) (tables : List ℕ) → m ≤ length tables → length (stageOf n m tables) ≡ 4 + 3 * m + 3 * stageCells n m tables
 unfolding stageOf
 stage-length n m tables h =

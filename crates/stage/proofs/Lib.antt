@@ -1,4 +1,5 @@
 pub mod Ranges
+pub mod Cases
 pub mod Lengths
 pub mod Writing
 pub mod Reading

@@ -1,5 +1,5 @@
--- Demand 2, the round trip: a stage that is written and then read is the same function with the same cells. It is told by what the writer leaves in the buffer and
--- by what the reader replies to it.
+-- Demand 2, the round trip: reading undoes writing. It is told by what the writer leaves in the buffer and by what the reader replies to that: the tables that
+-- were handed to the writer, and their cells.
 use Prim.Native.Nat.{ℕ}
 use mathlib.Core.Path.{_≡_}
 use mathlib.Core.Bool.{cond, not}

@@ -147,7 +147,7 @@ fn stage_length(m: u8, cells: u8) -> usize
     4 + 3 * (m as usize) + 3 * (cells as usize)
 }
 
-// Writes a stage at the start of a buffer; a refusal changes no byte, and later bytes stay.
+// Writes a stage at the start of a buffer and changes nothing behind it; a refusal changes nothing at all.
 pub fn write_stage(n: u8, m: u8, tables: [u16; 4], buffer: &mut [u8]) -> Written
     ensures { λ r. ⌜ (writtenCase r ≡ writtenOf n m tables (length (now (buffer .entry)))) × (now (buffer .exit) ≡ bufferAfter n m tables (now (buffer .entry))) ⌝ }
 {
