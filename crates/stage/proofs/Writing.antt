@@ -95,7 +95,7 @@ unfolding stageOf stageBytes wiresOf
 stage-stored l b1 b2 b3 b4 b5 tables n m at e1 e2 e3 e4 e5 e6 =
     cc (sets-append (set (set (set l 0 0x20) 1 n) 2 m) 3 (wireBytes 0 (stageTrees n m tables)) (0x2F ∷ []))
 
--- a run of bytes stored at the start of a buffer that is long enough: the bytes, and the later bytes
+-- a run of bytes stored at the start of a buffer that is long enough: the bytes, and what was behind their places
 pub front : (l b s : List ℕ) → length s ≤ length l → b ≡ sets l 0 s → b ≡ s ++ drop (length s) l
 front l b s h e = e ∙ sets-eq s l 0 (rw (zero-add (length s)) h) ∙ simp zero-add
 

@@ -21,6 +21,7 @@ abbrev pub writtenCase : Written → Case
 writtenCase (Length k) = accepting acceptedOutcome k
 writtenCase (NotWritten f) = refusedCase f
 
+-- a stage sheet: its sizes, tables and cells, and the case of the answer
 pub record StageReply : Type 0 where
   pub n : ℕ
   pub m : ℕ

@@ -18,7 +18,7 @@ use Rattle.stage.specs.Written.{stageCells, writtenOf, bufferAfter}
 abbrev pub bytesWritten : ℕ → ℕ → List ℕ → List ℕ → List ℕ
 bytesWritten n m tables buffer = take (writtenOf n m tables (length buffer) .value) (bufferAfter n m tables buffer)
 
--- the reply that gives all of it back: the sizes, the table of each wire (0 past wire m - 1), the cells, and nothing refused
+-- the reply that gives all of it back: the sizes, the table of each of the m wires (0 for those that the stage lacks), the cells, and nothing refused
 abbrev pub givenBack : ℕ → ℕ → List ℕ → StageReply
 givenBack n m tables =
     record {

@@ -32,15 +32,15 @@ stageOf n m tables = stageBytes n m (stageTrees n m tables)
 unfoldable pub stageCells : ℕ → ℕ → List ℕ → ℕ
 stageCells n m tables = sum m (λ j. cells n (getD tables j 0))
 
--- a table too large for n inputs
+-- a table with bits past the patterns of n inputs
 abbrev pub tableOut : ℕ → ℕ → Bool
 tableOut n t = leb (2 ^ (2 ^ n)) t
 
--- the lowest wire whose table is too large; m where there is none
+-- the first wire with such a table; m where there is none
 unfoldable pub firstOut : ℕ → ℕ → List ℕ → ℕ
 firstOut n m tables = lowest m (λ j. tableOut n (getD tables j 0))
 
--- Refused are, in this order: sizes out of range, at place 0; a table with bits past the patterns of n inputs, at the first such wire; a buffer without the room, at the
+-- Refused are, in this order: sizes out of range, at place 0; a table with bits past the patterns, at its wire; a buffer without the room, at the
 -- room that is needed. Otherwise the answer is the stage's length.
 unfoldable pub writtenOf : ℕ → ℕ → List ℕ → ℕ → Case
 writtenOf n m tables room =

@@ -14,20 +14,6 @@ use Rattle.stage.proofs.Ranges.{Sized, sizes-in}
 use Rattle.stage.proofs.Writing.{tables-in, sizes-refused, table-refused, short-refused, room-accepted, kept, written}
 use Rattle.stage.proofs.writer.write_stage.Statement.{statement}
 use Rattle.stage.proofs.writer.write_stage.Tie as tie
--- `write_stage` meets its contract: each test in its order, and the length that is computed is the stage's.
-use Prim.Native.Nat.{_≤_}
-use mathlib.Core.Path.{_≡_, sym, _∙_}
-use native.Mathlib.Omega.{arith}
-use lib.ListN.{length}
-use borrow.Author.Needs.{needs}
-use borrow.Author.Tests.{lt-ltb, le-ltb}
-use Rattle.base.specs.Cases.{accepting, acceptedOutcome, refusedCase}
-use Rattle.stage.specs.Written.{stageOf, writtenOf}
-use Rattle.stage.proofs.Lengths.{stage-length}
-use Rattle.stage.proofs.Ranges.{Sized, sizes-in}
-use Rattle.stage.proofs.Writing.{tables-in, kept, written}
-use Rattle.stage.proofs.writer.write_stage.Statement.{statement}
-use Rattle.stage.proofs.writer.write_stage.Tie as tie
 
 sizes : (c : tie.Else1) → sizesOut (c .before .before .before .args .n) (c .before .before .before .args .m) ≡ false
 sizes c = sym (c .before .sizes-out .ensures) ∙ c .if1 .left
