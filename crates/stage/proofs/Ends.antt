@@ -1,18 +1,17 @@
 -- Laws of the end of a stage sheet: it is told alike in whatever it is told by, in the reader's answer too.
 use Prim.Native.Nat.{ℕ}
-use mathlib.Core.Path.{_≡_, refl, sym, ap, ap₂, _∙_}
+use mathlib.Core.Path.{_≡_, refl, sym, ap, _∙_}
 use mathlib.Core.Bool.{Bool, true, false, cond}
 use mathlib.Core.List.{List, [], _∷_}
-use native.Mathlib.Omega.{arith}
 use lib.Dec.{eqb}
 use lib.ListN.{drop}
 use Rattle.base.specs.declared.Refusal.{Refusal}
-use Rattle.base.specs.Refusals.{refusalAt}
-use Rattle.base.specs.Cases.{Case, acceptedCase, refusedCase}
+use Rattle.base.specs.Cases.{acceptedCase, refusedCase}
 use Rattle.stage.specs.Cases.{answerCase}
 use Rattle.stage.specs.Read.{dueNumber, due, nothingAfter, endAt}
 use Rattle.stage.specs.declared.reader.Answer.{Answer}
 use Rattle.stage.specs.declared.reader.Answer.the-variants.{Accepted, Refused}
+use Rattle.stage.proofs.Cases.{answer-one}
 
 module _ {A B : Type 0} (h : A → B) (stop : Refusal → A) where
   cond-map : (b : Bool) (x y : A) → h (cond b x y) ≡ cond b (h x) (h y)
@@ -32,14 +31,6 @@ module _ {A B : Type 0} (h : A → B) (stop : Refusal → A) where
 abbrev pub told : {A : Type 0} → (Refusal → A) → A → Answer → A
 told stop whole Accepted = whole
 told stop whole (Refused f) = stop f
-
--- the case of an answer tells it
-pub answer-one : (a b : Answer) → answerCase a ≡ answerCase b → a ≡ b
-answer-one Accepted Accepted e = refl
-answer-one Accepted (Refused g) e = absurd (omega (arith, ap (λ (c : Case). c .outcome) e))
-answer-one (Refused f) Accepted e = absurd (omega (arith, ap (λ (c : Case). c .outcome) e))
-answer-one (Refused f) (Refused g) e =
-    ap Refused (ap₂ refusalAt (ap (λ (c : Case). c .number) e) (ap (λ (c : Case). c .place) e))
 
 pub end-answer : {A : Type 0} (stop : Refusal → A) (whole : A) (at : ℕ) (bytes : List ℕ) (a : Answer)
     → answerCase a ≡ endAt refusedCase acceptedCase at bytes → told stop whole a ≡ endAt stop whole at bytes

@@ -14,11 +14,10 @@ use Rattle.base.specs.Sizes.{sizesOut, maxWires}
 use Rattle.table.specs.Bits.{row}
 use Rattle.table.specs.Tree.{Tree, selectors}
 use Rattle.stage.specs.Bytes.{treeBytes, size}
-use Rattle.stage.specs.Cases.{StageReply, answerCase}
+use Rattle.stage.specs.Cases.{StageReply, answerCase, takenTree, refusedTree}
 use Rattle.stage.specs.Read.{Read, taken, fault, andThen, dueNumber, operand, readStage, wireAt, wiresAt, endAt, StageSheet, got, refused, closed}
 use Rattle.stage.specs.Reply.{tableOf, tablesOf, refusedReply, replyOf, stepOf}
 use Rattle.stage.specs.declared.reader.Answer.{Answer}
-use Rattle.stage.specs.declared.reader.TreeStep.the-variants.{Tree as TreeTaken, Refused as TreeRefused}
 use Rattle.stage.proofs.Sheets.{ToldWire, wire-told, ToldWires, wires-told}
 use Rattle.stage.proofs.Ends.{end-map, told, end-answer}
 use Rattle.stage.proofs.Tables.{selectors-few}
@@ -32,7 +31,7 @@ wire-goes-on s n m j at = go (wireAt n m j at (drop at s)) (wire-told n m j at (
     go (fault f) h = tt
     go (taken x next rest) h = (after-part s at next (0x21 ∷ j ∷ treeBytes x) rest (h .0) (omega (arith, h .1)), h .2)
 
-module _ (s : List ℕ) (n m j at t c next : ℕ) (e : TreeTaken t c next ≡ stepOf n (wireAt n m j at (drop at s))) where
+module _ (s : List ℕ) (n m j at t c next : ℕ) (e : takenTree t c next ≡ stepOf n (wireAt n m j at (drop at s))) where
   wire-took : Took (wireAt n m j at (drop at s)) s n 0 t c next
   wire-took = took s n 0 t c next (wireAt n m j at (drop at s)) (wire-goes-on s n m j at) e
 
@@ -83,11 +82,11 @@ module _ (s : List ℕ) (n m j at : ℕ) (tables : List ℕ) (cells : ℕ) (g : 
       rw (add-one j) (rw (step l, w .is, add-one j) at so-far) in
       rw (w .table, w .cells, add-one j) (sym (closed-more tables cells n m j x (left s n m (suc j) next)) ∙ rw (add-one j) at e)
 
-  pub goes-on : (t c next : ℕ) → j < m → TreeTaken t c next ≡ stepOf n (wireAt n m j at (drop at s))
+  pub goes-on : (t c next : ℕ) → j < m → takenTree t c next ≡ stepOf n (wireAt n m j at (drop at s))
       → replyWith (set tables j t) (cells + c) (j + 1) (closed n m (left s n m (j + 1) next)) ≡ g
   goes-on t c next l read = goes-on-took t c next l (wire-took s n m j at t c next read)
 
-  pub stops : (f : Refusal) → j < m → TreeRefused f ≡ stepOf n (wireAt n m j at (drop at s)) → refusedReply f ≡ g
+  pub stops : (f : Refusal) → j < m → refusedTree f ≡ stepOf n (wireAt n m j at (drop at s)) → refusedReply f ≡ g
   unfolding wiresAt andThen closed replyWith
   stops f l e = rw (step l, fell n f (wireAt n m j at (drop at s)) e) at so-far
 

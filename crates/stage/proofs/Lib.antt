@@ -1,4 +1,5 @@
 pub mod Ranges
+pub mod Cases
 pub mod Lengths
 pub mod Writing
 pub mod Reading
@@ -7,4 +8,6 @@ pub mod Ends
 pub mod Tables
 pub mod Places
 pub mod Gather
+pub mod RoundTrip
+pub mod Prefix
 pub mod Rows

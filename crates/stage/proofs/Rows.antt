@@ -22,7 +22,7 @@ unfoldable writing : ℕ
 unfolding lowest low high reduced treeBytes wireBytes stageBytes stageTrees stageOf firstOut writtenOf
 writing = 0
 
--- "20 02 02 21 00 22 01 24 23 21 01 22 02 23 24 2F"
+-- document 01, "Bench sheets": the stage that the program prints for sheet A
 abbrev stage-a : List ℕ
 stage-a =
     0x20 ∷ 0x02 ∷ 0x02 ∷ 0x21 ∷ 0x00 ∷ 0x22 ∷ 0x01 ∷ 0x24 ∷ 0x23 ∷ 0x21 ∷ 0x01 ∷ 0x22 ∷ 0x02 ∷ 0x23 ∷ 0x24 ∷ 0x2F ∷ []
@@ -43,7 +43,7 @@ pub a-bytes : stageOf 2 2 (3 ∷ 10 ∷ 0 ∷ 0 ∷ []) ≡ stage-a
 unfolding writing
 a-bytes = refl
 
--- "A with a 15-byte buffer: 12, place 16; with 16: accepted"
+-- its writing, in a buffer that lacks one byte and in one that has just enough
 pub a-short : writtenOf 2 2 (3 ∷ 10 ∷ 0 ∷ 0 ∷ []) 15 ≡ refusedCase (refusalAt shortBuffer 16)
 unfolding writing
 a-short = refl

@@ -1,4 +1,4 @@
--- What the stage reader hands back: "takes any ordered tree and counts its selectors as cells".
+-- Document 01, "Stage sheet": what the stage reader hands back, the truth table of each tree that it took and the selectors of all of them.
 use Prim.Native.Nat.{ℕ, _^_, _-_}
 use mathlib.Core.Bool.{cond}
 use mathlib.Core.List.{List, map}
@@ -10,10 +10,8 @@ use Rattle.base.specs.Sizes.{maxWires}
 use Rattle.table.specs.Bits.{bit, ofBits, row}
 use Rattle.table.specs.Tree.{Tree, follow, selectors}
 use Rattle.stage.specs.Bytes.{size}
-use Rattle.stage.specs.Cases.{StageReply}
+use Rattle.stage.specs.Cases.{StageReply, TreeReply, takenTree, refusedTree}
 use Rattle.stage.specs.Read.{Read, taken, fault, StageSheet, got, refused}
-use Rattle.stage.specs.declared.reader.TreeStep.{TreeStep}
-use Rattle.stage.specs.declared.reader.TreeStep.the-variants.{Tree as TreeTaken, Refused as TreeRefused}
 
 -- the truth table of a tree: bit p is the constant that is reached on pattern p
 unfoldable pub tableOf : ℕ → Tree → ℕ
@@ -27,7 +25,7 @@ columnOf j = ofBits 16 (λ p. bit p j)
 unfoldable pub selectOf : ℕ → ℕ → ℕ → ℕ → ℕ
 selectOf n i off on = ofBits (2 ^ n) (λ p. cond (eqb (bit p (n - i)) 0) (bit off p) (bit on p))
 
--- four tables, "0 past wire m−1"
+-- a table for each of four wires; 0 for a wire that the sheet does not have
 unfoldable pub tablesOf : ℕ → List Tree → List ℕ
 tablesOf n trees = row maxWires (λ j. getD (map (tableOf n) trees) j 0)
 
@@ -40,6 +38,6 @@ replyOf (got n m trees) = record { n = n; m = m; tables = tablesOf n trees; cell
 replyOf (refused f) = refusedReply f
 
 -- what the reader of one tree hands back: its table, its selectors, and the place after it
-unfoldable pub stepOf : ℕ → Read Tree → TreeStep
-stepOf n (taken x next rest) = TreeTaken (tableOf n x) (selectors x) next
-stepOf n (fault f) = TreeRefused f
+unfoldable pub stepOf : ℕ → Read Tree → TreeReply
+stepOf n (taken x next rest) = takenTree (tableOf n x) (selectors x) next
+stepOf n (fault f) = refusedTree f

@@ -13,7 +13,7 @@ use Rattle.table.specs.Cells.{cells}
 use Rattle.table.specs.Tree.{Tree, reduced}
 use Rattle.stage.specs.Bytes.{treeBytes, wireBytes, stageBytes}
 
--- "The writer emits the reduced tree of 'Cells'"; "tables past wire m−1 aren't read"
+-- the trees that are written: the reduced tree of each of the first m tables; the other tables have no part in it
 unfoldable pub stageTrees : ℕ → ℕ → List ℕ → List Tree
 stageTrees n m tables = map (reduced n 0) (take m tables)
 
@@ -28,19 +28,20 @@ wiresOf n m tables = wireBytes 0 (stageTrees n m tables)
 unfoldable pub stageOf : ℕ → ℕ → List ℕ → List ℕ
 stageOf n m tables = stageBytes n m (stageTrees n m tables)
 
--- "A stage's cells are the sum over its wires."
+-- document 01, "Cells": the cells of all wires together
 unfoldable pub stageCells : ℕ → ℕ → List ℕ → ℕ
 stageCells n m tables = sum m (λ j. cells n (getD tables j 0))
 
--- a table too large for n inputs
+-- a table with bits past the patterns of n inputs
 abbrev pub tableOut : ℕ → ℕ → Bool
 tableOut n t = leb (2 ^ (2 ^ n)) t
 
--- the lowest wire whose table is too large; m where there is none
+-- the first wire with such a table; m where there is none
 unfoldable pub firstOut : ℕ → ℕ → List ℕ → ℕ
 firstOut n m tables = lowest m (λ j. tableOut n (getD tables j 0))
 
--- "The stage writer tests sizes (3, place 0), tables too large for n (3, lowest wire), then 12" with "place: length needed"
+-- Refused are, in this order: sizes out of range, at place 0; a table with bits past the patterns, at its wire; a buffer without the room, at the
+-- room that is needed. Otherwise the answer is the stage's length.
 unfoldable pub writtenOf : ℕ → ℕ → List ℕ → ℕ → Case
 writtenOf n m tables room =
     cond (sizesOut n m) (refusedCase (refusalAt outOfRange 0))
@@ -48,7 +49,7 @@ writtenOf n m tables room =
     (cond (ltb room (length (stageOf n m tables))) (refusedCase (refusalAt shortBuffer (length (stageOf n m tables))))
     (accepting acceptedOutcome (length (stageOf n m tables)))))
 
--- the stage "at the start of the lent buffer; later bytes stay"; a refusal "writes nothing"
+-- the stage in front and the rest of the buffer unchanged behind it; after a refusal the buffer is as it was
 abbrev pub bufferWith : List ℕ → List ℕ → Case → List ℕ
 bufferWith stage buffer c = cond (isRefused c) buffer (stage ++ drop (c .value) buffer)
 

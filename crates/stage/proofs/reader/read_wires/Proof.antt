@@ -1,11 +1,12 @@
 -- `read_wires` meets its contract. The loop's invariant: what is left to read, on what is gathered, gives the whole reply.
 use Prim.Native.Nat.{_*_, _-_, _≤_}
-use mathlib.Core.Path.{_≡_, refl, sym, _∙_}
+use mathlib.Core.Path.{_≡_, refl, sym, ap, _∙_}
 use native.Mathlib.Nat.{sub-zero, add-zero}
 use native.Mathlib.Omega.{arith}
 use borrow.Author.Needs.{needs}
 use lib.ListN.{length, length-set}
 use Rattle.stage.specs.Bytes.{size}
+use Rattle.stage.specs.Cases.{treeReply}
 use Rattle.stage.specs.Read.{closed}
 use Rattle.stage.specs.Reply.{replyOf}
 use Rattle.stage.proofs.Gather.{filled, replyWith, left, wire-few, goes-on, stops, ends, from-nothing}
@@ -50,7 +51,7 @@ add-cells c =
     let l = i .before .loop in
     let st = i .before .before .before in
     let a = st .args in
-    let read = sym (w .wire .given .1) ∙ r .read-wire .ensures in
+    let read = ap treeReply (sym (w .wire .given .1)) ∙ r .read-wire .ensures in
     let few = wire-few (a .s .now) (a .n) (a .m) (l .j) (l .at) _ _ _ read (st .pre .0) in
     omega (arith, few, l .inv, st .pre, i .loop-test .taken)
 
@@ -69,7 +70,7 @@ returns c =
     let a = i .before .before .before .args in
     c .refused .ensures
     ∙ stops (a .s .now) (a .n) (a .m) (l .j) (l .at) (l .tables) (l .cells) _ (l .inv .3) _ (i .loop-test .taken)
-    (sym (w .wire2 .given .1) ∙ r .read-wire .ensures)
+    (ap treeReply (sym (w .wire2 .given .1)) ∙ r .read-wire .ensures)
     ∙ rw sub-zero
 
 add-j : tie.Need-add-j Inv-loop μ-loop
@@ -86,7 +87,7 @@ loop-again c =
     let l = i .before .loop in
     let st = i .before .before .before in
     let a = st .args in
-    let read = sym (w .wire .given .1) ∙ r .read-wire .ensures in
+    let read = ap treeReply (sym (w .wire .given .1)) ∙ r .read-wire .ensures in
     let few = wire-few (a .s .now) (a .n) (a .m) (l .j) (l .at) _ _ _ read (st .pre .0) in (
       omega arith,
       omega (arith, few, l .inv),
