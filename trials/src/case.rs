@@ -167,17 +167,17 @@ fn untouched(bytes: &[u8]) -> &'static str {
     }
 }
 
-fn pairs(bytes: &[u8]) -> String {
+pub fn pairs(bytes: &[u8]) -> String {
     let pairs: Vec<String> = bytes.iter().map(|b| format!("{b:02X}")).collect();
     pairs.join(" ")
 }
 
-fn refused(r: &Refusal) -> String {
+pub fn refused(r: &Refusal) -> String {
     format!("refused {} at {}", r.number, r.place)
 }
 
 /// "cells C floor F visits V best" (or "stopped").
-fn found(a: &Answer) -> String {
+pub fn found(a: &Answer) -> String {
     let mark = if a.stopped { "stopped" } else { "best" };
     format!("cells {} floor {} visits {} {mark}", a.cells, a.floor, a.visits)
 }

@@ -7,6 +7,7 @@
 //! * `fast`: the same search as `search`, tuned for speed, for the benchmark.
 //! * `random`, `draw`, `rows`, `plan`: the cases, from a fixed seed.
 //! * `case`, `check`: a case's record and reply, and what must hold of it.
+//! * `program`: the built program, run as a process.
 
 // Patterns and wires are numbers here; loops go over the numbers.
 #![allow(clippy::needless_range_loop)]
@@ -20,6 +21,7 @@ pub mod fast;
 pub mod least;
 pub mod pick;
 pub mod plan;
+pub mod program;
 pub mod quote;
 pub mod random;
 pub mod refusal;

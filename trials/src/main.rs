@@ -1,11 +1,13 @@
 //! `trials write DIR` writes DIR/stdin and DIR/stdout; `trials count` prints
-//! how many cases there are of each kind and refusal.
+//! how many cases there are of each kind and refusal; `trials program PATH`
+//! runs the built program as a process and compares what it writes.
 
 use std::path::Path;
 use std::process::ExitCode;
 use trials::check::Checker;
 use trials::pick::Picker;
 use trials::plan::cases;
+use trials::program::Outcomes;
 use trials::tally::Tally;
 
 fn main() -> ExitCode {
@@ -14,8 +16,9 @@ fn main() -> ExitCode {
     match words[..] {
         ["write", directory] => write(Path::new(directory)),
         ["count"] => count(),
+        ["program", path] => program(Path::new(path)),
         _ => {
-            eprintln!("trials write DIR | trials count");
+            eprintln!("trials write DIR | trials count | trials program PATH");
             ExitCode::from(2)
         }
     }
@@ -58,4 +61,25 @@ fn count() -> ExitCode {
     let (held, left) = (checker.checked.held, checker.checked.left);
     println!("searches held against the second solver: {held}, too long for it: {left}");
     ExitCode::SUCCESS
+}
+
+/// The first differences are printed; there should be none.
+fn program(path: &Path) -> ExitCode {
+    let outcomes = match trials::program::run(path) {
+        Ok(outcomes) => outcomes,
+        Err(error) => {
+            eprintln!("{}: {error}", path.display());
+            return ExitCode::FAILURE;
+        }
+    };
+    for fault in outcomes.faults.iter().take(10) {
+        eprintln!("{fault}");
+    }
+    let Outcomes { quotes, audits, complaints, faults } = outcomes;
+    println!("program: {quotes} quotes, {audits} audits, {complaints} complaints, {} not as expected", faults.len());
+    if faults.is_empty() {
+        ExitCode::SUCCESS
+    } else {
+        ExitCode::FAILURE
+    }
 }

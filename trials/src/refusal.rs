@@ -19,6 +19,7 @@ pub const EMPTY: u8 = 10;
 pub const NOT_ASCENDING: u8 = 11;
 pub const SHORT_BUFFER: u8 = 12;
 pub const SIZES_DIFFER: u8 = 13;
+pub const TOO_LONG: u8 = 14;
 
 /// Ends a reading with a refusal.
 pub fn refuse<T>(number: u8, place: usize) -> Result<T, Refusal> {

@@ -1,29 +1,50 @@
--- Document 01, "Quote, audit, program": "The program reads a sheet from standard input, budget 10,000, and prints the line .."
+-- Document 01, "Quote, audit, program": what the program prints for a sheet, and for a sheet and a stage.
 use Prim.Native.Nat.{ℕ}
-use mathlib.Core.Bool.{cond}
-use mathlib.Core.List.{List}
+use mathlib.Core.Bool.{Bool, cond}
+use mathlib.Core.List.{List, []}
 use lib.Dec.{ltb}
 use lib.ListN.{length, replicate}
-use Rattle.base.specs.Refusals.{refusalAt, tooLong}
-use Rattle.quote.specs.declared.Quoted.{Quoted}
-use Rattle.quote.specs.Quote.{refusedQuote, quotedOf, bufferQuoted}
-use Rattle.report.specs.Lines.{linesOf}
+use Rattle.base.specs.Cases.{Case}
+use Rattle.base.specs.Refusals.{tooLong}
+use Rattle.quote.specs.Cases.{QuoteReply, quoteReply, auditedCase}
+use Rattle.quote.specs.Quote.{quotedOf, bufferQuoted}
+use Rattle.quote.specs.Audit.{auditedOf}
+use Rattle.report.specs.Lines.{sheetText, longestStage, refusalLine, linesOf, auditLine}
 
+-- the most bytes that the program takes as a sheet
 abbrev pub longestSheet : ℕ
 longestSheet = 4096
 
+-- the budget of the program's quotes
 abbrev pub budget : ℕ
 budget = 10000
 
--- room for the longest stage: "at most 196"
+-- the buffer that the program lends to the quote: room for the longest stage
 abbrev pub room : List ℕ
-room = replicate 196 0
+room = replicate longestStage 0
 
--- "14 (program only) more than 4,096 bytes; place 4,096"
-abbrev pub tooLongQuote : Quoted
-tooLongQuote = refusedQuote (refusalAt tooLong longestSheet)
+-- Document 01, "Refusals", 14: the program's own, and before all others
+abbrev pub isTooLong : List ℕ → Bool
+isTooLong sheet = ltb longestSheet (length sheet)
 
+-- its line, after the word for what is refused, if there is one
+abbrev pub tooLongLine : List ℕ → List ℕ
+tooLongLine whose = refusalLine whose tooLong longestSheet
+
+abbrev pub quoted : List ℕ → QuoteReply
+quoted sheet = quoteReply (quotedOf sheet budget (length room))
+
+-- the lines for a sheet
 unfoldable pub printedOf : List ℕ → List ℕ
 printedOf sheet =
-    let lines = linesOf (quotedOf sheet budget (length room)) (bufferQuoted sheet budget room) in
-    cond (ltb longestSheet (length sheet)) (linesOf tooLongQuote room) lines
+    let lines = linesOf (quoted sheet) (bufferQuoted sheet budget room) in
+    cond (isTooLong sheet) (tooLongLine []) lines
+
+abbrev pub audited : List ℕ → List ℕ → Case
+audited sheet stage = auditedCase (auditedOf sheet stage)
+
+-- the line for a sheet and a stage
+unfoldable pub auditPrintedOf : List ℕ → List ℕ → List ℕ
+auditPrintedOf sheet stage =
+    let line = auditLine (audited sheet stage) in
+    cond (isTooLong sheet) (tooLongLine sheetText) line

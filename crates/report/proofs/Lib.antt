@@ -1,5 +1,4 @@
 pub mod Stores
 pub mod Decimal
 pub mod Pairs
-pub mod Longest
 pub mod Rows

@@ -1,4 +1,4 @@
--- Laws of hexadecimal pairs: one pair more, and their count.
+-- Laws of hexadecimal pairs: none, the first, and one more.
 use Prim.Native.Nat.{ℕ, _+_, _*_, _<_, _≤_}
 use mathlib.Core.Path.{_≡_, refl}
 use mathlib.Core.List.{List, [], _∷_, _++_}
@@ -16,16 +16,6 @@ further-last : (b : ℕ) (s : List ℕ) → furtherPairs (s ++ b ∷ []) ≡ fur
 unfolding furtherPairs hexPair
 further-last b [] = refl
 further-last b (a ∷ s) = rw (further-last b s)
-
-further-length : (s : List ℕ) → length (furtherPairs s) ≡ 3 * length s
-unfolding furtherPairs hexPair
-further-length [] = refl
-further-length (a ∷ s) = omega (arith, further-length s)
-
-pub pairs-length : (s : List ℕ) → length (hexPairs s) ≤ 3 * length s
-unfolding hexPairs hexPair
-pairs-length [] = omega arith
-pairs-length (a ∷ s) = omega (arith, further-length s)
 
 -- the pairs of no byte, and of some
 pub pairs-none : (s : List ℕ) → length s ≡ 0 → hexPairs s ≡ []

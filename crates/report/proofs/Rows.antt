@@ -1,15 +1,17 @@
--- Worked rows, computed from the meanings: document 01's lines for bench sheet A, a refusal, and some decimals.
+-- Worked rows, computed from the meanings: some decimals, and a line of each kind.
 use Prim.Native.Nat.{ℕ}
 use mathlib.Core.Path.{_≡_, refl}
 use mathlib.Core.List.{List, [], _∷_, _++_}
-use Rattle.base.specs.Refusals.{refusalAt, empty}
-use Rattle.search.specs.declared.Mark.the-variants.{Best, Stopped, Refused}
+use Rattle.base.specs.Cases.{accepting, refusing, refusedOutcome, secondRefusedOutcome, refusedCase}
+use Rattle.base.specs.Refusals.{refusalAt, empty, sizesDiffer, tooLong}
+use Rattle.search.specs.Cases.{stopped}
+use Rattle.quote.specs.Cases.{fits, differs}
 use Rattle.report.specs.Text.{digits, decimal, hexDigit, hexPair, furtherPairs, hexPairs}
-use Rattle.report.specs.Lines.{named, countsOf, stageLine, resultLines, refusalLine, linesWith, linesOf}
+use Rattle.report.specs.Lines.{newline, cellsText, fitsText, differsText, sheetText, stageText, refusedText, atText, named, countsOf, stageLine, resultLines, refusalLine, linesOf, judgedLine, auditLine}
 
 -- all meanings open
 unfoldable printing : ℕ
-unfolding digits decimal hexDigit hexPair furtherPairs hexPairs named countsOf stageLine resultLines refusalLine linesWith linesOf
+unfolding digits decimal hexDigit hexPair furtherPairs hexPairs named countsOf stageLine resultLines refusalLine linesOf judgedLine auditLine
 printing = 0
 
 pub decimal-0 : decimal 0 ≡ 0x30 ∷ []
@@ -24,41 +26,39 @@ pub decimal-10 : decimal 10 ≡ 0x31 ∷ 0x30 ∷ []
 unfolding printing
 decimal-10 = refl
 
--- "4,294,967,295", the largest budget
+-- the largest budget
 pub decimal-most : decimal 4294967295 ≡ 0x34 ∷ 0x32 ∷ 0x39 ∷ 0x34 ∷ 0x39 ∷ 0x36 ∷ 0x37 ∷ 0x32 ∷ 0x39 ∷ 0x35 ∷ []
 unfolding printing
 decimal-most = refl
 
--- A's stage, 20 02 02 21 00 22 01 24 23 21 01 22 02 23 24 2F, at the start of a longer buffer
-abbrev stage-a : List ℕ
-stage-a =
-    0x20 ∷ 0x02 ∷ 0x02 ∷ 0x21 ∷ 0x00 ∷ 0x22 ∷ 0x01 ∷ 0x24 ∷ 0x23 ∷ 0x21 ∷ 0x01 ∷ 0x22 ∷ 0x02 ∷ 0x23 ∷ 0x24 ∷ 0x2F ∷ 0x00 ∷ 0x00 ∷ []
-
--- "cells 2 floor 2 visits 0 "
-abbrev counts-a : List ℕ
-counts-a =
-    0x63 ∷ 0x65 ∷ 0x6C ∷ 0x6C ∷ 0x73 ∷ 0x20 ∷ 0x32 ∷ 0x20 ∷ 0x66 ∷ 0x6C ∷ 0x6F ∷ 0x6F ∷ 0x72 ∷ 0x20 ∷ 0x32 ∷ 0x20 ∷ 0x76 ∷ 0x69 ∷ 0x73 ∷ 0x69 ∷ 0x74 ∷ 0x73 ∷ 0x20 ∷ 0x30 ∷ 0x20 ∷ []
-
--- "20 02 02 21 00 22 01 24 23 21 01 22 02 23 24 2F"
-abbrev line-a : List ℕ
-line-a =
-    0x32 ∷ 0x30 ∷ 0x20 ∷ 0x30 ∷ 0x32 ∷ 0x20 ∷ 0x30 ∷ 0x32 ∷ 0x20 ∷ 0x32 ∷ 0x31 ∷ 0x20 ∷ 0x30 ∷ 0x30 ∷ 0x20 ∷ 0x32 ∷ 0x32 ∷ 0x20 ∷ 0x30 ∷ 0x31 ∷ 0x20 ∷ 0x32 ∷ 0x34 ∷ 0x20 ∷ 0x32 ∷ 0x33 ∷ 0x20
-    ∷ 0x32 ∷ 0x31 ∷ 0x20 ∷ 0x30 ∷ 0x31 ∷ 0x20 ∷ 0x32 ∷ 0x32 ∷ 0x20 ∷ 0x30 ∷ 0x32 ∷ 0x20 ∷ 0x32 ∷ 0x33 ∷ 0x20 ∷ 0x32 ∷ 0x34 ∷ 0x20 ∷ 0x32 ∷ 0x46 ∷ []
-
--- "The program prints "cells 2 floor 2 visits 0 best" and "20 02 02 21 00 22 01 24 23 21 01 22 02 23 24 2F"."
-pub a-lines : linesOf (record { cells = 2; floor = 2; visits = 0; length = 16; mark = Best }) stage-a
-    ≡ counts-a ++ 0x62 ∷ 0x65 ∷ 0x73 ∷ 0x74 ∷ 0x0A ∷ line-a ++ 0x0A ∷ []
+-- "cells 2 floor 1 visits 0 stopped" and "20 2F": bytes of the buffer past the length are not shown
+pub stopped-lines : linesOf (record { cells = 2; floor = 1; visits = 0; length = 2; mark = accepting stopped 0 }) (0x20 ∷ 0x2F ∷ 0x7A ∷ [])
+    ≡ 0x63 ∷ 0x65 ∷ 0x6C ∷ 0x6C ∷ 0x73 ∷ 0x20 ∷ 0x32 ∷ 0x20 ∷ 0x66 ∷ 0x6C ∷ 0x6F ∷ 0x6F ∷ 0x72 ∷ 0x20 ∷ 0x31 ∷ 0x20 ∷ 0x76 ∷ 0x69 ∷ 0x73 ∷ 0x69 ∷ 0x74 ∷ 0x73 ∷ 0x20 ∷ 0x30 ∷ 0x20
+    ∷ 0x73 ∷ 0x74 ∷ 0x6F ∷ 0x70 ∷ 0x70 ∷ 0x65 ∷ 0x64 ∷ newline ∷ 0x32 ∷ 0x30 ∷ 0x20 ∷ 0x32 ∷ 0x46 ∷ newline ∷ []
 unfolding printing
-a-lines = refl
-
--- the same, stopped
-pub a-stopped : linesOf (record { cells = 2; floor = 2; visits = 0; length = 16; mark = Stopped }) stage-a
-    ≡ counts-a ++ 0x73 ∷ 0x74 ∷ 0x6F ∷ 0x70 ∷ 0x70 ∷ 0x65 ∷ 0x64 ∷ 0x0A ∷ line-a ++ 0x0A ∷ []
-unfolding printing
-a-stopped = refl
+stopped-lines = refl
 
 -- "refused 10 at 2", whatever stands in the buffer
-pub refused-10 : (stage : List ℕ) → linesOf (record { cells = 0; floor = 0; visits = 0; length = 0; mark = Refused (refusalAt empty 2) }) stage
-    ≡ 0x72 ∷ 0x65 ∷ 0x66 ∷ 0x75 ∷ 0x73 ∷ 0x65 ∷ 0x64 ∷ 0x20 ∷ 0x31 ∷ 0x30 ∷ 0x20 ∷ 0x61 ∷ 0x74 ∷ 0x20 ∷ 0x32 ∷ 0x0A ∷ []
+pub refused-10 : (stage : List ℕ) → linesOf (record { cells = 0; floor = 0; visits = 0; length = 0; mark = refusedCase (refusalAt empty 2) }) stage
+    ≡ 0x72 ∷ 0x65 ∷ 0x66 ∷ 0x75 ∷ 0x73 ∷ 0x65 ∷ 0x64 ∷ 0x20 ∷ 0x31 ∷ 0x30 ∷ 0x20 ∷ 0x61 ∷ 0x74 ∷ 0x20 ∷ 0x32 ∷ newline ∷ []
 unfolding printing
 refused-10 stage = refl
+
+-- "fits cells 2", "differs cells 60"
+pub fits-2 : auditLine (accepting fits 2) ≡ fitsText ++ cellsText ++ 0x32 ∷ newline ∷ []
+unfolding printing
+fits-2 = refl
+
+pub differs-60 : auditLine (accepting differs 60) ≡ differsText ++ cellsText ++ 0x36 ∷ 0x30 ∷ newline ∷ []
+unfolding printing
+differs-60 = refl
+
+-- "sheet refused 14 at 4096", "stage refused 13 at 0"
+pub sheet-refused-14 : auditLine (refusing refusedOutcome (refusalAt tooLong 4096))
+    ≡ sheetText ++ refusedText ++ 0x31 ∷ 0x34 ∷ atText ++ 0x34 ∷ 0x30 ∷ 0x39 ∷ 0x36 ∷ newline ∷ []
+unfolding printing
+sheet-refused-14 = refl
+
+pub stage-refused-13 : auditLine (refusing secondRefusedOutcome (refusalAt sizesDiffer 0)) ≡ stageText ++ refusedText ++ 0x31 ∷ 0x33 ∷ atText ++ 0x30 ∷ newline ∷ []
+unfolding printing
+stage-refused-13 = refl

@@ -1,10 +1,11 @@
--- Laws of text put into a buffer: one text after another.
+-- Laws of text put into a buffer: one text after another, and text at its start.
 use Rattle.base.proofs.Rows.{sets-append}
-use Prim.Native.Nat.{ℕ}
-use mathlib.Core.Path.{refl}
+use Prim.Native.Nat.{ℕ, _≤_}
+use mathlib.Core.Path.{_≡_, refl}
 use mathlib.Core.List.{List, [], _++_}
 use native.Mathlib.Omega.{arith}
-use lib.ListN.{length-append}
+use lib.ListN.{length, length-append}
+use lib.Seq.{sets}
 use Rattle.report.specs.Put.{Put}
 
 -- no text
@@ -17,3 +18,7 @@ put-then {l} {b} {c} {x} {y} {at} {next} {r} p q =
       stored = let e = p .stored in let f = p .past in let g = q .stored in cc (sets-append l at x y);
       past = omega (arith, p .past, q .past, length-append x y);
     }
+
+-- what stands at the start of a buffer, as the reports tell it
+pub put-start : {l after text : List ℕ} {r most : ℕ} → Put l 0 text after r × (r ≤ most) → (r ≡ length text) × (after ≡ sets l 0 text) × (r ≤ most)
+put-start p = (omega (arith, p .0 .past), p .0 .stored, p .1)

@@ -1,4 +1,4 @@
--- Numbers as printed text: bytes of ASCII.
+-- Numbers as printed text: bytes of ASCII. Document 01, "Quote, audit, program", for the pairs; its opening, for what is decimal and what is not.
 use Prim.Native.Nat.{ℕ, zero, suc, _+_, _-_, _/_, _%_}
 use mathlib.Core.Bool.{cond}
 use mathlib.Core.List.{List, [], _∷_, _++_}
@@ -17,19 +17,19 @@ unfoldable pub digits : ℕ → ℕ → List ℕ
 digits zero x = []
 digits (suc k) x = let more = digits k (x / 10) ++ digit (x % 10) ∷ [] in cond (ltb x 10) (digit x ∷ []) more
 
--- "every other number is decimal". A number is above its tenth, so more turns than it counts are enough
+-- all that is not a byte of a sheet or a stage is printed so. A number is above its tenth, so more turns than it counts are enough
 unfoldable pub decimal : ℕ → List ℕ
 decimal x = digits (suc x) x
 
--- the hexadecimal digits, "in capitals"
+-- the hexadecimal digits: above 9 the capital letters from A on
 unfoldable pub hexDigit : ℕ → ℕ
 hexDigit d = cond (ltb d 10) (digit d) (0x41 + (d - 10))
 
--- "Bytes are written as two hexadecimal digits"
+-- a byte: its high digit and its low digit, always both
 unfoldable pub hexPair : ℕ → List ℕ
 hexPair b = hexDigit (b / 16) ∷ hexDigit (b % 16) ∷ []
 
--- "hexadecimal pairs in capitals, parted by single spaces": the pairs after the first, each after its space
+-- the pairs of several bytes have one space between them, and none at either end: the pairs after the first, each after its space
 unfoldable pub furtherPairs : List ℕ → List ℕ
 furtherPairs [] = []
 furtherPairs (b ∷ bs) = space ∷ hexPair b ++ furtherPairs bs

@@ -1,7 +1,6 @@
 -- `report` meets its contract: the lines by the mark of the reply.
-use native.Mathlib.Nat.{zero-add}
-use mathlib.Core.Path.{_∙_}
-use Rattle.report.specs.Lines.{countsOf, resultLines, linesWith, linesOf}
+use Rattle.report.specs.Lines.{countsOf, resultLines, linesOf}
+use Rattle.report.proofs.Stores.{put-start}
 use borrow.Author.Needs.{needs}
 use Rattle.report.proofs.report.Statement.{statement}
 use Rattle.report.proofs.report.Tie as tie
@@ -27,8 +26,8 @@ put-result-requires-2 c κs = search needs
 enum-known-mark : tie.Need-enum-known-mark
 enum-known-mark c = search needs
 
-cast-put-refusal : tie.Need-cast-put-refusal
-cast-put-refusal c = search needs
+slice-aggregate-put-refusal : tie.Need-slice-aggregate-put-refusal
+slice-aggregate-put-refusal c = search needs
 
 put-refusal-requires : tie.Need-put-refusal-requires
 put-refusal-requires c κs = search needs
@@ -37,28 +36,22 @@ same-length : tie.Need-same-length
 same-length c = search needs
 
 returns : tie.Need-returns
-unfolding linesOf linesWith resultLines countsOf
-returns c =
-    let p = c .before .before .put-result .ensures in
-    rw (c .before .before .before .before .before .enum-told .given .1) (p .0 .past ∙ zero-add _, p .0 .stored, p .1)
+unfolding linesOf resultLines countsOf
+returns c = rw (c .before .before .before .before .before .enum-told .given .1) (put-start (c .before .before .put-result .ensures))
 
 same-length-2 : tie.Need-same-length-2
 same-length-2 c = search needs
 
 returns-2 : tie.Need-returns-2
-unfolding linesOf linesWith resultLines countsOf
-returns-2 c =
-    let p = c .before .before .put-result2 .ensures in
-    rw (c .before .before .before .before .before .enum-told2 .given .1) (p .0 .past ∙ zero-add _, p .0 .stored, p .1)
+unfolding linesOf resultLines countsOf
+returns-2 c = rw (c .before .before .before .before .before .enum-told2 .given .1) (put-start (c .before .before .put-result2 .ensures))
 
 same-length-3 : tie.Need-same-length-3
 same-length-3 c = search needs
 
 returns-3 : tie.Need-returns-3
-unfolding linesOf linesWith
-returns-3 c =
-    let p = c .before .before .put-refusal .ensures in
-    rw (c .before .before .before .before .before .before .mark .given .1) (p .0 .past ∙ zero-add _, p .0 .stored, p .1)
+unfolding linesOf
+returns-3 c = rw (c .before .before .before .before .before .before .mark .given .1) (put-start (c .before .before .put-refusal .ensures))
 
 pub report-spec : {M : Type 1} → statement M
 report-spec =
@@ -71,7 +64,7 @@ report-spec =
     slice-aggregate-put-result-2
     put-result-requires-2
     enum-known-mark
-    cast-put-refusal
+    slice-aggregate-put-refusal
     put-refusal-requires
     same-length
     returns

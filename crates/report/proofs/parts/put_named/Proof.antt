@@ -2,8 +2,8 @@ use native.Mathlib.Omega.{arith}
 use Rattle.report.specs.Lines.{named}
 use Rattle.report.proofs.Stores.{put-then}
 use borrow.Author.Needs.{needs}
-use Rattle.report.proofs.put_named.Statement.{statement}
-use Rattle.report.proofs.put_named.Tie as tie
+use Rattle.report.proofs.parts.put_named.Statement.{statement}
+use Rattle.report.proofs.parts.put_named.Tie as tie
 
 put-text-requires : tie.Need-put-text-requires
 put-text-requires c κs = search needs

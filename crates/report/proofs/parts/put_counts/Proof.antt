@@ -3,8 +3,8 @@ use native.Mathlib.Omega.{arith}
 use Rattle.report.specs.Lines.{countsOf}
 use Rattle.report.proofs.Stores.{put-then}
 use borrow.Author.Needs.{needs}
-use Rattle.report.proofs.put_counts.Statement.{statement}
-use Rattle.report.proofs.put_counts.Tie as tie
+use Rattle.report.proofs.parts.put_counts.Statement.{statement}
+use Rattle.report.proofs.parts.put_counts.Tie as tie
 
 slice-aggregate-put-named : tie.Need-slice-aggregate-put-named
 slice-aggregate-put-named c = search needs

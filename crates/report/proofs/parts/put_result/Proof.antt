@@ -3,8 +3,8 @@ use native.Mathlib.Omega.{arith}
 use Rattle.report.specs.Lines.{resultLines}
 use Rattle.report.proofs.Stores.{put-then}
 use borrow.Author.Needs.{needs}
-use Rattle.report.proofs.put_result.Statement.{statement}
-use Rattle.report.proofs.put_result.Tie as tie
+use Rattle.report.proofs.parts.put_result.Statement.{statement}
+use Rattle.report.proofs.parts.put_result.Tie as tie
 
 put-counts-requires : tie.Need-put-counts-requires
 put-counts-requires c κs = search needs

@@ -2,8 +2,8 @@ use native.Mathlib.Omega.{arith}
 use Rattle.report.specs.Lines.{stageLine}
 use Rattle.report.proofs.Stores.{put-then}
 use borrow.Author.Needs.{needs}
-use Rattle.report.proofs.put_stage_line.Statement.{statement}
-use Rattle.report.proofs.put_stage_line.Tie as tie
+use Rattle.report.proofs.parts.put_stage_line.Statement.{statement}
+use Rattle.report.proofs.parts.put_stage_line.Tie as tie
 
 shown-requires : tie.Need-shown-requires
 shown-requires c κs = search needs

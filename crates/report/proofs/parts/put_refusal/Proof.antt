@@ -1,13 +1,19 @@
--- `put_refusal` meets its contract: two numbers, each after its name, and the end of the line.
+-- `put_refusal` meets its contract: the word for what is refused, two numbers, each after its name, and the end of the line.
 use native.Mathlib.Omega.{arith}
 use Rattle.report.specs.Lines.{refusalLine}
 use Rattle.report.proofs.Stores.{put-then}
 use borrow.Author.Needs.{needs}
-use Rattle.report.proofs.put_refusal.Statement.{statement}
-use Rattle.report.proofs.put_refusal.Tie as tie
+use Rattle.report.proofs.parts.put_refusal.Statement.{statement}
+use Rattle.report.proofs.parts.put_refusal.Tie as tie
+
+put-text-requires : tie.Need-put-text-requires
+put-text-requires c κs = search needs
 
 slice-aggregate-put-named : tie.Need-slice-aggregate-put-named
 slice-aggregate-put-named c = search needs
+
+cast-put-named : tie.Need-cast-put-named
+cast-put-named c = search needs
 
 put-named-requires : tie.Need-put-named-requires
 put-named-requires c κs = search needs
@@ -27,16 +33,19 @@ same-length c = search needs
 returns : tie.Need-returns
 unfolding refusalLine
 returns c =
+    let w = c .before .before .before .before .before .before .before .before .before .before .before .before .before .before .before .before .before .put-text .ensures in
     let x = c .before .before .before .before .before .before .before .before .before .before .before .put-named .ensures in
     let y = c .before .before .before .before .before .before .put-named2 .ensures in
     let z = c .before .before .put-byte .ensures in
-    (put-then (put-then (x .0) (y .0)) z, omega (arith, x .1, y .1, z .past))
+    (put-then (put-then (put-then w (x .0)) (y .0)) z, omega (arith, w .past, x .1, y .1, z .past, c .before .before .before .before .before .before .before .before .before .before .before .before .before .before .before .before .before .before .before .before .before .pre))
 
 pub put-refusal-spec : {M : Type 1} → statement M
 put-refusal-spec =
     tie.close
     (tie.spec
+    put-text-requires
     slice-aggregate-put-named
+    cast-put-named
     put-named-requires
     slice-aggregate-put-named-2
     put-named-requires-2

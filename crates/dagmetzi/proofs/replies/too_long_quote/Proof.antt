@@ -1,0 +1,14 @@
+use mathlib.Core.Path.{ap}
+use Rattle.base.specs.Cases.{refusedCase}
+use borrow.Author.Needs.{needs}
+use Rattle.dagmetzi.proofs.replies.too_long_quote.Statement.{statement}
+use Rattle.dagmetzi.proofs.replies.too_long_quote.Tie as tie
+
+too-long-requires : tie.Need-too-long-requires
+too-long-requires c κs = search needs
+
+returns : tie.Need-returns
+returns c = ap refusedCase (c .too-long .ensures)
+
+pub too-long-quote-spec : {M : Type 1} → statement M
+too-long-quote-spec = tie.close (tie.spec too-long-requires returns)

@@ -1,0 +1,62 @@
+// What the program says on standard error: one line each, which begins with its name.
+use libc::STDERR_FILENO;
+ghost use Prim.Native.Nat.{_≤_};
+ghost use lib.ListN.{length};
+ghost use Rattle.io.specs.Counts.{Counts};
+
+// A byte as it is shown. What would end the line or steer a terminal becomes a question mark, so that a name cannot pass for another message.
+fn shown(b: u8) -> u8 {
+    if b < 0x20 {
+        return b'?';
+    }
+    if b == 0x7F {
+        return b'?';
+    }
+    b
+}
+
+// Adds a text to a line at a place, and hands back the place after it. What finds no room is dropped.
+fn add(line: &mut [u8], at: usize, text: &[u8]) -> usize
+    requires { ⌜ at ≤ length (now line) ⌝ }
+    ensures { λ r. ⌜ Counts r (now (line .exit)) ⌝ }
+{
+    let mut next = at;
+    let mut i: usize = 0;
+    while i < text.len() {
+        if line.len() <= next {
+            return next;
+        }
+        line[next] = shown(text[i]);
+        next += 1;
+        i += 1;
+    }
+    next
+}
+
+// The start of a line: what is wrong, and with which name.
+fn begin(line: &mut [u8], what: &[u8], name: &[u8]) -> usize
+    ensures { λ r. ⌜ Counts r (now (line .exit)) ⌝ }
+{
+    let start = add(line, 0, b"dagmetzi: ");
+    let middle = add(line, start, what);
+    if name.len() == 0 {
+        return add(line, middle, b"(empty)");
+    }
+    add(line, middle, name)
+}
+
+// Says what could not be done with a name, and the system's reason: "dagmetzi: cannot open NAME: No such file or directory".
+pub fn fail(what: &[u8], name: &[u8]) {
+    let mut line = [0u8; 4200];
+    let length = begin(&mut line, what, name);
+    os::fail(&line[..length]);
+}
+
+// Says what is wrong with a word, and what to write: "dagmetzi: unknown word WORD: try audit SHEET STAGE".
+pub fn advise(what: &[u8], word: &[u8], advice: &[u8]) {
+    let mut line = [0u8; 4200];
+    let length = begin(&mut line, what, word);
+    let end = add(&mut line, length, advice);
+    io::write_all(STDERR_FILENO, &line[..end]);
+    io::write_all(STDERR_FILENO, b"\n");
+}

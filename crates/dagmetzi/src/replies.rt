@@ -1,0 +1,61 @@
+// What the program prints, as bytes at the start of a lent buffer: a function for each word, each with the length of what it put.
+use base::Refusal;
+use quote::Audited;
+use quote::Quoted;
+use search::Mark;
+ghost use mathlib.Core.Path.{_≡_};
+ghost use Prim.Native.Nat.{_≤_};
+ghost use lib.ListN.{length};
+ghost use lib.Seq.{sets};
+ghost use Rattle.base.specs.Refusals.{refusalAt, tooLong};
+ghost use Rattle.search.specs.Cases.{markCase};
+ghost use Rattle.base.specs.Cases.{refusedCase};
+ghost use Rattle.dagmetzi.specs.Printed.{longestSheet, printedOf, auditPrintedOf};
+
+// The longest sheet that is taken, and the budget of a quote.
+const LONGEST_SHEET: usize = 4096;
+
+const BUDGET: u32 = 10000;
+
+// The refusal of a sheet that is too long. It comes before everything.
+fn too_long() -> Refusal
+    ensures { λ r. ⌜ r ≡ refusalAt tooLong longestSheet ⌝ }
+{
+    Refusal::at(Refusal::TOO_LONG, LONGEST_SHEET)
+}
+
+// The same as a quote's reply.
+fn too_long_quote() -> Quoted
+    ensures { λ r. ⌜ markCase (r .mark) ≡ refusedCase (refusalAt tooLong longestSheet) ⌝ }
+{
+    Quoted {
+        cells: 0,
+        floor: 0,
+        visits: 0,
+        length: 0,
+        mark: Mark::Refused(too_long()),
+    }
+}
+
+// The lines for a sheet.
+pub fn quote_reply(sheet: &[u8], out: &mut [u8]) -> usize
+    ensures { λ r. ⌜ (r ≡ length (printedOf (now (sheet .entry)))) × (now (out .exit) ≡ sets (now (out .entry)) 0 (printedOf (now (sheet .entry)))) × (r ≤ 700) ⌝ }
+{
+    let mut stage = [0u8; 196];
+    if LONGEST_SHEET < sheet.len() {
+        return report::report(too_long_quote(), &stage, out);
+    }
+    let quoted = quote::quote(sheet, BUDGET, &mut stage);
+    report::report(quoted, &stage, out)
+}
+
+// The line for a sheet and a stage.
+pub fn audit_reply(sheet: &[u8], stage: &[u8], out: &mut [u8]) -> usize
+    ensures { λ r. ⌜ (r ≡ length (auditPrintedOf (now (sheet .entry)) (now (stage .entry)))) × (now (out .exit) ≡ sets (now (out .entry)) 0 (auditPrintedOf (now (sheet .entry)) (now (stage .entry)))) × (r ≤ 700) ⌝ }
+{
+    if LONGEST_SHEET < sheet.len() {
+        return report::report_audit(Audited::SheetRefused(too_long()), out);
+    }
+    let audited = quote::audit(sheet, stage);
+    report::report_audit(audited, out)
+}
