@@ -11,7 +11,8 @@ ghost use Prim.Native.Nat.{_+_, _≤_, min};
 ghost use lib.ListN.{length};
 ghost use Rattle.quote.specs.Cases.{quoteReply};
 ghost use Rattle.report.specs.Put.{Put};
-ghost use Rattle.report.specs.Lines.{longestStage, longestReport, named, countsOf, stageLine, resultLines, refusalLine, judgedLine};
+ghost use Rattle.stage.specs.Bytes.{longestStage};
+ghost use Rattle.report.specs.Lines.{longestReport, named, countsOf, stageLine, resultLines, refusalLine, judgedLine};
 
 // A stage has at most so many bytes.
 const LONGEST_STAGE: usize = 196;
