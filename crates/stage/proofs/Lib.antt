@@ -8,6 +8,7 @@ pub mod Ends
 pub mod Tables
 pub mod Places
 pub mod Gather
+pub mod Replies
 pub mod RoundTrip
 pub mod Prefix
 pub mod Rows

@@ -1,0 +1,47 @@
+-- What the reader's reply tells of the stage sheet, for those who call it and match on its answer.
+use Prim.Native.Nat.{ℕ}
+use mathlib.Core.Path.{_≡_, refl, sym, ap, _∙_}
+use mathlib.Core.List.{List}
+use native.Mathlib.Omega.{arith}
+use Rattle.base.specs.Cases.{Case, acceptedCase, refusedCase}
+use Rattle.base.specs.declared.Refusal.{Refusal}
+use Rattle.table.specs.Tree.{Tree}
+use Rattle.stage.specs.Bytes.{size}
+use Rattle.stage.specs.Cases.{StageReply, answerCase, stageReply}
+use Rattle.stage.specs.Read.{StageSheet, got, refused}
+use Rattle.stage.specs.Reply.{tablesOf, replyOf}
+use Rattle.stage.specs.declared.reader.Answer.the-variants.{Accepted, Refused}
+use Rattle.stage.specs.declared.reader.StageRead.{StageRead}
+use Rattle.stage.proofs.Cases.{refused-one}
+
+module _ (s : StageSheet) (rd : StageRead) (e : stageReply rd ≡ replyOf s) where
+  answered : answerCase (rd .answer) ≡ replyOf s .answer
+  answered = ap (λ (x : StageReply). x .answer) e
+
+  pub told-refused : (f : Refusal) → rd .answer ≡ Refused f → s ≡ refused f
+  unfolding replyOf
+  told-refused f h = go s (ap answerCase (sym h) ∙ answered)
+    where
+      go : (t : StageSheet) → refusedCase f ≡ replyOf t .answer → t ≡ refused f
+      go (got n m trees) g = absurd (omega (arith, ap (λ (c : Case). c .outcome) g))
+      go (refused g) d = ap refused (sym (refused-one f g d))
+
+  pub record Got : Type 0 where
+    pub trees : List Tree
+    pub is : s ≡ got (rd .n) (rd .m) trees
+    pub tables : rd .tables ≡ tablesOf (rd .n) trees
+    pub cells : rd .cells ≡ size trees
+
+  pub told-got : rd .answer ≡ Accepted → Got
+  unfolding replyOf
+  told-got h = go s refl
+    where
+      go : (t : StageSheet) → s ≡ t → Got
+      go (got n m trees) d =
+          let f : stageReply rd ≡ replyOf (got n m trees) = e ∙ ap replyOf d in
+          let en : rd .n ≡ n = ap (λ (x : StageReply). x .n) f in
+          let em : rd .m ≡ m = ap (λ (x : StageReply). x .m) f in
+          record { trees = trees; is = rw (en, em) d; tables = rw en (ap (λ (x : StageReply). x .tables) f); cells = ap (λ (x : StageReply). x .cells) f }
+      go (refused g) d =
+          let c : acceptedCase ≡ refusedCase g = ap answerCase (sym h) ∙ answered ∙ ap (λ (t : StageSheet). replyOf t .answer) d in
+          absurd (omega (arith, ap (λ (c : Case). c .outcome) c))
