@@ -15,11 +15,15 @@ Proj = ℕ → ℕ → Bool
 unfoldable pub suits : ℕ → Proj → ℕ → Bool
 suits n P t = all (2 ^ n) (λ p. P p (bit t p))
 
+-- t takes the place of s, a smaller number: its key is less
+abbrev pub displaces : (ℕ → ℕ) → ℕ → ℕ → Bool
+displaces key t s = ltb (key t) (key s)
+
 -- the number of least key among those below k that pass the test; of equals the smallest
 module _ (key : ℕ → ℕ) (fit : ℕ → Bool) where
   unfoldable pub nearer : Option ℕ → ℕ → Option ℕ
   nearer none t = some t
-  nearer (some s) t = cond (ltb (key t) (key s)) (some t) (some s)
+  nearer (some s) t = cond (displaces key t s) (some t) (some s)
 
   unfoldable pub least : ℕ → Option ℕ
   least zero = none
