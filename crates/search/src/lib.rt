@@ -11,21 +11,21 @@ ghost use Rattle.search.specs.TreeBoard.{tree};
 ghost use Rattle.search.specs.Reply.{answerOf, searchOf};
 ghost use Rattle.search.specs.Kept.{Sized, Sets};
 
-pub mod ranks; // a pick as one number
-pub mod pairs; // the two masks of a wire in one number
-pub mod parts; // what is kept of a part, and its two halves by a split
-pub mod conflicts; // the lowest pattern in conflict and its lowest open wire
-pub mod quick_solver; // the first answer
-pub mod branches; // visiting and splitting a part
+mod ranks; // a pick as one number
+mod pairs; // the two masks of a wire in one number
+mod parts; // what is kept of a part, and its two halves by a split
+mod conflicts; // the lowest pattern in conflict and its lowest open wire
+mod quick_solver; // the first answer
+mod branches; // visiting and splitting a part
 
 // A part (subrelation) of n inputs and m wires: its sets, and for each wire the patterns on which it can be 0 and those on which it can be 1, in one
 // number, and the rank of its pick.
-pub struct Part {
-    pub n: u8,
-    pub m: u8,
-    pub sets: [u16; 16],
-    pub pairs: [u32; 4],
-    pub ranks: [u32; 4],
+struct Part {
+    n: u8,
+    m: u8,
+    sets: [u16; 16],
+    pairs: [u32; 4],
+    ranks: [u32; 4],
 }
 
 // The best so far (incumbent), the visits charged (nodes expanded), and whether a part was left.
@@ -37,7 +37,7 @@ pub struct State {
 }
 
 // A pattern in conflict with its lowest open wire, or no conflict.
-pub enum Open {
+enum Open {
     Pair(u8, u8),
     Closed,
 }
