@@ -103,7 +103,7 @@ rankAgain n r p j w pair = cond (occurs 4 (member w) j (bit (r % tableSpace) p))
 unfoldable pub ranksAgain : ℕ → List ℕ → ℕ → ℕ → List ℕ → List ℕ
 ranksAgain n ranks p w pairs = row maxWires (λ j. rankAgain n (getD ranks j 0) p j w (getD pairs j 0))
 
--- "take the lowest pattern in conflict and the lowest wire that has both 0 and 1 there"; none where the tables are compatible
+-- where to split: the first pattern in conflict with its first open wire; nowhere where the tables are compatible (document 01, "Search", step 4)
 unfoldable pub openOf : ℕ → ℕ → Rel → Tables → Open
 openOf n m R X =
     let p = conflict n m R X in

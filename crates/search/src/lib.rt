@@ -14,9 +14,9 @@ ghost use Rattle.search.specs.Kept.{Sized, Sets};
 mod ranks; // a pick as one number
 mod pairs; // the two masks of a wire in one number
 mod parts; // what is kept of a part, and its two halves by a split
-mod conflicts; // the lowest pattern in conflict and its lowest open wire
+mod conflicts; // where to split: the first conflict
 mod quick_solver; // the first answer
-mod branches; // visiting and splitting a part
+mod branches; // the cycle of visits and splits
 
 // A part (subrelation) of n inputs and m wires: its sets, and for each wire the patterns on which it can be 0 and those on which it can be 1, in one
 // number, and the rank of its pick.
@@ -49,7 +49,7 @@ pub enum Mark {
     Refused(Refusal),
 }
 
-// The reply: four tables, 0 past the last wire; their cells; the floor (lower bound); the visits. All 0 on a refusal.
+// The reply (document 01, "Search"): a table for each of four wires, their cells, the floor (lower bound) and the visits. All 0 on a refusal.
 pub struct Answer {
     pub tables: [u16; 4],
     pub cells: u32,
