@@ -1,5 +1,5 @@
--- Document 01, "Which form goes where": an answer that is an enum is told by numbers. Each such enum has one definition, in the meanings of its own crate, that
--- gives the numbers of each of its cases; contracts and promises speak of an answer through it.
+-- Document 01, "Which form goes where": answers told by numbers. Each answer enum has one definition, in the meanings of its crate, that turns a case into
+-- numbers; contracts and promises speak of the answer through it.
 use Prim.Native.Nat.{ℕ}
 use mathlib.Core.Bool.{Bool}
 use lib.Dec.{leb}
@@ -13,7 +13,8 @@ pub record Case : Type 0 where
   pub place : ℕ
   pub value : ℕ
 
--- The outcomes that enums share: nothing is refused; something is; of two things handed in, the second is. An enum that accepts in two ways names its own two, 0 and 1.
+-- The outcomes that enums share: nothing is refused; something is; of two things handed in, the second is.
+-- An enum that accepts in two ways names its own two, 0 and 1.
 abbrev pub acceptedOutcome : ℕ
 acceptedOutcome = 0
 

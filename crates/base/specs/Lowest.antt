@@ -1,4 +1,4 @@
--- "place: the lowest": the first place where a test holds.
+-- The first number at which a test holds: places of document 01's "Refusals", patterns and wires of its "Search".
 use Prim.Native.Nat.{ℕ, zero, suc}
 use mathlib.Core.Bool.{Bool, cond}
 use lib.Dec.{ltb}

@@ -1,62 +1,62 @@
--- Document 01, "Refusals": "Each gives its number and a place". The numbers have their names here and nowhere else.
+-- Document 01, "Refusals": a refusal is a number with a place. Each number has its name here and nowhere else.
 use Prim.Native.Nat.{ℕ}
 use Rattle.base.specs.declared.Refusal.{Refusal}
 
 abbrev pub refusalAt : ℕ → ℕ → Refusal
 refusalAt number place = record { number = number; place = place }
 
--- "1 cut short"
+-- the input stops before a command is whole
 abbrev pub cutShort : ℕ
 cutShort = 1
 
--- "2 unknown first byte for this kind of sheet"
+-- no command of the format starts so
 abbrev pub unknown : ℕ
 unknown = 2
 
--- "3 operand outside its range"
+-- an operand too small or too large
 abbrev pub outOfRange : ℕ
 outOfRange = 3
 
--- "4 bytes after the end"
+-- more input behind the last command
 abbrev pub trailing : ℕ
 trailing = 4
 
--- "5 known command out of turn; also, tested after 3, a stage wire below m that isn't the next"
+-- a command that is not due now; in a stage sheet also a wire in the wrong order
 abbrev pub outOfTurn : ℕ
 outOfTurn = 5
 
--- "6 signal not made yet"
+-- a signal that no earlier command made
 abbrev pub noSignal : ℕ
 noSignal = 6
 
--- "7 pattern already has 02 or 03"
+-- a second 02 or 03 for one pattern
 abbrev pub repeated : ℕ
 repeated = 7
 
--- "8 33rd gate or 9th output"
+-- a gate or an output beyond the limits
 abbrev pub tooMany : ℕ
 tooMany = 8
 
--- "9 at the end, a pattern has neither"
+-- a pattern with no 02 and no 03
 abbrev pub missingRow : ℕ
 missingRow = 9
 
--- "10 R(p) is empty"
+-- a pattern on which no value is left
 abbrev pub empty : ℕ
 empty = 10
 
--- "11 selector input not above its parent's"
+-- a selector that tests an input too early for its branch
 abbrev pub notAscending : ℕ
 notAscending = 11
 
--- "12 buffer shorter than the stage"
+-- too little room for the stage
 abbrev pub shortBuffer : ℕ
 shortBuffer = 12
 
--- "13 audit: n or m differ"
+-- a stage of other sizes than the sheet's
 abbrev pub sizesDiffer : ℕ
 sizesDiffer = 13
 
--- "14 (program only) more than 4,096 bytes"
+-- too much input for the program
 abbrev pub tooLong : ℕ
 tooLong = 14

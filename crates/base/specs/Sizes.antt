@@ -1,4 +1,4 @@
--- Document 01, "Unit sheet": "n inputs (1 to 4), m middle wires (1 to 4)".
+-- Document 01, "Unit sheet": the most inputs and the most wires, and the test of both sizes.
 use Prim.Native.Nat.{ℕ}
 use mathlib.Core.Bool.{Bool, _||_}
 use lib.Dec.{ltb, eqb}

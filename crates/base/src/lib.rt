@@ -75,7 +75,7 @@ fn count_out(x: u8, most: u8) -> bool
     if x == 0 { true } else { most < x }
 }
 
-// n or m outside its range.
+// Too few or too many inputs or wires.
 pub fn sizes_out(n: u8, m: u8) -> bool
     ensures { λ r. ⌜ r ≡ sizesOut n m ⌝ }
 {

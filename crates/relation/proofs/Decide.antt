@@ -112,7 +112,7 @@ module _ (n m : ℕ) (R : Rel) (X : Tables) where
       (lowest-or (2 ^ n) f) in
       (l, lowest-is (2 ^ n) f l)
 
-  -- where tables that fit each wire conflict, some wire has both 0 and 1
+  -- where tables that fit each wire conflict, some wire is open
   pub freeWire-is : WellDefined n m R → ((j : ℕ) → j < m → T (fits n m R j (X j))) → (p : ℕ) → p < 2 ^ n → T (not (R p (value m X p)))
       → (freeWire m (R p) < m) × T (free m (R p) (freeWire m (R p)))
   unfolding freeWire

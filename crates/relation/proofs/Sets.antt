@@ -56,7 +56,7 @@ narrow-keep sets p j b hp hs = fun-ext (λ q. fun-ext (λ v. ⊎-elim (same q v)
     other : (q v : ℕ) → T (not (eqb q p)) → eqb (bit (getD (set sets p w) q 0) v) 1 ≡ eqb (bit (getD sets q 0) v) 1 && (not (eqb q p) || eqb (bit v j) b)
     other q v t = rw (test-no (eqb q p) t, getD-set-other sets p q w 0 (λ e. T-not (eqb q p) t (eq-test e)), and-true)
 
--- the values that disagree with a table dropped
+-- the sets once a wire has a table
 pub agreed-agree : (sets : List ℕ) (j t : ℕ) → length sets ≡ 16 → ((p : ℕ) → getD sets p 0 < 65536) → ofSets (agreed sets j t) ≡ agree (ofSets sets) j t
 unfolding ofSets agree agreed member
 agreed-agree sets j t len small = fun-ext (λ p. fun-ext (λ v. ⊎-elim (inside p v) (outside p v) (decide (ltb p 16))))

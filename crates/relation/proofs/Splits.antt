@@ -99,7 +99,7 @@ module _ (n m : ℕ) (R : Rel) (p j b : ℕ) where
       (sum-lt m (λ i. isOne (free m (keep R p j b p) i)) (λ i. isOne (free m (R p) i)) (λ i h. less p i) j hj
       (isOne-lt (free m (keep R p j b p) j) (free m (R p) j) shut t))
 
--- dropping the values that disagree with a table
+-- what is left once a wire has a table
 module _ (R : Rel) (j t : ℕ) where
   pub agree-part : Part (agree R j t) R
   unfolding agree

@@ -9,7 +9,7 @@ use lib.ListN.{getD, set}
 use Rattle.table.specs.Bits.{bit, ofBits, row}
 use Rattle.relation.specs.Tests.{ofSets, occurs, isOne}
 
--- value v is in the set: "bit v is value v"
+-- value v is in the set whose number is w
 unfoldable pub member : ℕ → ℕ → Bool
 member w v = eqb (bit w v) 1
 
@@ -46,7 +46,7 @@ cut x p false = x - bit x p * 2 ^ p
 unfoldable pub narrowed : List ℕ → ℕ → ℕ → ℕ → List ℕ
 narrowed sets p j b = set sets p (withBit (getD sets p 0) j b)
 
--- the sets less the values that disagree with table t of wire j
+-- the sets once wire j has table t
 unfoldable pub agreed : List ℕ → ℕ → ℕ → List ℕ
 agreed sets j t = row 16 (λ p. withBit (getD sets p 0) j (bit t p))
 

@@ -1,5 +1,5 @@
 -- Boolean relations as source 001 defines them. An input vertex (document 01: pattern) is a number below 2 ^ n, an output vertex (wire value) one
--- below 2 ^ m; output j (wire j) is bit j of a value.
+-- below 2 ^ m, whose bit j is output j (wire j).
 use Prim.Native.Nat.{ℕ, _^_, _<_}
 use mathlib.Core.Path.{_≡_}
 use mathlib.Core.Logic.{_↔_}
@@ -25,7 +25,7 @@ pub record StrictPart (n m : ℕ) (R Q : Rel) : Type 0 where
   pub inside : T (Q p v)
   pub outside : T (R p v) → ⊥
 
--- Definition 4.6: "left-total if for all x there is y such that (x, y) is in R. We will also refer to the left-total BRs as well defined."
+-- Definition 4.6: well defined (left-total), that is, some value is allowed on each pattern
 abbrev pub WellDefined : ℕ → ℕ → Rel → Type 0
 WellDefined n m R = (p : ℕ) → p < 2 ^ n → (v : ℕ) × (v < 2 ^ m) × T (R p v)
 
@@ -45,7 +45,7 @@ Tables = ℕ → ℕ
 abbrev pub Stage : ℕ → ℕ → Tables → Type 0
 Stage n m X = (j : ℕ) → j < m → X j < 2 ^ (2 ^ n)
 
--- the value of the function on pattern p: "wire j is bit j of v"
+-- the value of the function on pattern p, put together from its wires
 unfoldable pub value : ℕ → Tables → ℕ → ℕ
 value m X p = ofBits m (λ j. bit (X j) p)
 

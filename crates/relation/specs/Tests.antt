@@ -9,7 +9,7 @@ use Rattle.table.specs.Bits.{bit, all, any, sum}
 use Rattle.table.specs.Pick.{Proj, suits}
 use Rattle.relation.specs.Source.{Rel, Tables, value}
 
--- the relation of a list of sets, one number for each pattern: "bit v is value v"
+-- the relation of a list of sets, one number for each pattern, whose bit v says whether value v is allowed
 unfoldable pub ofSets : List ℕ → Rel
 ofSets sets p v = eqb (bit (getD sets p 0) v) 1
 
@@ -17,11 +17,11 @@ ofSets sets p v = eqb (bit (getD sets p 0) v) 1
 abbrev pub wires : List ℕ → Tables
 wires ts j = getD ts j 0
 
--- "the part with that wire 0, then the part with it 1": wire j is b on pattern p
+-- one part of a split: wire j is b on pattern p, and nothing else changes
 unfoldable pub keep : Rel → ℕ → ℕ → ℕ → Rel
 keep R p j b q v = R q v && (not (eqb q p) || eqb (bit v j) b)
 
--- "then drop the values that disagree" with table t of wire j
+-- what is left once wire j has table t
 unfoldable pub agree : Rel → ℕ → ℕ → Rel
 agree R j t p v = R p v && eqb (bit v j) (bit t p)
 
@@ -33,15 +33,15 @@ occurs m S j b = any (2 ^ m) (λ v. S v && eqb (bit v j) b)
 abbrev pub projection : ℕ → Rel → ℕ → Proj
 projection m R j p b = occurs m (R p) j b
 
--- "every bit occurs in the projection on that wire"
+-- the projection on wire j admits table t
 unfoldable pub fits : ℕ → ℕ → Rel → ℕ → ℕ → Bool
 fits n m R j t = suits n (projection m R j) t
 
--- wire j "has both 0 and 1" in S
+-- wire j is open in S: both bits occur
 unfoldable pub free : ℕ → (ℕ → Bool) → ℕ → Bool
 free m S j = occurs m S j 0 && occurs m S j 1
 
--- "the lowest wire that has both 0 and 1 there"
+-- the first wire that is open in S; m where there is none
 unfoldable pub freeWire : ℕ → (ℕ → Bool) → ℕ
 freeWire m S = lowest m (free m S)
 
@@ -49,11 +49,11 @@ freeWire m S = lowest m (free m S)
 unfoldable pub compatible : ℕ → ℕ → Rel → Tables → Bool
 compatible n m R X = all (2 ^ n) (λ p. R p (value m X p))
 
--- "the lowest pattern in conflict"; 2 ^ n where there is none
+-- the first pattern on which the tables' value is not allowed; 2 ^ n where there is none
 unfoldable pub conflict : ℕ → ℕ → Rel → Tables → ℕ
 conflict n m R X = lowest (2 ^ n) (λ p. not (R p (value m X p)))
 
--- "place: the lowest p" whose set is empty; 2 ^ n where there is none
+-- the first pattern with no value; 2 ^ n where there is none
 unfoldable pub emptyPattern : ℕ → ℕ → Rel → ℕ
 emptyPattern n m R = lowest (2 ^ n) (λ p. not (any (2 ^ m) (R p)))
 
@@ -62,6 +62,6 @@ unfoldable pub isOne : Bool → ℕ
 isOne true = 1
 isOne false = 0
 
--- the number of "open pairs of pattern and wire"
+-- how many pairs of pattern and wire are open
 unfoldable pub openPairs : ℕ → ℕ → Rel → ℕ
 openPairs n m R = sum (2 ^ n) (λ p. sum m (λ j. isOne (free m (R p) j)))

@@ -70,7 +70,7 @@ fn choose(bit: u16, zero: u16, one: u16) -> u16
     if bit == 1 { one } else { zero }
 }
 
-// The sets less the values that disagree with table t of wire j.
+// The sets once wire j has table t.
 pub fn agreeing(sets: [u16; 16], j: u8, t: u16) -> [u16; 16]
     requires { ⌜ j < 4 ⌝ }
     ensures { λ r. ⌜ r ≡ agreed sets j t ⌝ }

@@ -1,4 +1,4 @@
-// Sets of wire values (output vertices) as numbers: bit v is value v, and wire j is bit j of a value.
+// Sets of wire values (output vertices) as numbers: a value's own bit says that it is there.
 // Inner functions: the search and the audit meet what they require, wires below 4, bits below 2 and patterns below 16.
 ghost use mathlib.Core.Path.{_≡_};
 ghost use Prim.Native.Nat.{_<_};
@@ -39,7 +39,7 @@ pub fn has(set: u16, j: u8, b: u8) -> bool
     with_bit(set, j, b) != 0
 }
 
-// Whether wire j has both 0 and 1 in a set.
+// Whether wire j is open in a set: both bits occur.
 pub fn is_open(set: u16, j: u8) -> bool
     requires { ⌜ j < 4 ⌝ }
     ensures { λ r. ⌜ r ≡ free 4 (member set) j ⌝ }

@@ -17,7 +17,7 @@ use Rattle.relation.specs.Tests.{ofSets, wires, keep, free, openPairs}
 use Rattle.relation.specs.Masks.{member, withBit, narrowed}
 use Rattle.relation.proofs.Sets.{member-sets}
 use Rattle.search.specs.declared.State.{State}
-use Rattle.search.specs.Search.{split, searchPart, halted, charged, improved, floor, picks}
+use Rattle.search.specs.Search.{split, searchPart, discarded, halted, charged, improved, floor, picks}
 use Rattle.search.specs.TreeBoard.{tree}
 use Rattle.search.specs.Kept.{Sized, Sets, Held, Settled, AlikeBelow, stateOf, pairsOf, ranksOf, tablesIn, cellsIn, cutPairs, ranksAgain, PairsCover}
 use Rattle.search.proofs.Keeping.{kept-tables, kept-floor, pairs-cover, with-keep, with-sets, with-pairs, with-ranks}
@@ -103,9 +103,9 @@ module _ (n m : ℕ) (S ws rs : List ℕ) (h : Held n m S ws rs) (p j : ℕ) (lp
       ∙ ap (treated n m budget (ofSets S) p j s₀) (sym e)
 
   -- a part that is not visited would be discarded
-  pub next-discards : (budget : ℕ) {x r : List ℕ} → Held n m N x r → {f : ℕ} → f ≡ cellsIn r → (s : State) → s .cells ≤ f
+  pub next-discards : (budget : ℕ) {x r : List ℕ} → Held n m N x r → {f : ℕ} → f ≡ cellsIn r → (s : State) → T (discarded s f)
       → s ≡ searchPart (tree n m) budget (ofSets N) s
-  next-discards budget held ef s le = discards n m budget (held .sized) N (held .sets) s (floor-is held ef) le
+  next-discards budget held ef s h = discards n m budget (held .sized) N (held .sets) s (floor-is held ef) h
 
 -- what is stored in the tally, as changes of the state
 pub halted-tally : (B t : List ℕ) → length t ≡ 3 → stateOf B (set t 2 1) ≡ halted (stateOf B t)

@@ -1,4 +1,4 @@
--- The pair to split at: what the nested loops find is the lowest pattern in conflict and its lowest open wire.
+-- The pair to split at: what the nested loops find is the first conflict and its first open wire.
 use Prim.Native.Nat.{ℕ, _^_, _<_, _≤_}
 use mathlib.Core.Path.{_≡_, refl, sym, ap, ap₂, _∙_}
 use mathlib.Core.Logic.{⊎-elim}

@@ -1,12 +1,13 @@
 -- What the code keeps of a part: its sets, and for each wire the two masks of its projection in one number and the rank of its pick.
 use Prim.Native.Nat.{ℕ, _+_, _*_, _^_, _/_, _%_, _<_, _≤_}
 use mathlib.Core.Path.{_≡_}
-use mathlib.Core.Bool.{cond}
+use mathlib.Core.Bool.{Bool, cond, not}
 use lib.Dec.{T, eqb}
 use mathlib.Core.List.{List}
 use lib.ListN.{length, getD}
 use Rattle.base.specs.Sizes.{maxInputs, maxWires}
-use Rattle.table.specs.Bits.{bit, sum, row}
+use Rattle.base.specs.Lowest.{lowest}
+use Rattle.table.specs.Bits.{bit, any, sum, row}
 use Rattle.table.specs.Pick.{pickOf, rank, tableSpace}
 use Rattle.table.specs.Blocks.{Covered}
 use Rattle.table.specs.Pairs.{zerosIn, onesIn, paired}
@@ -69,6 +70,14 @@ stateOf best tally = record { tables = best; cells = getD tally 0 0; visits = ge
 abbrev pub AlikeBelow : List ℕ → List ℕ → ℕ → Type 0
 AlikeBelow before ranks k = (j q : ℕ) → j < maxWires → q < k → bit (getD before j 0 % tableSpace) q ≡ bit (getD ranks j 0 % tableSpace) q
 
+-- a table has another bit on pattern q than before
+abbrev pub changedOn : List ℕ → List ℕ → ℕ → Bool
+changedOn before ranks q = any maxWires (λ j. not (eqb (bit (getD before j 0 % tableSpace) q) (bit (getD ranks j 0 % tableSpace) q)))
+
+-- the lowest pattern below p on which a table changed; p where none did
+unfoldable pub firstChange : List ℕ → List ℕ → ℕ → ℕ
+firstChange before ranks p = lowest p (changedOn before ranks)
+
 -- the tables and the cells of four ranks
 unfoldable pub tablesIn : List ℕ → List ℕ
 tablesIn ranks = row maxWires (λ j. getD ranks j 0 % tableSpace)
@@ -94,7 +103,7 @@ rankAgain n r p j w pair = cond (occurs 4 (member w) j (bit (r % tableSpace) p))
 unfoldable pub ranksAgain : ℕ → List ℕ → ℕ → ℕ → List ℕ → List ℕ
 ranksAgain n ranks p w pairs = row maxWires (λ j. rankAgain n (getD ranks j 0) p j w (getD pairs j 0))
 
--- "take the lowest pattern in conflict and the lowest wire that has both 0 and 1 there"; none where the tables are compatible
+-- where to split: the first pattern in conflict with its first open wire; nowhere where the tables are compatible (document 01, "Search", step 4)
 unfoldable pub openOf : ℕ → ℕ → Rel → Tables → Open
 openOf n m R X =
     let p = conflict n m R X in

@@ -17,45 +17,43 @@ pub record Board : Type 0 where
   pub count : ℕ → ℕ
   pub key : ℕ → ℕ
 
--- "four tables (0 past wire m−1)"
+-- the tables of m wires as the reply has them: a zero for each wire that there is not
 unfoldable pub tablesOf : ℕ → Tables → List ℕ
 tablesOf m X = row maxWires (λ j. cond (ltb j m) (X j) 0)
 
--- "mark the search stopped and leave the part"
+-- step 2: a part is left, which the mark will say
 abbrev pub halted : State → State
 halted s = record { tables = s .tables; cells = s .cells; visits = s .visits; stopped = true }
 
--- "charge one visit"
+-- step 3: a part is expanded
 abbrev pub charged : State → State
 charged s = record { tables = s .tables; cells = s .cells; visits = s .visits + 1; stopped = s .stopped }
 
--- "they become best so far"
+-- step 3: a smaller stage is the new best
 abbrev pub improved : List ℕ → ℕ → State → State
 improved tables cells s = record { tables = tables; cells = cells; visits = s .visits; stopped = s .stopped }
 
--- "the part's floor is at least the best cells so far"
+-- step 1: a part with this floor cannot hold a smaller stage
 abbrev pub discarded : State → ℕ → Bool
 discarded s floor = leb (s .cells) floor
 
--- "the budget is used up"
+-- step 2: the visits have reached the budget
 abbrev pub usedUp : ℕ → State → Bool
 usedUp budget s = leb budget (s .visits)
 
 module _ (b : Board) where
-  -- "A stage's cells are the sum over its wires."
+  -- the cells of a stage
   unfoldable pub total : Tables → ℕ
   total X = sum (b .m) (λ j. b .count (X j))
 
-  -- "The pick of a wire in a relation: among all tables whose every bit occurs in the projection on that wire, the one of fewest cells, then the
-  -- smallest number."
+  -- the pick of a wire: the least key among the tables that its projection admits, of equals the smallest table
   unfoldable pub pick : Rel → ℕ → ℕ
   pick R j = orZero (leastOf (b .key) (b .n) (projection (b .m) R j))
 
   unfoldable pub picks : Rel → List ℕ
   picks R = tablesOf (b .m) (pick R)
 
-  -- "for wires 0 to m−1 in turn, take the pick in what is left of R, then drop the values that disagree" (source 001's QuickSolver):
-  -- what is left when wires 0 to j - 1 are chosen
+  -- the first answer chooses wire after wire (source 001's QuickSolver): what is left of R when wires 0 to j - 1 have their picks
   unfoldable pub left : Rel → ℕ → Rel
   left R zero = R
   left R (suc j) = let L = left R j in agree L j (pick L j)
@@ -63,21 +61,20 @@ module _ (b : Board) where
   unfoldable pub quick : Rel → List ℕ
   quick R = tablesOf (b .m) (λ j. pick (left R j) j)
 
-  -- "The floor of a relation is the sum of its picks' cells." (The lower bound.)
+  -- the lower bound for every stage of R: the cells of its picks
   unfoldable pub floor : Rel → ℕ
   floor R = total (pick R)
 
-  -- "First answer: .. It is best so far." (The incumbent.)
+  -- the state before any part is treated: the first answer is the best (the incumbent)
   unfoldable pub start : Rel → State
   start R = record { tables = quick R; cells = total (wires (quick R)); visits = zero; stopped = false }
 
   module _ (budget : ℕ) where
-    -- "treat the part with that wire 0, then the part with it 1". `on` treats the parts of a part.
+    -- step 4: both parts of a split, wire j at 0 before wire j at 1. `on` treats the parts of a part.
     unfoldable pub split : (Rel → State → State) → Rel → ℕ → ℕ → State → State
     split on R p j s = on (keep R p j 1) (on (keep R p j 0) s)
 
-    -- "3. .. charge one visit. If the picks together are compatible with the part, they become best so far. 4. Otherwise take the lowest pattern in
-    -- conflict and the lowest wire that has both 0 and 1 there"
+    -- steps 3 and 4: the visit is charged; compatible picks are the new best, and others are split at their first conflict
     unfoldable pub expand : (Rel → State → State) → Rel → State → State
     expand on R s =
         let p = conflict (b .n) (b .m) R (wires (picks R)) in
@@ -85,13 +82,13 @@ module _ (b : Board) where
         let t = split on R p (freeWire (b .m) (R p)) (charged s) in
         cond (compatible (b .n) (b .m) R (wires (picks R))) best t
 
-    -- "2. Otherwise, if the budget is used up, mark the search stopped and leave the part."
+    -- step 2: once the visits have reached the budget, the part is left
     unfoldable pub charge : (Rel → State → State) → Rel → State → State
     charge on R s =
         let t = expand on R s in
         cond (usedUp budget s) (halted s) t
 
-    -- "1. If the part's floor is at least the best cells so far, discard it, at no charge."
+    -- step 1: a part that cannot hold a smaller stage changes nothing
     unfoldable pub treat : (Rel → State → State) → Rel → State → State
     treat on R s = let t = charge on R s in cond (discarded s (floor R)) s t
 
@@ -100,10 +97,10 @@ module _ (b : Board) where
     visit zero R s = s
     visit (suc k) R s = treat (visit k) R s
 
-    -- "until no open pair of pattern and wire remains": each split closes one, so one more than there are is deep enough
+    -- each split closes an open pair of its part, so one more than the pairs there are is deep enough
     unfoldable pub searchPart : Rel → State → State
     searchPart R s = visit (suc (openPairs (b .n) (b .m) R)) R s
 
-    -- "Then treat R as a part"
+    -- the whole search: R itself is the first part
     unfoldable pub run : Rel → State
     run R = searchPart R (start R)

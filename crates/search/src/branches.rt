@@ -1,6 +1,6 @@
-// Visiting a part and splitting a part, which call on each other. Each split closes an open pair of pattern and wire.
+// The cycle of the search (document 01, "Search"): `visit` treats a part, `split` its two halves. Each split closes a pair that was open.
 // The sets are lent down: a split narrows the set of its pattern and puts it back, so that no part is copied. Lent too are the best tables so far and
-// the tally: the best cells so far, the visits charged, and 1 once a part was left.
+// the tally: their cells, the visits charged, and 1 once a part was left.
 // Inner functions: `search_sets` and the cycle itself meet what they require.
 use crate::Open;
 use crate::conflicts::first_open;
@@ -58,7 +58,7 @@ pub fn visit(
     }
 }
 
-// The part with wire j at 0 on pattern p, then the part with it at 1. The picks of both are made before the first visit, while what they are made from is
+// The two parts of a split, wire j at 0 on pattern p before wire j at 1. The picks of both are made before the first visit, while what they are made from is
 // at hand; w and r are a part's pairs and ranks. A part that will be discarded is not visited.
 fn split(
     e: &[u16; 256],

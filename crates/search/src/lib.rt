@@ -12,21 +12,21 @@ ghost use Rattle.search.specs.Cases.{searchReply};
 ghost use Rattle.search.specs.Reply.{answerOf, searchOf};
 ghost use Rattle.search.specs.Kept.{Sized, Sets};
 
-pub mod ranks; // a pick as one number
-pub mod pairs; // the two masks of a wire in one number
-pub mod parts; // what is kept of a part, and its two halves by a split
-pub mod conflicts; // the lowest pattern in conflict and its lowest open wire
-pub mod quick_solver; // the first answer
-pub mod branches; // visiting and splitting a part
+mod ranks; // a pick as one number
+mod pairs; // the two masks of a wire in one number
+mod parts; // what is kept of a part, and its two halves by a split
+mod conflicts; // where to split: the first conflict
+mod quick_solver; // the first answer
+mod branches; // the cycle of visits and splits
 
 // A part (subrelation) of n inputs and m wires: its sets, and for each wire the patterns on which it can be 0 and those on which it can be 1, in one
 // number, and the rank of its pick.
-pub struct Part {
-    pub n: u8,
-    pub m: u8,
-    pub sets: [u16; 16],
-    pub pairs: [u32; 4],
-    pub ranks: [u32; 4],
+struct Part {
+    n: u8,
+    m: u8,
+    sets: [u16; 16],
+    pairs: [u32; 4],
+    ranks: [u32; 4],
 }
 
 // The best so far (incumbent), the visits charged (nodes expanded), and whether a part was left.
@@ -38,7 +38,7 @@ pub struct State {
 }
 
 // A pattern in conflict with its lowest open wire, or no conflict.
-pub enum Open {
+enum Open {
     Pair(u8, u8),
     Closed,
 }
@@ -50,7 +50,7 @@ pub enum Mark {
     Refused(Refusal),
 }
 
-// The reply: four tables, 0 past the last wire; their cells; the floor (lower bound); the visits. All 0 on a refusal.
+// The reply (document 01, "Search"): a table for each of four wires, their cells, the floor (lower bound) and the visits. All 0 on a refusal.
 pub struct Answer {
     pub tables: [u16; 4],
     pub cells: u32,

@@ -1,4 +1,4 @@
-// The first answer: wire by wire the pick in what is left (QuickSolver of source 001, section 6.2).
+// The first answer, one wire after the other (QuickSolver of source 001, section 6.2).
 // Inner functions: `search_sets` and `quick` meet what they require.
 use crate::State;
 use crate::parts::wire_rank;
@@ -13,7 +13,7 @@ ghost use Rattle.search.specs.Search.{start};
 ghost use Rattle.search.specs.TreeBoard.{tree};
 ghost use Rattle.search.specs.Kept.{Sized, Sets, rankOf};
 
-// The rank of wire j's pick in what is left. Nothing is taken away before the first wire: its pick is the whole relation's, which the caller has.
+// The rank of wire j's pick once the wires before it are chosen. Before the first wire nothing is: its pick is the whole relation's, which the caller has.
 fn rank_left(e: &[u16; 256], n: u8, m: u8, left: [u16; 16], j: u8, first: u32) -> u32
     requires { ⌜ Blocks (now e) × Sized n m × Sets n m left × (j < 4) × (j ≡ 0 → first ≡ rankOf n left 0) ⌝ }
     ensures { λ r. ⌜ r ≡ rankOf n left j ⌝ }

@@ -2,7 +2,7 @@
 ghost use mathlib.Core.Path.{_≡_};
 ghost use Prim.Native.Nat.{_/_, _%_, _<_, _≤_};
 ghost use Rattle.table.specs.Pick.{tableSpace};
-ghost use Rattle.search.specs.Kept.{tablesIn, cellsIn, AlikeBelow};
+ghost use Rattle.search.specs.Kept.{tablesIn, cellsIn, AlikeBelow, firstChange};
 
 pub fn table_of(rank: u32) -> u16
     ensures { λ r. ⌜ r ≡ rank % tableSpace ⌝ }
@@ -36,7 +36,7 @@ pub fn floor_of(ranks: [u32; 4]) -> u32
 // The lowest pattern on which a pick changed, or p where none did below p. The bits of the cells lie above all patterns. `split` calls it with its pattern.
 pub fn first_change(before: [u32; 4], ranks: [u32; 4], p: u8) -> u8
     requires { ⌜ p < 16 ⌝ }
-    ensures { λ r. ⌜ (r ≤ p) × AlikeBelow before ranks r ⌝ }
+    ensures { λ r. ⌜ (r ≡ firstChange before ranks p) × (r ≤ p) × AlikeBelow before ranks r ⌝ }
 {
     let changed = (before[0] ^ ranks[0])
         | (before[1] ^ ranks[1])

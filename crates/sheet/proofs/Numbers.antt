@@ -1,4 +1,4 @@
--- "Reading alone never gives 10": its refusals are 1 to 9.
+-- The refusals of reading are 1 to 9, so 10 is not among them (document 01, "Refusals").
 use Prim.Native.Nat.{ℕ, zero, suc, _+_, _-_, _^_, _≤_}
 use mathlib.Core.Path.{_≡_, subst}
 use mathlib.Core.List.{List, []}

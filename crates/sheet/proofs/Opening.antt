@@ -32,7 +32,7 @@ opening before (Gate k a b) e = later before (Gate k a b) (sym e) refl refl
 opening before (Output s) e = later before (Output s) (sym e) refl refl
 opening before (Limit p w) e = later before (Limit p w) (sym e) refl refl
 
--- "It comes first and only then"
+-- 01 stands at the start, and nowhere else
 pub data Headed : List Command → Type 0 where
   unheaded : Headed []
   headed : (n m : ℕ) (rest : List Command) → Each (λ c. isSizes c ≡ false) rest → Headed (Sizes n m ∷ rest)

@@ -48,7 +48,7 @@ pub two-marks : readingOf (1 ∷ 1 ∷ 1 ∷ 2 ∷ 0 ∷ 1 ∷ 3 ∷ 0 ∷ 0 ∷
 unfolding readingOf readingFrom oneCommand nextOf judged collect
 two-marks = refl
 
--- 4 before 9: a byte after the end, and no pattern has 02 or 03
+-- 4 before 9: a byte behind 00, and patterns without 02 and 03
 pub trailing-first : readingOf (1 ∷ 1 ∷ 1 ∷ 0 ∷ 0 ∷ []) ≡ refused (refusalAt trailing 4)
 unfolding readingOf readingFrom oneCommand nextOf judged ending collect
 trailing-first = refl

@@ -16,7 +16,7 @@ use Rattle.sheet.proofs.Wiring.{Gates, gates-more, Outputs, outputs-mor
 use Rattle.sheet.proofs.Marks.{Once, once-more, Given, given, limits-fit}
 
 pub record Sound (cs : List Command) : Type 0 where
-  -- 01 comes first and only then, with sizes in range
+  -- 01 stands at the start and nowhere else, with sizes in range
   pub opened : Headed cs
   pub inputs-least : 1 ≤ inputsOf cs
   pub inputs-most : inputsOf cs ≤ maxInputs

@@ -134,7 +134,7 @@ plain : (at to : ℕ) (before : List Command) (c : Command) → inputsIn c ≡ [
     → movedPast (readerAt at before) c to ≡ readerAt to (before ++ c ∷ [])
 plain at to before c i w e = simp (i, w, collect-snoc, isEmpty-append, append-nil, e)
 
--- the reader past the commands before and one more is the reader moved past it
+-- the reader past the commands before and one more is the reader that `next` hands back
 pub reader-moved : (at to : ℕ) (before : List Command) (c : Command) → isSizes c ≡ isEmpty before → movedPast (readerAt at before) c to ≡ readerAt to (before ++ c ∷ [])
 unfolding collect
 reader-moved at to before (Sizes n m) e = rw (isEmpty-nil before (sym e))

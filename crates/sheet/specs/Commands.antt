@@ -20,7 +20,7 @@ collect says (c ∷ cs) = says c ++ collect says cs
 abbrev pub about {ℓ} : {A : Type ℓ} → ℕ → ℕ → A → List A
 about p q x = cond (eqb q p) (x ∷ []) []
 
--- "01 n m: n inputs (1 to 4), m middle wires (1 to 4)"
+-- 01: the sizes that a command names
 abbrev pub inputsIn : Command → List ℕ
 inputsIn End = []
 inputsIn (Sizes n m) = n ∷ []
@@ -49,7 +49,7 @@ inputsOf cs = getD (collect inputsIn cs) 0 0
 abbrev pub wiresOf : List Command → ℕ
 wiresOf cs = getD (collect wiresIn cs) 0 0
 
--- "02 p v: on input pattern p the present first stage drives the wire value v"
+-- 02: the present value of a pattern
 abbrev pub rowIn : ℕ → Command → List ℕ
 rowIn p End = []
 rowIn p (Sizes n m) = []
@@ -63,7 +63,7 @@ rowIn p (Limit q w) = []
 abbrev pub rowsOn : ℕ → List Command → List ℕ
 rowsOn p = collect (rowIn p)
 
--- "03 p: pattern p is impossible" (an external don't care)
+-- 03: an impossible pattern (an external don't care)
 abbrev pub dontCareIn : ℕ → Command → List ℕ
 dontCareIn p End = []
 dontCareIn p (Sizes n m) = []
@@ -77,7 +77,7 @@ dontCareIn p (Limit q w) = []
 abbrev pub dontCaresOn : ℕ → List Command → List ℕ
 dontCaresOn p = collect (dontCareIn p)
 
--- pattern p has a 02; pattern p has a 03; "pattern already has 02 or 03"
+-- pattern p has a 02, has a 03, has one of the two
 abbrev pub hasRow : ℕ → List Command → Bool
 hasRow p cs = not (isEmpty (rowsOn p cs))
 
@@ -87,7 +87,7 @@ isDontCare p cs = not (isEmpty (dontCaresOn p cs))
 abbrev pub isMarked : ℕ → List Command → Bool
 isMarked p cs = isDontCare p cs || hasRow p cs
 
--- "04 k a b: a gate on signals a and b"
+-- 04: a gate, its kind and its two signals
 pub record LogicGate : Type 0 where
   pub kind : ℕ
   pub left : ℕ
@@ -109,11 +109,11 @@ gateIn (Limit p w) = []
 abbrev pub gatesOf : List Command → List LogicGate
 gatesOf = collect gateIn
 
--- "Signals 0 to m−1 are the wires; gates are numbered from m upward as they come": the signals that exist already
+-- how many signals there are: the wires, and after them one for each gate
 abbrev pub signalsMade : List Command → ℕ
 signalsMade cs = wiresOf cs + length (gatesOf cs)
 
--- "05 s: signal s is the next output"
+-- 05: one output more
 abbrev pub outputIn : Command → List ℕ
 outputIn End = []
 outputIn (Sizes n m) = []
@@ -126,7 +126,7 @@ outputIn (Limit p w) = []
 abbrev pub outputsOf : List Command → List ℕ
 outputsOf = collect outputIn
 
--- "06 p w: on pattern p only the values in w are permitted"
+-- 06: the permitted values of a pattern
 abbrev pub limitIn : ℕ → Command → List ℕ
 limitIn p End = []
 limitIn p (Sizes n m) = []

@@ -10,8 +10,8 @@ use Rattle.sheet.specs.declared.Command.{Command}
 use Rattle.sheet.specs.declared.Sheet.{Sheet}
 use Rattle.sheet.specs.Commands.{inputsOf, wiresOf, rowsOn, hasRow, isDontCare, LogicGate, noGate, gatesOf, outputsOf, limitsOn}
 
--- "The limits 4 inputs, 4 wires, 32 gates and 8 outputs are named once, with the sheet": the first two are `maxInputs` and `maxWires`,
--- and make room for so many patterns and values
+-- The limits of a sheet (document 01, "Unit sheet"). Those of inputs and wires are `maxInputs` and `maxWires`; they make room for so many patterns
+-- and values.
 abbrev pub maxPatterns : ℕ
 maxPatterns = 2 ^ maxInputs
 
@@ -50,7 +50,7 @@ unfoldable pub meet : ℕ → List ℕ → ℕ
 meet w [] = w
 meet w (x ∷ xs) = meet (bitAnd w x) xs
 
--- "Several for one p intersect; none means all values"
+-- what all 06 for a pattern permit together
 abbrev pub limitOn : ℕ → List Command → ℕ
 limitOn p cs = meet (allValues (wiresOf cs)) (limitsOn p cs)
 

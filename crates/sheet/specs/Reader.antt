@@ -13,7 +13,7 @@ use Rattle.sheet.specs.declared.Step.{Step}
 use Rattle.sheet.specs.declared.Step.the-variants.{Read, Refused}
 use Rattle.sheet.specs.Commands.{isEmpty, isSizes, inputsIn, wiresIn, inputsOf, wiresOf}
 
--- "A command is known by its first byte; operands are one byte each unless said": its bytes, the first included; 0 for an unknown one
+-- how many bytes a command has, by its first, which counts too; 0 where there is no such command
 abbrev pub widthOf : ℕ → ℕ
 widthOf b =
     cond (eqb b 0) 1
@@ -24,7 +24,7 @@ widthOf b =
     (cond (eqb b 5) 2
     (cond (eqb b 6) 4 0))))))
 
--- the command with first byte b (00 to 06) and operand bytes x y z, as many as it has; of 06 "w has 16 bits, low byte first"
+-- the command that starts with b, a known byte, and has the operand bytes x y z, as many as it needs; the set of 06 takes two, the lower first
 abbrev pub commandOf : ℕ → ℕ → ℕ → ℕ → Command
 commandOf b x y z =
     cond (eqb b 0) End
@@ -35,19 +35,19 @@ commandOf b x y z =
     (cond (eqb b 5) (Output x)
     (Limit x (y + 256 * z)))))))
 
--- "It comes first and only then", of 01
+-- 01 anywhere but at the start, or another command there
 abbrev pub isOutOfTurn : Bool → ℕ → Bool
 isOutOfTurn started b = cond (eqb b 1) started (not started)
 
--- "a pattern from 2 to the power n up, a value .. from 2 to the power m up"
+-- x needs more than k bits
 abbrev pub isBeyond : ℕ → ℕ → Bool
 isBeyond k x = leb (2 ^ k) x
 
--- "kind above 05"
+-- the kinds of gates are 0 to this one
 abbrev pub lastKind : ℕ
 lastKind = 5
 
--- "operand outside its range"
+-- some operand is too small or too large: refusal 3
 abbrev pub isOutOfRange : ℕ → ℕ → Command → Bool
 isOutOfRange n m End = false
 isOutOfRange n m (Sizes n′ m′) = sizesOut n′ m′
@@ -61,15 +61,15 @@ isOutOfRange n m (Limit p w) = isBeyond n p || isBeyond (2 ^ m) w
 abbrev pub readerAt : ℕ → List Command → Reader
 readerAt at cs = record { at = at; started = not (isEmpty cs); n = inputsOf cs; m = wiresOf cs }
 
--- "the reader moved past it": to the place after a command, with the sizes that it names
+-- the reader at the place after a command, with the sizes that it names
 abbrev pub movedPast : Reader → Command → ℕ → Reader
 movedPast r c to = record { at = to; started = isSizes c || r .started; n = getD (inputsIn c) 0 (r .n); m = getD (wiresIn c) 0 (r .m) }
 
 abbrev pub stepRefused : ℕ → ℕ → Step
 stepRefused number at = Refused (refusalAt number at)
 
--- "For one command: 2, 5, 1, 3", and 1 where the bytes end before its first; "the place is the command's first byte".
--- Else "each command together with the reader moved past it". What the commands before refuse comes after (`judged`).
+-- One command (document 01, "Refusals"): what can be refused without the commands before, in the document's order, at the command's own place; else the
+-- command and the reader after it. What the commands before refuse comes after (`judged`).
 unfoldable pub nextOf : List ℕ → Reader → Step
 nextOf s r =
     let at = r .at in

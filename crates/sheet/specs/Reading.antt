@@ -22,7 +22,7 @@ pub data Reading : Type 0 where
   holds : List Command → Reading
   refused : Refusal → Reading
 
--- "6 signal not made yet"
+-- a gate or an output on a signal that the commands before do not make
 abbrev pub isNotMade : List Command → Command → Bool
 isNotMade before End = false
 isNotMade before (Sizes n m) = false
@@ -32,7 +32,7 @@ isNotMade before (Gate k a b) = leb (signalsMade before) a || leb (signalsMade b
 isNotMade before (Output s) = leb (signalsMade before) s
 isNotMade before (Limit p w) = false
 
--- "7 pattern already has 02 or 03"
+-- a 02 or a 03 for a pattern that has one
 abbrev pub isRepeated : List Command → Command → Bool
 isRepeated before End = false
 isRepeated before (Sizes n m) = false
@@ -42,7 +42,7 @@ isRepeated before (Gate k a b) = false
 isRepeated before (Output s) = false
 isRepeated before (Limit p w) = false
 
--- "8 33rd gate or 9th output"
+-- a gate or an output beyond the limits
 abbrev pub isTooMany : List Command → Command → Bool
 isTooMany before End = false
 isTooMany before (Sizes n m) = false
@@ -52,7 +52,7 @@ isTooMany before (Gate k a b) = leb maxGates (length (gatesOf before))
 isTooMany before (Output s) = leb maxOutputs (length (outputsOf before))
 isTooMany before (Limit p w) = false
 
--- "For one command: .. 6, 7, 8": a command whose first byte is at a place, after the commands before it
+-- a command whose first byte is at a place, after the commands before it: the refusals from the state, in their order, or taken
 unfoldable pub judged : List Command → Command → ℕ → Reading
 judged before c at =
     cond (isNotMade before c) (refused (refusalAt noSignal at))
@@ -64,8 +64,7 @@ judged before c at =
 abbrev pub missing : List Command → ℕ
 missing cs = lowest (2 ^ inputsOf cs) (λ p. not (isMarked p cs))
 
--- "At the end: 4, 9", 00 having ended before a place: "4 bytes after the end; place: the first of them",
--- "9 at the end, a pattern has neither; place: the lowest"
+-- the end, 00 being read up to a place: nothing may follow it, then each pattern needs its 02 or 03
 unfoldable pub ending : List ℕ → ℕ → List Command → Reading
 ending s to cs =
     cond (ltb to (length s)) (refused (refusalAt trailing to))
@@ -94,7 +93,7 @@ abbrev pub afterStep : List ℕ → ℕ → List Command → Step → Passage
 afterStep s at before (StepRefused f) = over (refused f)
 afterStep s at before (Read c r) = onward s c (r .at) (judged before c at)
 
--- the command at a place: 2, 5, 1, 3 from the reader, 6, 7, 8 from the commands before; after 00 also 4, 9
+-- the command at a place: what the reader refuses, then what the state does; behind 00 also what the end does
 unfoldable pub oneCommand : List ℕ → ℕ → List Command → Passage
 oneCommand s at before = afterStep s at before (nextOf s (readerAt at before))
 
@@ -102,7 +101,7 @@ abbrev pub continued : (ℕ → List Command → Reading) → Passage → Readin
 continued go (over x) = x
 continued go (on cs to) = go to cs
 
--- at most k commands from a place on; "1 cut short: the bytes end where a command .. [is] due" where they are spent
+-- at most k commands from a place on; cut short where they are spent
 unfoldable pub readingFrom : ℕ → List ℕ → ℕ → List Command → Reading
 readingFrom zero s at before = refused (refusalAt cutShort at)
 readingFrom (suc k) s at before = continued (readingFrom k s) (oneCommand s at before)

@@ -54,7 +54,7 @@ Judges sheet c at r = (before : List Command) → sheet ≡ gathered before → 
 abbrev pub Adds : Sheet → Command → ℕ → Reply → Type 0
 Adds sheet c at r = (before : List Command) → sheet ≡ gathered before → isSizes c ≡ isEmpty before → r ≡ replyOf (judged before c at)
 
--- at the end: 4, 9 or accepted
+-- the end is judged: 4, 9, or the sheet stands
 abbrev pub Ends : Sheet → ℕ → ℕ → Reply → Type 0
 Ends sheet to len r =
     (before : List Command) (s : List ℕ) → sheet ≡ gathered before → inputsOf before ≤ maxInputs → len ≡ length s → r ≡ replyOf (ending s to before)

@@ -1,4 +1,4 @@
-// The reader hands back each command together with the reader moved past it.
+// The reader of a unit sheet, by value: one call reads one command and gives the reader that stands behind it.
 use crate::Command;
 use crate::Reader;
 use crate::Step;
@@ -25,7 +25,7 @@ fn width(b: u8) -> usize
     }
 }
 
-// Sixteen bits, low byte first.
+// Two bytes as one number, the lower first.
 fn word(low: u8, high: u8) -> u16
     ensures { λ r. ⌜ r ≡ low + 256 * high ⌝ }
 {
@@ -54,14 +54,14 @@ fn command(b: u8, x: u8, y: u8, z: u8) -> Command
     }
 }
 
-// x is 2 to the power k or more.
+// x needs more than k bits.
 fn beyond(k: u8, x: u16) -> bool
     ensures { λ r. ⌜ r ≡ isBeyond k x ⌝ }
 {
     if k < 16 { 1 <= x >> k } else { false }
 }
 
-// A set with a value from 2 to the power m up.
+// A set with a value that m wires do not have.
 fn set_beyond(m: u8, set: u16) -> bool
     ensures { λ r. ⌜ r ≡ isBeyond (2 ^ m) set ⌝ }
 {
@@ -116,7 +116,7 @@ impl Reader {
         }
     }
 
-    // 01 comes first and only then.
+    // 01 anywhere but at the start, or another command there.
     fn out_of_turn(self, b: u8) -> bool
         ensures { λ r. ⌜ r ≡ isOutOfTurn (self .started) b ⌝ }
     {
@@ -127,7 +127,7 @@ impl Reader {
         }
     }
 
-    // An operand outside its range.
+    // Some operand too small or too large.
     fn out_of_range(self, c: Command) -> bool
         ensures { λ r. ⌜ r ≡ isOutOfRange (self .n) (self .m) c ⌝ }
     {
@@ -155,7 +155,7 @@ impl Reader {
         self
     }
 
-    // For one command: 1 where none is begun, then 2, 5, 1, 3.
+    // One command: 1 where the bytes are spent, then the tests of document 01's "Refusals" in their order.
     pub fn next(self, s: &[u8]) -> Step
         ensures { λ r. ⌜ r ≡ nextOf (now (s .entry)) self ⌝ }
     {

@@ -211,7 +211,7 @@ impl Sheet {
         }
     }
 
-    // At the end: 4, 9 or accepted, 00 having ended before a place.
+    // The end, 00 being read up to a place: 4, 9, or the sheet stands.
     pub(crate) fn finish(self, to: usize, len: usize) -> Reply
         ensures { λ r. ⌜ Ends self to len r ⌝ }
     {

@@ -7,10 +7,10 @@ ghost use Rattle.sheet.specs.Cases.{sheetReply};
 ghost use Rattle.sheet.specs.Reading.{refused, readingOf, replyTold, isEnd};
 ghost use Rattle.sheet.specs.Turn.{replyOf, doneWith, Follows, Turns};
 
-mod commands; // commands.rt: one command at a place, and the reader moved past it
+mod commands; // commands.rt: one command at a place, and the reader behind it
 mod gather; // gather.rt: the sheet with one command more
 
-// A command of a unit sheet, known by its first byte 00 to 06.
+// A command of a unit sheet: first bytes 00 to 06, in this order.
 pub enum Command {
     End,
     Sizes { n: u8, m: u8 },

@@ -6,9 +6,9 @@ use mathlib.Core.Bool.{Bool, not}
 use mathlib.Core.Option.{Option, none, some}
 use native.Mathlib.Omega.{arith}
 use native.Mathlib.Nat.{not-suc-le-zero, le-refl, le-antisymm}
-use lib.Dec.{T, T-not, ltb, ltb→lt, nltb→le}
+use lib.Dec.{T, T-not, ltb→lt, nltb→le}
 use Rattle.base.proofs.Tests.{cond-has, below-suc}
-use Rattle.table.specs.Pick.{nearer, least, orZero}
+use Rattle.table.specs.Pick.{displaces, nearer, least, orZero}
 
 -- the least table
 module _ (key : ℕ → ℕ) (fit : ℕ → Bool) where
@@ -16,6 +16,13 @@ module _ (key : ℕ → ℕ) (fit : ℕ → Bool) where
   Least k none = (t : ℕ) → t < k → T (fit t) → ⊥
   Least k (some r) =
       (r < k) × T (fit r) × ((t : ℕ) → t < k → T (fit t) → key r ≤ key t) × ((t : ℕ) → t < k → T (fit t) → key t ≤ key r → r ≤ t)
+
+  -- a greater number takes the place of a smaller one with a lower key only
+  lower : (t s : ℕ) → T (displaces key t s) → key t < key s
+  lower t s = ltb→lt (key t) (key s)
+
+  not-lower : (t s : ℕ) → T (not (displaces key t s)) → key s ≤ key t
+  not-lower t s = nltb→le (key t) (key s)
 
   nearer-least : (k : ℕ) (o : Option ℕ) → T (fit k) → Least k o → Least (suc k) (nearer key fit o k)
   unfolding nearer
@@ -26,14 +33,14 @@ module _ (key : ℕ → ℕ) (fit : ℕ → Bool) where
     λ t l g _. ⊎-elim (λ (e : t ≡ k). omega arith) (λ b. absurd (h t b g)) (below-suc l),
   )
   nearer-least k (some r) f h =
-      cond-has (Least (suc k)) (ltb (key k) (key r))
-      (λ c. let d = ltb→lt (key k) (key r) c in (
+      cond-has (Least (suc k)) (displaces key k r)
+      (λ c. let d = lower k r c in (
         omega arith,
         f,
         λ t l g. ⊎-elim (λ (e : t ≡ k). rw e (le-refl (key k))) (λ b. omega (arith, h .2 t b g)) (below-suc l),
         λ t l g w. ⊎-elim (λ (e : t ≡ k). omega arith) (λ b. absurd (omega (arith, h .2 t b g))) (below-suc l),
       ))
-      (λ c. let d = nltb→le (key k) (key r) c in (
+      (λ c. let d = not-lower k r c in (
         omega arith,
         h .1,
         λ t l g. ⊎-elim (λ (e : t ≡ k). rw e d) (λ b. h .2 t b g) (below-suc l),

@@ -1,4 +1,4 @@
--- Laws of trees: no ordered tree of a table's function has fewer selectors than the table has cells, and the reduced tree has as many.
+-- Laws of trees: the cells of a table are a lower bound for every ordered tree that computes it, and the reduced tree reaches it.
 use Prim.Native.Nat.{ℕ, zero, suc, _+_, _*_, _^_, _%_, _-_, _<_, _≤_}
 use mathlib.Core.Path.{_≡_, refl, sym, ap, _∙_}
 use mathlib.Core.Logic.{_⊎_, inl, inr, ⊎-elim}
@@ -99,7 +99,7 @@ module _ (n k r : ℕ) (at : k + suc r ≡ n) (t : ℕ) (lt : t < 2 ^ (2 ^ suc r
   halves (sel i z e) o mx =
       ⊎-elim (λ d. inr (tests i z e d (o .2) (o .3) mx)) (λ h. inl (past (sel i z e) (h, o .1, o .2, o .3) mx)) (eq-or-lt-of-le (o .0))
 
--- no ordered tree of a table's function has fewer selectors than the table has cells
+-- an ordered tree that computes a table has at least its cells
 pub least-tree : (n r k : ℕ) → k + r ≡ n → (x : Tree) → Ordered n k x → (t : ℕ) → t < 2 ^ (2 ^ r) → Means n r x t → cells r t ≤ selectors x
 unfolding cells selectors
 least-tree n zero k at x o t lt mx = omega arith

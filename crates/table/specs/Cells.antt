@@ -1,17 +1,17 @@
--- Document 01, "Cells": the size of the reduced ordered decision tree of a wire's function.
--- "A wire's table is the number with bit p set where the wire is 1." A table of n inputs is a number below 2 ^ (2 ^ n).
+-- Document 01, "Cells": how many selectors the reduced ordered decision tree of a table has.
+-- Bit p of a table is the wire on pattern p, so a table of n inputs is a number below 2 ^ (2 ^ n).
 use Prim.Native.Nat.{ℕ, zero, suc, _+_, _^_, _/_, _%_, _-_}
 use mathlib.Core.Bool.{Bool, cond, _||_}
 use lib.Dec.{eqb}
 
--- "halve the table by the first input still to be tested (0 half: low bits)": the halves of a table of n + 1 inputs
+-- the halves of a table of n + 1 inputs by its first input: `low` where that is 0, `high` where it is 1
 unfoldable pub low : ℕ → ℕ → ℕ
 low n t = t % 2 ^ (2 ^ n)
 
 unfoldable pub high : ℕ → ℕ → ℕ
 high n t = t / 2 ^ (2 ^ n)
 
--- "Equal halves: the cells of one half. Different halves: 1 + the cells of both."
+-- a selector where the halves differ, and the cells below it; none of its own where they are the same
 unfoldable pub cells : ℕ → ℕ → ℕ
 cells zero t = zero
 cells (suc n) t =
@@ -23,7 +23,7 @@ cells (suc n) t =
 unfoldable pub isConstant : ℕ → ℕ → Bool
 isConstant n t = eqb t 0 || eqb t (2 ^ (2 ^ n) - 1)
 
--- "A constant has 0 cells. Otherwise halve the table": the same count with the rule for constants written apart (proofs/Cells, `cells-written`)
+-- the same count with the rule for constants written apart, as the document has it (proofs/Cells, `cells-written`)
 unfoldable pub cellsWritten : ℕ → ℕ → ℕ
 cellsWritten zero t = zero
 cellsWritten (suc n) t =

@@ -1,5 +1,5 @@
--- Document 01, "Search": "The pick of a wire in a relation: among all tables whose every bit occurs in the projection on that wire,
--- the one of fewest cells, then the smallest number." (The minimum of an incompletely specified function.)
+-- Document 01, "Search": the pick, which is the least table that a projection admits, by cells and of equals by number
+-- (the minimum of an incompletely specified function).
 use Prim.Native.Nat.{ℕ, zero, suc, _+_, _*_, _^_}
 use mathlib.Core.Bool.{Bool, cond}
 use mathlib.Core.Option.{Option, none, some}
@@ -11,15 +11,19 @@ use Rattle.table.specs.Cells.{cells}
 abbrev pub Proj : Type 0
 Proj = ℕ → ℕ → Bool
 
--- every bit of the table occurs
+-- the projection admits the table: it has the table's bit on every pattern
 unfoldable pub suits : ℕ → Proj → ℕ → Bool
 suits n P t = all (2 ^ n) (λ p. P p (bit t p))
+
+-- t takes the place of s, a smaller number: its key is less
+abbrev pub displaces : (ℕ → ℕ) → ℕ → ℕ → Bool
+displaces key t s = ltb (key t) (key s)
 
 -- the number of least key among those below k that pass the test; of equals the smallest
 module _ (key : ℕ → ℕ) (fit : ℕ → Bool) where
   unfoldable pub nearer : Option ℕ → ℕ → Option ℕ
   nearer none t = some t
-  nearer (some s) t = cond (ltb (key t) (key s)) (some t) (some s)
+  nearer (some s) t = cond (displaces key t s) (some t) (some s)
 
   unfoldable pub least : ℕ → Option ℕ
   least zero = none
@@ -41,7 +45,7 @@ masked zeros ones p b = eqb (bit (cond (eqb b 0) zeros ones) p) 1
 unfoldable pub pickOf : ℕ → ℕ → ℕ → ℕ
 pickOf n zeros ones = orZero (leastOf (cells n) n (masked zeros ones))
 
--- a table and its cells as one number, whose order is "fewest cells, then the smallest number"
+-- a table and its cells as one number: the lesser number is the better pick
 abbrev pub tableSpace : ℕ
 tableSpace = 65536
 

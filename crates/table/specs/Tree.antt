@@ -1,32 +1,31 @@
--- Decision trees: a "tree" of document 01's "Stage sheet", whose selectors are its cells.
+-- Decision trees (document 01, "Stage sheet"): ordered, with their selectors counted as cells.
 use Prim.Native.Nat.{ℕ, zero, suc, _+_, _-_, _<_, _≤_}
 use mathlib.Core.Bool.{cond}
 use lib.Dec.{eqb}
 use Rattle.table.specs.Bits.{bit}
 use Rattle.table.specs.Cells.{low, high}
 
--- "A tree is 23 (constant 0), 24 (constant 1), or 22 k (selector on input k, 1 to n) followed by its tree for 0 and its tree for 1."
+-- a constant (bytes 23 and 24), or a selector (22) with its input and two subtrees, first the one for 0
 pub data Tree : Type 0 where
   con : ℕ → Tree
   sel : ℕ → Tree → Tree → Tree
 
--- "Down every branch k strictly ascends": every input is above k and at most n, and a constant is 0 or 1
+-- each selector's input is above k and above its parent's, and at most n; a constant is 0 or 1
 unfoldable pub Ordered : ℕ → ℕ → Tree → Type 0
 Ordered n k (con b) = b < 2
 Ordered n k (sel i z o) = (k < i) × (i ≤ n) × Ordered n i z × Ordered n i o
 
--- "On pattern p each tree is followed to a constant, at a selector on input k by its tree for 0 where that input's bit of p is 0,
--- else by its tree for 1." "Input 1 is the highest of the n bits of p."
+-- the constant to which pattern p leads; input i is bit n - i of the pattern (document 01, "Quote, audit, program" and "Unit sheet")
 unfoldable pub follow : ℕ → ℕ → Tree → ℕ
 follow n p (con b) = b
 follow n p (sel i z o) = cond (eqb (bit p (n - i)) 0) (follow n p z) (follow n p o)
 
--- "counts its selectors as cells"
+-- the cells of a tree
 unfoldable pub selectors : Tree → ℕ
 selectors (con b) = zero
 selectors (sel i z o) = suc (selectors z + selectors o)
 
--- "the reduced tree of 'Cells'": of a table of r inputs, which stand after k others
+-- the tree that the writer emits: of a table of r inputs, which stand after k others; no selector where both halves are the same
 unfoldable pub reduced : ℕ → ℕ → ℕ → Tree
 reduced zero k t = con t
 reduced (suc r) k t =

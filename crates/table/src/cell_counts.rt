@@ -270,7 +270,7 @@ pub fn count8(t: u8) -> u8
     CELLS[t as usize]
 }
 
-// The cells of a table of n inputs, 1 to 4. A four-input count needs two entries of the table;
+// The cells of a table of one to four inputs. Four inputs take two look-ups, one for each half;
 // a smaller table is repeated up to three inputs, which adds no cell. The writer of stages calls it with sizes and tables that it has tested.
 pub fn count(n: u8, t: u16) -> u8
     requires { ⌜ (1 ≤ n) × (n ≤ 4) × (t < 2 ^ (2 ^ n)) ⌝ }

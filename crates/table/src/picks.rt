@@ -1,5 +1,5 @@
-// The pick between two masks by halving: the table of fewest cells, then the smallest, that is 0 only on patterns of the mask `zeros` and 1 only on
-// patterns of the mask `ones`. Both masks come in one number, the pair: a byte for each four patterns, `zeros` in its upper half and `ones` in its lower.
+// The pick between two masks by halving: the best table that is 0 only on patterns of the mask `zeros` and 1 only on patterns of the mask `ones`.
+// Both masks come in one number, the pair: a byte for each four patterns, `zeros` in its upper half and `ones` in its lower.
 // A result is one number, its rank: cells, then the table. Blocks of two inputs are looked up in a table that the caller lends, since a constant is
 // copied by every function that names it. Each byte of the pair is the place of a block in that table, so no place has to be made.
 ghost use mathlib.Core.Path.{_≡_};
@@ -10,7 +10,7 @@ ghost use Rattle.table.specs.Blocks.{blockOf, Blocks, Shown, Covered};
 ghost use Rattle.table.specs.Pairs.{zerosIn, onesIn};
 
 // The pick of each pair of masks of two inputs, at zeros * 16 + ones: cells * 256 + table * 17, the table twice side by side.
-// Where a pattern has neither 0 nor 1 there is none: 64 cells.
+// Where some pattern is in no mask there is none: 64 cells.
 const BLOCKS: [u16; 256] = [
     0x4000,
     0x4000,

@@ -21,7 +21,7 @@ xorBit a b = (a + b) % 2
 abbrev pub inverted : ℕ → ℕ
 inverted x = 1 - x
 
--- "Kinds k: 00 AND, 01 OR, 02 XOR, 03 NAND, 04 NOR, 05 XNOR."
+-- what a gate of each kind makes of two bits: the three plain kinds, then the same inverted
 unfoldable pub gateBit : ℕ → ℕ → ℕ → ℕ
 gateBit k a b =
     cond (eqb k 0) (andBit a b)
@@ -33,15 +33,15 @@ gateBit k a b =
 abbrev pub withGate : List ℕ → LogicGate → List ℕ
 withGate s g = s ++ gateBit (g .kind) (getD s (g .left) 0) (getD s (g .right) 0) ∷ []
 
--- "gates are numbered from m upward as they come"
+-- the same with all gates, each of which may use those before it
 unfoldable pub withGates : List ℕ → List LogicGate → List ℕ
 withGates s [] = s
 withGates s (g ∷ gs) = withGates (withGate s g) gs
 
--- "Signals 0 to m−1 are the wires", "wire j is bit j of v"
+-- all signals for a wire value: its bits, wire by wire, then the gates
 unfoldable pub signalsOn : List Command → ℕ → List ℕ
 signalsOn cs v = withGates (row (wiresOf cs) (bit v)) (gatesOf cs)
 
--- "Let G(v) be the list of outputs for wire value v."
+-- what the unit answers for a wire value: G of document 01's "Relation"
 unfoldable pub outputsFor : List Command → ℕ → List ℕ
 outputsFor cs v = map (λ s. getD (signalsOn cs v) s 0) (outputsOf cs)

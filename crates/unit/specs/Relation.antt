@@ -1,5 +1,5 @@
--- Document 01, "Relation": "R(p) holds the permitted v with G(v) = G(present value of p); for an impossible p it holds all permitted v. With no outputs,
--- all values are alike. The present value itself need not be permitted."
+-- Document 01, "Relation": the values that each pattern may have. They are permitted and, where the pattern is not impossible, the unit's outputs for them
+-- are those for the present value.
 use Prim.Native.Nat.{ℕ}
 use mathlib.Core.Bool.{Bool, true, false, _&&_}
 use mathlib.Core.List.{List, [], _∷_}
@@ -10,7 +10,7 @@ use Rattle.sheet.specs.declared.Command.{Command}
 use Rattle.sheet.specs.Commands.{rowsOn, limitsOn}
 use Rattle.unit.specs.Gates.{outputsFor}
 
--- value v is in each of the sets: "bit v is value v. Several for one p intersect; none means all values."
+-- value v is in each of the sets; every value is where there are none (document 01, "Unit sheet", command 06)
 unfoldable pub permits : List ℕ → ℕ → Bool
 permits [] v = true
 permits (w ∷ ws) v = eqb (bit w v) 1 && permits ws v

@@ -3,6 +3,7 @@ use mathlib.Core.Path.{_≡_, refl, sym, ap, ap₂, subst, _∙_}
 use mathlib.Core.Logic.{⊎-elim}
 use native.Mathlib.Omega.{arith}
 use borrow.Author.Needs.{needs}
+use lib.Dec.{le→leb}
 use lib.ListN.{length, getD, set, length-set}
 use lib.Seq.{set-getD}
 use Rattle.relation.specs.Tests.{ofSets, wires, openPairs}
@@ -10,7 +11,7 @@ use Rattle.search.specs.Search.{split as splitOf, searchPart}
 use Rattle.search.specs.TreeBoard.{tree}
 use Rattle.search.specs.Kept.{Settled, stateOf}
 use Rattle.search.proofs.Opening.{found-open, found-below}
-use Rattle.search.proofs.Steps.{discards, halts, improves, splits}
+use Rattle.search.proofs.Steps.{lt→nleb, discards, halts, improves, splits}
 use Rattle.search.proofs.Branching.{treated, treated-both, floor-is, tables-are, pattern-lt, next-pairs, next-cover, next-held, next-settled, next-same, next-treated, next-discards, halted-tally, charged-tally, improved-tally}
 use borrow.Fn.Kinds.{In}
 use borrow.Fn.PlainCycle.{Measures, is, falls, and}
@@ -136,7 +137,7 @@ split-visit-requires t c κs =
     let f = c .before .before .before .first-change in
     let fewer = next-pairs (a .n) (a .m) S (a .pairs) (a .ranks) (q .1) (a .p) (a .j) (q .2) (q .3) (q .4) 0 (omega arith) (w .result) (w .ensures) N eN in (
       omega (arith, fewer, c .before .before .before .before .before .before .before .before .before .before .before .before .before .before .before .pre .0),
-      (q .0, next-held (a .n) (a .m) S (a .pairs) (a .ranks) (q .1) (a .p) (a .j) (q .2) (q .3) (q .4) 0 (omega arith) (w .result) (w .ensures) N eN ex (r .ensures), c .before .before .before .before .before .before .before .floor-of .ensures, omega (arith, f .ensures .0, q .2), next-settled (a .n) (a .m) S (a .pairs) (a .ranks) (q .1) (a .p) (a .j) (q .2) (q .3) (q .4) 0 (omega arith) (w .result) (w .ensures) N eN (q .5) (r .result) (f .result) (f .ensures .0) (f .ensures .1), q .6),
+      (q .0, next-held (a .n) (a .m) S (a .pairs) (a .ranks) (q .1) (a .p) (a .j) (q .2) (q .3) (q .4) 0 (omega arith) (w .result) (w .ensures) N eN ex (r .ensures), c .before .before .before .before .before .before .before .floor-of .ensures, omega (arith, f .ensures .1, q .2), next-settled (a .n) (a .m) S (a .pairs) (a .ranks) (q .1) (a .p) (a .j) (q .2) (q .3) (q .4) 0 (omega arith) (w .result) (w .ensures) N eN (q .5) (r .result) (f .result) (f .ensures .1) (f .ensures .2), q .6),
     )
 
 -- once the first part is treated
@@ -163,7 +164,7 @@ split-first t c =
     (next-same (a .n) (a .m) S (a .pairs) (a .ranks) (q .1) (a .p) (a .j) (q .2) (q .3) (q .4) 0 (omega arith) (w .result) (w .ensures) N eN (v .6 ∙ v .5 .ensures .0), next-treated (a .n) (a .m) S (a .pairs) (a .ranks) (q .1) (a .p) (a .j) (q .2) (q .3) (q .4) 0 (omega arith) (w .result) (w .ensures) N eN (a .budget) s (stateOf (i .best) (i .tally)) s₀ before st, ap length (v .8) ∙ v .5 .ensures .2))
     (λ v.
     let st : stateOf (i .best) (i .tally) ≡ searchPart (tree (a .n) (a .m)) (a .budget) (ofSets N) s =
-    ap₂ stateOf (v .2) (v .3) ∙ next-discards (a .n) (a .m) S (a .pairs) (a .ranks) (q .1) (a .p) (a .j) (q .2) (q .3) (q .4) 0 (omega arith) (w .result) (w .ensures) N eN (a .budget) held (c .before .before .before .floor-of .ensures) s (v .0 .left) in
+    ap₂ stateOf (v .2) (v .3) ∙ next-discards (a .n) (a .m) S (a .pairs) (a .ranks) (q .1) (a .p) (a .j) (q .2) (q .3) (q .4) 0 (omega arith) (w .result) (w .ensures) N eN (a .budget) held (c .before .before .before .floor-of .ensures) s (le→leb _ _ (v .0 .left)) in
     (λ x. ap (λ l. set l (a .p) x) (v .1), next-treated (a .n) (a .m) S (a .pairs) (a .ranks) (q .1) (a .p) (a .j) (q .2) (q .3) (q .4) 0 (omega arith) (w .result) (w .ensures) N eN (a .budget) s (stateOf (i .best) (i .tally)) s₀ before st, ap length (v .3) ∙ q .6))
     (i .came)
 
@@ -193,7 +194,7 @@ split-visit-requires-2 t c κs =
     let f = c .before .before .before .first-change2 in
     let fewer = next-pairs (a .n) (a .m) S (a .pairs) (a .ranks) (q .1) (a .p) (a .j) (q .2) (q .3) (q .4) 1 (omega arith) (w .result) (w .ensures) N eN in (
       omega (arith, fewer, c .before .before .before .before .before .before .before .before .before .before .before .before .before .before .before .before .before .pre .0),
-      (q .0, next-held (a .n) (a .m) S (a .pairs) (a .ranks) (q .1) (a .p) (a .j) (q .2) (q .3) (q .4) 1 (omega arith) (w .result) (w .ensures) N eN ex (r .ensures), c .before .before .before .before .before .before .before .before .floor-of2 .ensures, omega (arith, f .ensures .0, q .2), next-settled (a .n) (a .m) S (a .pairs) (a .ranks) (q .1) (a .p) (a .j) (q .2) (q .3) (q .4) 1 (omega arith) (w .result) (w .ensures) N eN (q .5) (r .result) (f .result) (f .ensures .0) (f .ensures .1), first .2),
+      (q .0, next-held (a .n) (a .m) S (a .pairs) (a .ranks) (q .1) (a .p) (a .j) (q .2) (q .3) (q .4) 1 (omega arith) (w .result) (w .ensures) N eN ex (r .ensures), c .before .before .before .before .before .before .before .before .floor-of2 .ensures, omega (arith, f .ensures .1, q .2), next-settled (a .n) (a .m) S (a .pairs) (a .ranks) (q .1) (a .p) (a .j) (q .2) (q .3) (q .4) 1 (omega arith) (w .result) (w .ensures) N eN (q .5) (r .result) (f .result) (f .ensures .1) (f .ensures .2), first .2),
     )
 
 -- and once the second is
@@ -222,7 +223,7 @@ split-second t c =
     (next-same (a .n) (a .m) S (a .pairs) (a .ranks) (q .1) (a .p) (a .j) (q .2) (q .3) (q .4) 1 (omega arith) (w .result) (w .ensures) N eN (v .6 ∙ v .5 .ensures .0), next-treated (a .n) (a .m) S (a .pairs) (a .ranks) (q .1) (a .p) (a .j) (q .2) (q .3) (q .4) 1 (omega arith) (w .result) (w .ensures) N eN (a .budget) s (stateOf (i .best) (i .tally)) s₀ before st, ap length (v .8) ∙ v .5 .ensures .2))
     (λ v.
     let st : stateOf (i .best) (i .tally) ≡ searchPart (tree (a .n) (a .m)) (a .budget) (ofSets N) s =
-    ap₂ stateOf (v .2) (v .3) ∙ next-discards (a .n) (a .m) S (a .pairs) (a .ranks) (q .1) (a .p) (a .j) (q .2) (q .3) (q .4) 1 (omega arith) (w .result) (w .ensures) N eN (a .budget) held (c .before .before .before .before .floor-of2 .ensures) s (v .0 .left) in
+    ap₂ stateOf (v .2) (v .3) ∙ next-discards (a .n) (a .m) S (a .pairs) (a .ranks) (q .1) (a .p) (a .j) (q .2) (q .3) (q .4) 1 (omega arith) (w .result) (w .ensures) N eN (a .budget) held (c .before .before .before .before .floor-of2 .ensures) s (le→leb _ _ (v .0 .left)) in
     (λ x. ap (λ l. set l (a .p) x) (v .1) ∙ first .0 x, next-treated (a .n) (a .m) S (a .pairs) (a .ranks) (q .1) (a .p) (a .j) (q .2) (q .3) (q .4) 1 (omega arith) (w .result) (w .ensures) N eN (a .budget) s (stateOf (i .best) (i .tally)) s₀ before st, ap length (v .3) ∙ first .2))
     (i .came)
 
@@ -249,7 +250,7 @@ visit-returns t c =
     let a = c .before .before .args in
     let q = c .before .before .pre .1 in
     let h = q .1 in
-    (refl, discards (a .n) (a .m) (a .budget) (h .sized) (a .sets .now) (h .sets) (stateOf (a .best .now) (a .tally .now)) (floor-is h (q .2)) (c .if1 .taken), q .5)
+    (refl, discards (a .n) (a .m) (a .budget) (h .sized) (a .sets .now) (h .sets) (stateOf (a .best .now) (a .tally .now)) (floor-is h (q .2)) (le→leb _ _ (c .if1 .taken)), q .5)
 
 visit-element-copy-out-if2 : (t : ℕ) → visit-lts.Need-element-copy-out-if2 (visit-claims t) (visit-at t) visit.Post
 visit-element-copy-out-if2 t c = search needs
@@ -262,7 +263,7 @@ visit-returns-2 t c =
     let a = c .before .before .before .before .args in
     let q = c .before .before .before .before .pre .1 in
     let h = q .1 in
-    (refl, halted-tally (a .best .now) (a .tally .now) (q .5) ∙ halts (a .n) (a .m) (a .budget) (h .sized) (a .sets .now) (h .sets) (stateOf (a .best .now) (a .tally .now)) (floor-is h (q .2)) (c .before .before .if1 .left) (c .if2 .taken), length-set (a .tally .now) 2 1 ∙ q .5)
+    (refl, halted-tally (a .best .now) (a .tally .now) (q .5) ∙ halts (a .n) (a .m) (a .budget) (h .sized) (a .sets .now) (h .sets) (stateOf (a .best .now) (a .tally .now)) (floor-is h (q .2)) (lt→nleb _ _ (c .before .before .if1 .left)) (c .if2 .taken), length-set (a .tally .now) 2 1 ∙ q .5)
 
 visit-element-copy-out-tally : (t : ℕ) → visit-lts.Need-element-copy-out-tally (visit-claims t) (visit-at t) visit.Post
 visit-element-copy-out-tally t c = search needs
@@ -304,7 +305,7 @@ visit-split-requires t c κs =
     let found = sym (c .before .before .before .before .before .before .first-open .ensures) ∙ c .before .before .before .before .found .given .1 in
     let o = found-open (a .n) (a .m) (h .sized) (a .sets .now) (h .sets) (c .before .before .before .before .before .before .before .before .tables-of .result) (tables-are h e) p j found in
     let below = found-below (a .n) (a .m) (h .sized) (a .sets .now) (h .sets) (c .before .before .before .before .before .before .before .before .tables-of .result) (tables-are h e) p j found (o .0) in
-    (omega (arith, c .before .before .before .before .before .before .before .before .before .before .before .before .before .before .pre .0), (q .0, h, o .0, o .1, o .2, subst (λ x. Settled (a .m) (a .sets .now) x p) e below, length-set (a .tally .now) 1 (getD (a .tally .now) 1 0 + 1) ∙ q .5))
+    (omega (arith, c .before .before .before .before .before .before .before .before .before .before .before .before .before .before .pre .0), (q .0, h, o .0, o .1, o .2, subst (λ x. Settled (a .m) (a .sets .now) x p) e below, length-set (a .tally .now) 1 _ ∙ q .5))
 
 visit-returns-3 : (t : ℕ) → visit-lts.Need-returns-3 (visit-claims t) (visit-at t) visit.Post
 visit-returns-3 t c =
@@ -314,8 +315,8 @@ visit-returns-3 t c =
     let e = c .before .before .before .before .tables-of .ensures in (
       refl,
       improved-tally (a .best .now) (c .before .before .before .before .tables-of .result) (a .tally .now) (a .floor) (q .5)
-          ∙ improves (a .n) (a .m) (a .budget) (h .sized) (a .sets .now) (h .sets) (stateOf (a .best .now) (a .tally .now)) (floor-is h (q .2)) (c .before .before .before .before .before .before .before .before .if1 .left) (c .before .before .before .before .before .before .if2 .left) (tables-are h e) (sym (c .before .before .first-open .ensures) ∙ c .enum-told .given .1),
-      length-set (set (a .tally .now) 1 (getD (a .tally .now) 1 0 + 1)) 0 (a .floor) ∙ length-set (a .tally .now) 1 (getD (a .tally .now) 1 0 + 1) ∙ q .5,
+          ∙ improves (a .n) (a .m) (a .budget) (h .sized) (a .sets .now) (h .sets) (stateOf (a .best .now) (a .tally .now)) (floor-is h (q .2)) (lt→nleb _ _ (c .before .before .before .before .before .before .before .before .if1 .left)) (c .before .before .before .before .before .before .if2 .left) (tables-are h e) (sym (c .before .before .first-open .ensures) ∙ c .enum-told .given .1),
+      length-set (set (a .tally .now) 1 _) 0 _ ∙ length-set (a .tally .now) 1 _ ∙ q .5,
     )
 
 visit-returns-4 : (t : ℕ) → visit-lts.Need-returns-4 (visit-claims t) (visit-at t) visit.Post
@@ -329,7 +330,7 @@ visit-returns-4 t c =
       c .split .ensures .0,
       c .split .ensures .1
           ∙ ap (splitOf (tree (a .n) (a .m)) (a .budget) (searchPart (tree (a .n) (a .m)) (a .budget)) (ofSets (a .sets .now)) p j) (charged-tally (a .best .now) (a .tally .now) (q .5))
-          ∙ splits (a .n) (a .m) (a .budget) (h .sized) (a .sets .now) (h .sets) (stateOf (a .best .now) (a .tally .now)) (floor-is h (q .2)) (c .before .before .before .before .before .before .before .before .before .before .before .before .before .if1 .left) (c .before .before .before .before .before .before .before .before .before .before .before .if2 .left) (tables-are h e) p j (sym (c .before .before .before .before .before .before .before .first-open .ensures) ∙ c .before .before .before .before .before .found .given .1),
+          ∙ splits (a .n) (a .m) (a .budget) (h .sized) (a .sets .now) (h .sets) (stateOf (a .best .now) (a .tally .now)) (floor-is h (q .2)) (lt→nleb _ _ (c .before .before .before .before .before .before .before .before .before .before .before .before .before .if1 .left)) (c .before .before .before .before .before .before .before .before .before .before .before .if2 .left) (tables-are h e) p j (sym (c .before .before .before .before .before .before .before .first-open .ensures) ∙ c .before .before .before .before .before .found .given .1),
       c .split .ensures .2,
     )
 

@@ -1,6 +1,6 @@
 use native.Mathlib.Omega.{arith}
 use borrow.Author.Needs.{needs}
-use Rattle.search.proofs.Changes.{alike-below}
+use Rattle.search.proofs.Changes.{alike-below, change-found, change-none}
 use Rattle.search.proofs.ranks.first_change.Statement.{statement}
 use Rattle.search.proofs.ranks.first_change.Tie as tie
 
@@ -32,10 +32,10 @@ cast-result : tie.Need-cast-result
 cast-result c = search needs
 
 returns : tie.Need-returns
-returns c = let a = c .before .args in (omega (arith, c .if1 .taken), alike-below (a .t1) (a .t2) _ (omega arith) (omega (arith, c .if1 .taken, c .before .pre)))
+returns c = let a = c .before .args in (change-found (a .t1) (a .t2) (a .p) (c .before .pre) (c .if1 .taken), omega (arith, c .if1 .taken), alike-below (a .t1) (a .t2) _ (omega arith) (omega (arith, c .if1 .taken, c .before .pre)))
 
 returns-2 : tie.Need-returns-2
-returns-2 c = let a = c .before .args in (omega arith, alike-below (a .t1) (a .t2) (a .p) (omega (arith, c .if1 .left)) (omega (arith, c .before .pre)))
+returns-2 c = let a = c .before .args in (change-none (a .t1) (a .t2) (a .p) (c .before .pre) (c .if1 .left), omega arith, alike-below (a .t1) (a .t2) (a .p) (omega (arith, c .if1 .left)) (omega (arith, c .before .pre)))
 
 pub first-change-spec : {M : Type 1} → statement M
 first-change-spec =
