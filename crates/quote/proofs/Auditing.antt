@@ -9,9 +9,8 @@ use lib.Dec.{eqb, ltb}
 use lib.ListN.{length, getD}
 use lib.Seq.{getD-take}
 use Rattle.base.specs.declared.Refusal.{Refusal}
-use Rattle.base.specs.Cases.{accepting, refusing, refusedCase, refusedOutcome, secondRefusedOutcome}
+use Rattle.base.specs.Cases.{accepting, refusing, refusedOutcome, secondRefusedOutcome}
 use Rattle.base.specs.Sizes.{maxWires}
-use Rattle.base.proofs.Cases.{accepted-refused, refused-accepted, same-refusal}
 use Rattle.base.proofs.Rows.{row-at, row-entry}
 use Rattle.table.specs.Bits.{bit, all, ofBits, row}
 use Rattle.table.specs.Tree.{Tree, Ordered, follow}
@@ -23,10 +22,11 @@ use Rattle.relation.specs.Handed.{relationOf}
 use Rattle.relation.proofs.Sets.{value-four}
 use Rattle.stage.specs.declared.reader.Answer.the-variants.{Accepted, Refused}
 use Rattle.stage.specs.declared.reader.StageRead.{StageRead}
-use Rattle.stage.specs.Cases.{answerCase, StageReply, stageReply}
+use Rattle.stage.specs.Cases.{stageReply}
 use Rattle.stage.specs.Bytes.{AllOrdered, size}
-use Rattle.stage.specs.Read.{StageSheet, got, refused, readStage}
+use Rattle.stage.specs.Read.{got, readStage}
 use Rattle.stage.specs.Reply.{tableOf, tablesOf, replyOf}
+use Rattle.stage.proofs.Replies.{told-refused, Got, told-got}
 use Rattle.stage.proofs.Sheets.{accepted}
 use Rattle.stage.proofs.Tables.{table-bit}
 use Rattle.sheet.specs.declared.Answer.the-variants.{Accepted as Taken, Refused as NotTaken}
@@ -37,37 +37,6 @@ use Rattle.unit.specs.Rival.{valueOn}
 use Rattle.quote.specs.Cases.{fits, differs}
 use Rattle.quote.specs.Audit.{keepsTo, sizesApart, auditedStage, auditedFrom, auditedOf}
 use Rattle.unit.proofs.Rivals.{byWire}
-
--- what a reply tells of the stage sheet
-module _ (s : StageSheet) (rd : StageRead) (e : stageReply rd ≡ replyOf s) where
-  answer-told : answerCase (rd .answer) ≡ replyOf s .answer
-  answer-told = ap (λ (x : StageReply). x .answer) e
-
-  pub told-refused : (f : Refusal) → rd .answer ≡ Refused f → s ≡ refused f
-  unfolding replyOf
-  told-refused f h = go s (ap answerCase (sym h) ∙ answer-told)
-    where
-      go : (t : StageSheet) → refusedCase f ≡ replyOf t .answer → t ≡ refused f
-      go (got n m trees) g = refused-accepted f g
-      go (refused g) d = ap refused (sym (same-refusal refusedOutcome f g d))
-
-  pub record Got : Type 0 where
-    pub trees : List Tree
-    pub is : s ≡ got (rd .n) (rd .m) trees
-    pub tables : rd .tables ≡ tablesOf (rd .n) trees
-    pub cells : rd .cells ≡ size trees
-
-  pub told-got : rd .answer ≡ Accepted → Got
-  unfolding replyOf
-  told-got h = go s refl
-    where
-      go : (t : StageSheet) → s ≡ t → Got
-      go (got n m trees) d =
-          let f : stageReply rd ≡ replyOf (got n m trees) = e ∙ ap replyOf d in
-          let en : rd .n ≡ n = ap (λ (x : StageReply). x .n) f in
-          let em : rd .m ≡ m = ap (λ (x : StageReply). x .m) f in
-          record { trees = trees; is = rw (en, em) d; tables = rw en (ap (λ (x : StageReply). x .tables) f); cells = ap (λ (x : StageReply). x .cells) f }
-      go (refused g) d = accepted-refused g (ap answerCase (sym h) ∙ answer-told ∙ ap (λ t. replyOf t .answer) d)
 
 -- trees by wire
 pub ordered-at : (n : ℕ) (trees : List Tree) → AllOrdered n trees → (j : ℕ) → j < length trees → Ordered n 0 (byWire trees j)

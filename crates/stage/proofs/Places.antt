@@ -15,11 +15,12 @@ use Rattle.base.specs.Refusals.{refusalAt, cutShort, outOfRange, outOfTurn, not
 use Rattle.base.specs.Sizes.{countOut}
 use Rattle.base.proofs.Tests.{decide}
 use Rattle.table.specs.Tree.{Tree, sel, Ordered, selectors}
+use Rattle.base.specs.Cases.{refusedOutcome}
+use Rattle.base.proofs.Cases.{same-refusal}
 use Rattle.stage.specs.Bytes.{treeBytes}
 use Rattle.stage.specs.Cases.{TreeReply, takenTree, refusedTree}
 use Rattle.stage.specs.Read.{Read, taken, fault, andThen, dueNumber, due, operand, branchesAt, selectorAt, treeAt, wireAt}
 use Rattle.stage.specs.Reply.{tableOf, selectOf, stepOf}
-use Rattle.stage.proofs.Cases.{refused-one}
 use Rattle.stage.proofs.Reading.{Told, tree-told}
 use Rattle.stage.proofs.Ranges.{count-fits}
 use Rattle.stage.proofs.Tables.{table-lt, table-select, selectors-few}
@@ -132,7 +133,7 @@ took s n k t c next (taken x past rest) h e =
 
 pub fell : (n : ℕ) (f : Refusal) (y : Read Tree) → refusedTree f ≡ stepOf n y → y ≡ fault f
 unfolding stepOf
-fell n f (fault g) e = ap fault (sym (refused-one f g (ap (λ (r : TreeReply). r .answer) e)))
+fell n f (fault g) e = ap fault (sym (same-refusal refusedOutcome f g (ap (λ (r : TreeReply). r .answer) e)))
 fell n f (taken x past rest) e = never f _ _ _ (sym e)
 
 -- the bounds of what the reader of trees hands back

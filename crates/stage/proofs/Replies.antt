@@ -1,9 +1,8 @@
 -- What the reader's reply tells of the stage sheet, for those who call it and match on its answer.
-use Prim.Native.Nat.{ℕ}
 use mathlib.Core.Path.{_≡_, refl, sym, ap, _∙_}
 use mathlib.Core.List.{List}
-use native.Mathlib.Omega.{arith}
-use Rattle.base.specs.Cases.{Case, acceptedCase, refusedCase}
+use Rattle.base.specs.Cases.{refusedCase, refusedOutcome}
+use Rattle.base.proofs.Cases.{accepted-refused, refused-accepted, same-refusal}
 use Rattle.base.specs.declared.Refusal.{Refusal}
 use Rattle.table.specs.Tree.{Tree}
 use Rattle.stage.specs.Bytes.{size}
@@ -12,7 +11,6 @@ use Rattle.stage.specs.Read.{StageSheet, got, refused}
 use Rattle.stage.specs.Reply.{tablesOf, replyOf}
 use Rattle.stage.specs.declared.reader.Answer.the-variants.{Accepted, Refused}
 use Rattle.stage.specs.declared.reader.StageRead.{StageRead}
-use Rattle.stage.proofs.Cases.{refused-one}
 
 module _ (s : StageSheet) (rd : StageRead) (e : stageReply rd ≡ replyOf s) where
   answered : answerCase (rd .answer) ≡ replyOf s .answer
@@ -23,8 +21,8 @@ module _ (s : StageSheet) (rd : StageRead) (e : stageReply rd ≡ replyOf s) whe
   told-refused f h = go s (ap answerCase (sym h) ∙ answered)
     where
       go : (t : StageSheet) → refusedCase f ≡ replyOf t .answer → t ≡ refused f
-      go (got n m trees) g = absurd (omega (arith, ap (λ (c : Case). c .outcome) g))
-      go (refused g) d = ap refused (sym (refused-one f g d))
+      go (got n m trees) g = refused-accepted f g
+      go (refused g) d = ap refused (sym (same-refusal refusedOutcome f g d))
 
   pub record Got : Type 0 where
     pub trees : List Tree
@@ -43,5 +41,4 @@ module _ (s : StageSheet) (rd : StageRead) (e : stageReply rd ≡ replyOf s) whe
           let em : rd .m ≡ m = ap (λ (x : StageReply). x .m) f in
           record { trees = trees; is = rw (en, em) d; tables = rw en (ap (λ (x : StageReply). x .tables) f); cells = ap (λ (x : StageReply). x .cells) f }
       go (refused g) d =
-          let c : acceptedCase ≡ refusedCase g = ap answerCase (sym h) ∙ answered ∙ ap (λ (t : StageSheet). replyOf t .answer) d in
-          absurd (omega (arith, ap (λ (c : Case). c .outcome) c))
+          accepted-refused g (ap answerCase (sym h) ∙ answered ∙ ap (λ (t : StageSheet). replyOf t .answer) d)
