@@ -139,7 +139,7 @@ module _ (bytes : List ℕ) (cs : List Command) (e : readingOf bytes ≡ holds c
       ⊎-elim (λ w. let k = some-keeps cs w in (k .0, keeps-rival (k .0) .0 (k .1))) (λ b. absurd (omega arith))
       (well-defined-or (inputsOf cs) (wiresOf cs) (unitRelation cs))
 
-  -- "R(p) is empty" for some p exactly where no rival exists
+  -- some R(p) is empty exactly where no rival exists
   pub no-rival : (emptyIn cs < 2 ^ inputsOf cs) ↔ ((trees : List Tree) → Rival bytes trees → ⊥)
   no-rival = (
     λ l trees r. empty-no-rival cs trees l (keeps-rival trees .1 r),

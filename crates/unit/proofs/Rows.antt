@@ -20,13 +20,13 @@ unfoldable pub opened : ℕ
 unfolding formedOf formedFrom relationIn setOn unitRelation permits alike sameList outputsFor signalsOn withGates gateBit emptyPattern isOne bit any sum ofBits row readingOf readingFrom oneCommand nextOf judged ending collect lowest
 opened = 0
 
--- A: "R: {1}, {0,3}, {0,3}, {2}"; bit v of a set is value v
+-- sheet A: {1}, {0,3}, {0,3}, {2}; bit v of a set is value v
 pub sheet-a : formedOf sheetA
     ≡ record { relation = record { n = 2; m = 2; sets = 2 ∷ 9 ∷ 9 ∷ 4 ∷ 0 ∷ 0 ∷ 0 ∷ 0 ∷ 0 ∷ 0 ∷ 0 ∷ 0 ∷ 0 ∷ 0 ∷ 0 ∷ 0 ∷ [] }; answer = acceptedCase }
 unfolding opened
 sheet-a = refl
 
--- "A with 06 02 02 00 before its end*: 10 at 2"
+-- sheet A limited on pattern 2 to the value 1, which answers otherwise
 abbrev pub limitedA : List ℕ
 limitedA = 1 ∷ 2 ∷ 2 ∷ 2 ∷ 0 ∷ 1 ∷ 2 ∷ 1 ∷ 0 ∷ 2 ∷ 2 ∷ 0 ∷ 2 ∷ 3 ∷ 2 ∷ 4 ∷ 2 ∷ 0 ∷ 1 ∷ 4 ∷ 0 ∷ 2 ∷ 1 ∷ 5 ∷ 2 ∷ 5 ∷ 3 ∷ 6 ∷ 2 ∷ 2 ∷ 0 ∷ 0 ∷ []
 
@@ -34,8 +34,7 @@ pub limited-a : formedOf limitedA ≡ turnedAway (refusalAt empty 2)
 unfolding opened
 limited-a = refl
 
--- "Several for one p intersect", "With no outputs, all values are alike", "The present value itself need not be permitted", and an impossible pattern keeps
--- its limits: pattern 0 has the present value 0 and permits 1 alone, pattern 1 is impossible and permits 0 alone
+-- limits alone: two on pattern 0 leave 1, though 0 is the present value; pattern 1 is impossible and keeps its limit to 0; there is no output
 abbrev pub limitsOnly : List ℕ
 limitsOnly = 1 ∷ 1 ∷ 1 ∷ 2 ∷ 0 ∷ 0 ∷ 3 ∷ 1 ∷ 6 ∷ 0 ∷ 3 ∷ 0 ∷ 6 ∷ 0 ∷ 2 ∷ 0 ∷ 6 ∷ 1 ∷ 1 ∷ 0 ∷ 0 ∷ []
 

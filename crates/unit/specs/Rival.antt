@@ -1,4 +1,4 @@
--- Document 01, "Quote, audit, program": "A rival in demand 3 is told by the sheet alone: one tree of 'Stage sheet' for each wire 0 to m−1."
+-- Document 01, "Quote, audit, program": a rival, told by the commands of the sheet and by nothing that the code gathers from them.
 use Prim.Native.Nat.{ℕ, _^_, _<_}
 use mathlib.Core.Path.{_≡_}
 use mathlib.Core.List.{List, List·Memᴰ}
@@ -11,18 +11,18 @@ use Rattle.sheet.specs.Commands.{inputsOf, wiresOf}
 use Rattle.sheet.specs.Reading.{holds, readingOf}
 use Rattle.unit.specs.Gates.{outputsFor}
 
--- "On pattern p each tree is followed to a constant .. The constants reached are the bits of its value v on p."
+-- the value of a family of trees on pattern p: bit j is the constant that tree j leads to
 unfoldable pub valueOn : ℕ → List Tree → ℕ → ℕ
 valueOn n trees p = ofBits (length trees) (λ j. follow n p (getD trees j (con 0)))
 
 -- the trees keep to what the commands say
 pub record Keeps (cs : List Command) (trees : List Tree) : Type 0 where
-  -- "one tree .. for each wire 0 to m−1"
+  -- one ordered tree to a wire
   pub one-each : length trees ≡ wiresOf cs
   pub ordered : (j : ℕ) → j < wiresOf cs → Ordered (inputsOf cs) 0 (getD trees j (con 0))
-  -- "For every p, v is permitted": every command 06 p w has v
+  -- on every pattern the value is in the set of each 06
   pub permitted : (p w : ℕ) → p < 2 ^ inputsOf cs → List·Memᴰ (Limit p w) cs → bit w (valueOn (inputsOf cs) trees p) ≡ 1
-  -- "where p has 02 with value u, the unit answers alike, that is G(v) = G(u)"
+  -- where a pattern has a 02, the outputs are those of its present value
   pub answers : (p u : ℕ) → p < 2 ^ inputsOf cs → List·Memᴰ (Row p u) cs → outputsFor cs (valueOn (inputsOf cs) trees p) ≡ outputsFor cs u
 
 -- a rival of the sheet in these bytes
