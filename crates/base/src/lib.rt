@@ -1,6 +1,5 @@
 // What every format shares: refusals, total access to bytes, and the test of sizes.
 ghost use mathlib.Core.Path.{_≡_};
-ghost use Prim.Native.Nat.{ℕ};
 ghost use lib.ListN.{getD, set};
 ghost use Rattle.base.specs.Refusals.{refusalAt};
 ghost use Rattle.base.specs.Sizes.{countOut, sizesOut};

@@ -23,7 +23,7 @@ use Rattle.relation.proofs.Sets.{value-four}
 use Rattle.stage.specs.declared.reader.Answer.the-variants.{Accepted, Refused}
 use Rattle.stage.specs.declared.reader.StageRead.{StageRead}
 use Rattle.stage.specs.Cases.{stageReply}
-use Rattle.stage.specs.Bytes.{AllOrdered, size}
+use Rattle.stage.specs.Bytes.{AllOrdered}
 use Rattle.stage.specs.Read.{got, readStage}
 use Rattle.stage.specs.Reply.{tableOf, tablesOf, replyOf}
 use Rattle.stage.proofs.Replies.{told-refused, Got, told-got}

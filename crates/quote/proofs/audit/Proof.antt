@@ -1,4 +1,4 @@
-use mathlib.Core.Path.{_≡_, _∙_}
+use mathlib.Core.Path.{_∙_}
 use Rattle.quote.proofs.Auditing.{formed-audit, turned-audit}
 use borrow.Author.Needs.{needs}
 use Rattle.quote.proofs.audit.Statement.{statement}

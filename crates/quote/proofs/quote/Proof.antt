@@ -1,4 +1,3 @@
-use mathlib.Core.Path.{_≡_}
 use Rattle.quote.proofs.Quoting.{formed-quote, turned-quote}
 use borrow.Author.Needs.{needs}
 use Rattle.quote.proofs.quote.Statement.{statement}

@@ -1,6 +1,5 @@
 use Rattle.table.specs.Bits.{row}
-use Prim.Native.Nat.{ℕ}
-use mathlib.Core.Path.{_≡_, ap, ap₂, sym, subst, _∙_}
+use mathlib.Core.Path.{_≡_, ap, sym, subst, _∙_}
 use lib.ListN.{length}
 use Rattle.relation.specs.Cases.{checkedCase}
 use Rattle.relation.specs.Tests.{ofSets}

@@ -1,7 +1,7 @@
 use mathlib.Core.Bool.{true, false}
 use Rattle.quote.specs.Cases.{auditedCase}
 use Rattle.quote.specs.declared.Audited.the-variants.{StageRefused}
-use mathlib.Core.Path.{_≡_, sym, ap, _∙_}
+use mathlib.Core.Path.{sym, ap, _∙_}
 use Rattle.quote.proofs.Auditing.{stage-refused, inputs-differ, wires-differ, few-inputs, tested}
 use borrow.Author.Needs.{needs}
 use Rattle.quote.proofs.audits.audit_stage.Statement.{statement}

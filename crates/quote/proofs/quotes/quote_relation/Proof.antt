@@ -1,11 +1,7 @@
 use Rattle.base.specs.Cases.{isRefused}
 use Rattle.search.specs.Cases.{markCase}
 use Rattle.quote.proofs.Quoting.{with-stage, no-stage}
-use mathlib.Core.Path.{_≡_, sym, ap, _∙_}
-use lib.ListN.{length}
-use Rattle.search.specs.Reply.{searchOf}
-use Rattle.stage.specs.Written.{writtenOf, bufferAfter}
-use Rattle.quote.specs.Quote.{withStage, searched, bufferSearched, refusedQuote}
+use mathlib.Core.Path.{ap}
 use borrow.Author.Needs.{needs}
 use Rattle.quote.proofs.quotes.quote_relation.Statement.{statement}
 use Rattle.quote.proofs.quotes.quote_relation.Tie as tie

@@ -1,5 +1,4 @@
 use Rattle.relation.specs.Tests.{isOne}
-use borrow.Author.Needs.{needs}
 use Rattle.search.proofs.pairs.one.Statement.{statement}
 use Rattle.search.proofs.pairs.one.Tie as tie
 

@@ -2,7 +2,6 @@ use mathlib.Core.Path.{refl, ap, _∙_}
 use Rattle.search.specs.Kept.{ranksBetween}
 use Rattle.search.proofs.Keeping.{pairs-cover}
 use Rattle.search.proofs.Whole.{ranks-between}
-use borrow.Author.Needs.{needs}
 use Rattle.search.proofs.parts.whole.Statement.{statement}
 use Rattle.search.proofs.parts.whole.Tie as tie
 

@@ -3,7 +3,6 @@ use Rattle.table.specs.Pick.{pickOf, rank}
 use Rattle.table.specs.Pairs.{zerosIn, onesIn}
 use Rattle.search.specs.Kept.{Covers}
 use Rattle.search.proofs.Keeping.{pair-covers, rank-between}
-use borrow.Author.Needs.{needs}
 use Rattle.search.proofs.parts.wire_rank.Statement.{statement}
 use Rattle.search.proofs.parts.wire_rank.Tie as tie
 

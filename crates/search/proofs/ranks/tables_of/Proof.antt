@@ -1,4 +1,4 @@
-use Prim.Native.Nat.{ℕ, _%_}
+use Prim.Native.Nat.{_%_}
 use lib.ListN.{getD}
 use Rattle.table.specs.Pick.{tableSpace}
 use Rattle.table.proofs.Bits.{row-four}

@@ -1,9 +1,8 @@
 -- `blocks` meets its contract: the rule of the table is one test over all of its entries.
 use Prim.Native.Nat.{ℕ, _+_, _*_, _/_, _%_, _<_}
 use mathlib.Core.Path.{_≡_, ap₂, _∙_}
-use mathlib.Core.Bool.{Bool, cond}
+use mathlib.Core.Bool.{Bool}
 use mathlib.Core.List.{List, [], _∷_}
-use mathlib.Core.Option.{Option, none, some}
 use native.Mathlib.Omega.{arith}
 use lib.Arith.{digits-div, digits-mod}
 use lib.Dec.{eqb, eqb→eq}
@@ -12,7 +11,7 @@ use Rattle.base.proofs.Table.{at}
 use Rattle.table.specs.Bits.{bit, all}
 use Rattle.table.specs.Cells.{cells, low, high}
 use Rattle.table.specs.Pick.{suits, nearer, least, leastOf, masked}
-use Rattle.table.specs.Blocks.{blockOf, entryOf, Blocks}
+use Rattle.table.specs.Blocks.{blockOf, entryOf}
 use Rattle.table.proofs.picks.blocks.Statement.{statement}
 use Rattle.table.proofs.picks.blocks.Tie as tie
 
