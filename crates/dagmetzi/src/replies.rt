@@ -2,6 +2,7 @@
 use base::Refusal;
 use quote::Audited;
 use quote::Quoted;
+use report::LONGEST_STAGE;
 use search::Mark;
 ghost use mathlib.Core.Path.{_≡_};
 ghost use Prim.Native.Nat.{_≤_};
@@ -13,7 +14,7 @@ ghost use Rattle.base.specs.Cases.{refusedCase};
 ghost use Rattle.dagmetzi.specs.Printed.{longestSheet, printedOf, auditPrintedOf};
 
 // The longest sheet that is taken, and the budget of a quote.
-const LONGEST_SHEET: usize = 4096;
+pub const LONGEST_SHEET: usize = 4096;
 
 const BUDGET: u32 = 10000;
 
@@ -41,7 +42,7 @@ fn too_long_quote() -> Quoted
 pub fn quote_reply(sheet: &[u8], out: &mut [u8]) -> usize
     ensures { λ r. ⌜ (r ≡ length (printedOf (now (sheet .entry)))) × (now (out .exit) ≡ sets (now (out .entry)) 0 (printedOf (now (sheet .entry)))) × (r ≤ 700) ⌝ }
 {
-    let mut stage = [0u8; 196];
+    let mut stage = [0u8; LONGEST_STAGE];
     if LONGEST_SHEET < sheet.len() {
         return report::report(too_long_quote(), &stage, out);
     }

@@ -16,6 +16,11 @@ ghost use Rattle.report.specs.Lines.{longestReport, linesOf, auditLine};
 pub mod text; // numbers and bytes as text
 mod parts; // what the lines are made of
 
+// A stage has at most so many bytes, and the lines of a report at most so many.
+pub const LONGEST_STAGE: usize = 196;
+
+pub const LONGEST_REPORT: usize = 700;
+
 // The lines for a reply of the quote and the bytes that it wrote its stage to.
 pub fn report(q: Quoted, stage: &[u8], out: &mut [u8]) -> usize
     ensures { λ r. ⌜ (r ≡ length (linesOf (quoteReply q) (now (stage .entry)))) × (now (out .exit) ≡ sets (now (out .entry)) 0 (linesOf (quoteReply q) (now (stage .entry)))) × (r ≤ longestReport) ⌝ }

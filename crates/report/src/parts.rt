@@ -1,5 +1,6 @@
 // The parts of which the program's lines are made, put into a lent buffer, each with the place after it.
 // Inner functions: the two reports meet what they require, bounds on places and lengths that are there for the sums alone.
+use crate::LONGEST_STAGE;
 use crate::text::put_byte;
 use crate::text::put_decimal;
 use crate::text::put_hex_pairs;
@@ -12,9 +13,6 @@ ghost use lib.ListN.{length};
 ghost use Rattle.quote.specs.Cases.{quoteReply};
 ghost use Rattle.report.specs.Put.{Put};
 ghost use Rattle.report.specs.Lines.{longestStage, longestReport, named, countsOf, stageLine, resultLines, refusalLine, judgedLine};
-
-// A stage has at most so many bytes.
-const LONGEST_STAGE: usize = 196;
 
 // Puts a number after its name.
 fn put_named(out: &mut [u8], at: usize, name: &[u8], x: u64) -> usize
