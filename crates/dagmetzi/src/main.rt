@@ -2,8 +2,9 @@
 // goes to standard output, and is proved. What is wrong with the arguments or the files goes to standard error, as one line, and nothing to standard output:
 // there is no exit status to tell it by.
 use check::same;
+use files::read_argument;
 
-mod files; // reading a file by name
+mod files; // reading arguments and files
 mod messages; // what is said on standard error
 mod replies; // what is printed
 mod words; // what each word does
@@ -23,11 +24,11 @@ fn main() {
         words::quote();
         return;
     }
-    let mut word = io::buffer();
-    let length = os::arg(1, &mut word);
-    if os::errno() != 0 {
-        messages::fail(b"cannot take ", b"an argument that long");
+    let mut buffer = io::buffer();
+    let word = read_argument(1, &mut buffer);
+    if !word.is_read {
         return;
     }
-    run(&word[..length], count - 2);
+    let length = word.length;
+    run(&buffer[..length], count - 2);
 }

@@ -1,5 +1,5 @@
 // The words of the program: a function for each, which takes the number of arguments after the word, reads the files that they name, and prints the reply.
-use crate::files::read_argument;
+use crate::files::read_named;
 use crate::files::read_open;
 use crate::messages;
 use crate::replies;
@@ -46,12 +46,12 @@ pub fn audit(count: usize) {
         return;
     }
     let mut sheet = [0u8; SHEET_ROOM];
-    let first = read_argument(2, &mut sheet);
+    let first = read_named(2, &mut sheet);
     if !first.is_read {
         return;
     }
     let mut stage = [0u8; STAGE_ROOM];
-    let second = read_argument(3, &mut stage);
+    let second = read_named(3, &mut stage);
     if !second.is_read {
         return;
     }

@@ -24,20 +24,20 @@ advise-requires c κs = search needs
 returns : tie.Need-returns
 returns c = search needs
 
-slice-aggregate-read-argument : tie.Need-slice-aggregate-read-argument
-slice-aggregate-read-argument c = search needs
+slice-aggregate-read-named : tie.Need-slice-aggregate-read-named
+slice-aggregate-read-named c = search needs
 
-read-argument-requires : tie.Need-read-argument-requires
-read-argument-requires c κs = search needs
+read-named-requires : tie.Need-read-named-requires
+read-named-requires c κs = search needs
 
 returns-2 : tie.Need-returns-2
 returns-2 c = search needs
 
-slice-aggregate-read-argument-2 : tie.Need-slice-aggregate-read-argument-2
-slice-aggregate-read-argument-2 c = search needs
+slice-aggregate-read-named-2 : tie.Need-slice-aggregate-read-named-2
+slice-aggregate-read-named-2 c = search needs
 
-read-argument-requires-2 : tie.Need-read-argument-requires-2
-read-argument-requires-2 c κs = search needs
+read-named-requires-2 : tie.Need-read-named-requires-2
+read-named-requires-2 c κs = search needs
 
 returns-3 : tie.Need-returns-3
 returns-3 c = search needs
@@ -84,11 +84,11 @@ audit-spec =
     slice-aggregate-advise-3
     advise-requires
     returns
-    slice-aggregate-read-argument
-    read-argument-requires
+    slice-aggregate-read-named
+    read-named-requires
     returns-2
-    slice-aggregate-read-argument-2
-    read-argument-requires-2
+    slice-aggregate-read-named-2
+    read-named-requires-2
     returns-3
     array-share-prefix-sheet
     slice-aggregate-audit-reply
