@@ -19,7 +19,7 @@ pub const LONGEST_SHEET: usize = 4096;
 
 const BUDGET: u32 = 10000;
 
-// The refusal of a sheet that is too long. It comes before everything.
+// The refusal of a sheet that is too long: nothing of such a sheet is read, and no stage beside it.
 fn too_long() -> Refusal
     ensures { λ r. ⌜ r ≡ refusalAt tooLong longestSheet ⌝ }
 {
