@@ -1,7 +1,8 @@
 /* Dagmetzi: the smallest first stage of a two-stage converter.
  *
  * Each call returns 0, or the number of its refusal (document 01, "Refusals"), and leaves DAGMETZI_NUMBERS numbers in
- * `reply`. A refused call leaves `buffer` as it was, and 0 for the cells, the floor, the visits and the length.
+ * `reply`. A refused call changes nothing that is lent but `reply`: `buffer` and `tables` are as they were, and `reply`
+ * has the outcome, the place, and 0 for the cells, the floor, the visits and the length.
  *
  * What a caller owes: no pointer is null, not even beside a length of 0, and each is aligned for what it points to. All
  * that is lent can be read, and `buffer`, `tables` and `reply` can be written. These three share no byte with each
@@ -58,6 +59,10 @@ enum {
     DAGMETZI_SIZES_DIFFER = 13   /* audit: the stage has another n or m than the sheet; place 0 */
 };
 
+/* A relation has at most so many patterns, and a stage at most so many wires. */
+#define DAGMETZI_PATTERNS 16
+#define DAGMETZI_WIRES 4
+
 /* No stage has more bytes than this: a buffer of this length is never too short. */
 #define DAGMETZI_LONGEST_STAGE 196
 
@@ -72,10 +77,10 @@ uint32_t dagmetzi_audit(const uint8_t *sheet, size_t sheet_length, const uint8_t
 
 /* The smallest stage of a relation of n inputs and m wires (1 to 4 each), or the best found under the budget. Bit v of
  * sets[p] says that the wires may have value v on pattern p; the sets from 2 to the power n up are not read. `tables`
- * is given a table for each wire, and 0 past the last: bit p of a table is the wire on pattern p. On a refusal all four
- * are 0. */
-uint32_t dagmetzi_search(uint8_t n, uint8_t m, const uint16_t sets[16], uint32_t budget, uint16_t tables[4],
-                         uint64_t reply[DAGMETZI_NUMBERS]);
+ * is given a table for each wire, and 0 past the last: bit p of a table is the wire on pattern p. A refusal leaves it
+ * as it was. */
+uint32_t dagmetzi_search(uint8_t n, uint8_t m, const uint16_t sets[DAGMETZI_PATTERNS], uint32_t budget,
+                         uint16_t tables[DAGMETZI_WIRES], uint64_t reply[DAGMETZI_NUMBERS]);
 
 #ifdef __cplusplus
 }

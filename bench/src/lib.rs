@@ -35,6 +35,9 @@ pub const STAGE_REFUSED: u64 = 3;
 /// What replies are filled with before a call, so that a number left unwritten is seen.
 const FILL: u64 = 0xEEEE_EEEE_EEEE_EEEE;
 
+/// What tables are filled with before a search, so that a refusal that writes is seen.
+pub const LENT_TABLE: u16 = 0xEEEE;
+
 /// What a call returns, and the six numbers of its reply.
 #[derive(Clone, Copy, PartialEq, Eq, Debug)]
 pub struct Told {
@@ -71,7 +74,7 @@ pub fn audit(sheet: &[u8], stage: &[u8]) -> Told {
 
 pub fn search(n: u8, m: u8, sets: &[u16; 16], budget: u32) -> (Told, [u16; 4]) {
     let mut reply = [FILL; 6];
-    let mut tables = [0xEEEE; 4];
+    let mut tables = [LENT_TABLE; 4];
     // SAFETY: as above; there are 16 sets and 4 tables.
     let refusal = unsafe { c::dagmetzi_search(n, m, sets.as_ptr(), budget, tables.as_mut_ptr(), reply.as_mut_ptr()) };
     (told(refusal, reply), tables)

@@ -1,7 +1,7 @@
 //! The library through the C boundary against the independent solver: the same replies, and the same bytes in what was
 //! lent.
 
-use bench::{Told, BEST, DIFFERS, FITS, REFUSED, STAGE_REFUSED, STOPPED};
+use bench::{Told, BEST, DIFFERS, FITS, LENT_TABLE, REFUSED, STAGE_REFUSED, STOPPED};
 use trials::audit::Audit;
 use trials::case::Case;
 use trials::draw::relations::{half_dense, junk_past_the_last, malformed, sets};
@@ -33,14 +33,14 @@ fn found(cells: u32, floor: u32, visits: u32, stopped: bool, length: usize) -> T
     }
 }
 
-/// The reply and the tables that the tuned search gives, or the refusal.
+/// The reply and the tables that the tuned search gives, or the refusal, which leaves the tables as they were lent.
 fn searched(n: u8, m: u8, sets: &[u16; 16], budget: u32) -> (Told, [u16; 4]) {
     match handed(n, m, sets) {
         Ok(r) => {
             let a = fast::search(r.n, &r.sets, budget);
             (found(a.cells, a.floor, a.visits, a.stopped, 0), a.tables)
         }
-        Err(r) => (refused(REFUSED, &r), [0; 4]),
+        Err(r) => (refused(REFUSED, &r), [LENT_TABLE; 4]),
     }
 }
 

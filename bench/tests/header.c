@@ -14,9 +14,9 @@ static void print_reply(uint32_t refusal, const uint64_t reply[DAGMETZI_NUMBERS]
 int main(void) {
     const uint8_t sheet[] = {0x01, 0x02, 0x02, 0x02, 0x00, 0x01, 0x02, 0x01, 0x00, 0x02, 0x02, 0x00, 0x02, 0x03,
                              0x02, 0x04, 0x02, 0x00, 0x01, 0x04, 0x00, 0x02, 0x01, 0x05, 0x02, 0x05, 0x03, 0x00};
-    const uint16_t sets[16] = {2, 9, 9, 4};
+    const uint16_t sets[DAGMETZI_PATTERNS] = {2, 9, 9, 4};
     uint8_t buffer[DAGMETZI_LONGEST_STAGE] = {0};
-    uint16_t tables[4];
+    uint16_t tables[DAGMETZI_WIRES];
     uint64_t reply[DAGMETZI_NUMBERS];
     uint64_t length;
 

@@ -4,18 +4,18 @@ use quote::quote;
 use relation::Relation;
 use search::search;
 use told::audit_told;
-use told::quote_told;
-use told::search_told;
+use told::audited_cells;
+use told::mark_told;
 ghost use mathlib.Core.Path.{_≡_};
 ghost use lib.ListN.{length};
 ghost use Rattle.quote.specs.Quote.{quotedOf, bufferQuoted};
 ghost use Rattle.quote.specs.Promised.{Promised};
 ghost use Rattle.quote.specs.Audit.{auditedOf};
-ghost use Rattle.capi.specs.Told.{quoteTold, searchHanded, searchTold, auditTold};
+ghost use Rattle.capi.specs.Told.{quoteNumbers, searchHanded, searchNumbers, tablesAfter, auditNumbers};
 
-mod told; // an answer as numbers
+mod told; // a case of an answer as numbers
 
-// The search of a relation: `sets` has the sets of values of its patterns. The refusal's number, or 0.
+// The search of a relation: `sets` has the sets of values of its patterns. The refusal's number, or 0; a refusal leaves `tables` as they were.
 #[no_mangle]
 pub extern "C" fn dagmetzi_search(
     n: u8,
@@ -25,22 +25,30 @@ pub extern "C" fn dagmetzi_search(
     tables: &mut [u16; 4],
     reply: &mut [u64; 6],
 ) -> u32
-    ensures refusal { λ r. ⌜ r ≡ searchTold (searchHanded n m (now (sets .entry)) budget) .refusal ⌝ }
-    ensures numbers { λ _. ⌜ now (reply .exit) ≡ searchTold (searchHanded n m (now (sets .entry)) budget) .numbers ⌝ }
-    ensures tables { λ _. ⌜ now (tables .exit) ≡ searchHanded n m (now (sets .entry)) budget .tables ⌝ }
+    ensures refusal { λ r. ⌜ r ≡ searchHanded n m (now (sets .entry)) budget .mark .number ⌝ }
+    ensures numbers { λ _. ⌜ now (reply .exit) ≡ searchNumbers (searchHanded n m (now (sets .entry)) budget) ⌝ }
+    ensures tables { λ _. ⌜ now (tables .exit) ≡ tablesAfter (searchHanded n m (now (sets .entry)) budget) (now (tables .entry)) ⌝ }
 {
     let copy = *sets;
-    let relation = Relation { n, m, sets: copy };
-    let answer = search(relation, budget);
-    let told = search_told(answer);
+    let answer = search(Relation { n, m, sets: copy }, budget);
+    let mark = answer.mark;
+    let told = mark_told(mark);
     let found = answer.tables;
-    let numbers = told.numbers;
-    *tables = found;
-    *reply = numbers;
-    told.refusal
+    if told.outcome < told::REFUSED {
+        *tables = found;
+    }
+    *reply = [
+        told.outcome,
+        answer.cells as u64,
+        answer.floor as u64,
+        answer.visits as u64,
+        0,
+        told.place,
+    ];
+    told.number
 }
 
-// The quote of a unit sheet, its stage written at the start of `buffer`. The refusal's number, or 0.
+// The quote of a unit sheet, its stage written at the start of `buffer`. The refusal's number, or 0; a refusal leaves `buffer` as it was.
 #[no_mangle]
 pub extern "C" fn dagmetzi_quote(
     sheet: &[u8],
@@ -48,26 +56,34 @@ pub extern "C" fn dagmetzi_quote(
     buffer: &mut [u8],
     reply: &mut [u64; 6],
 ) -> u32
-    ensures refusal { λ r. ⌜ r ≡ quoteTold (quotedOf (now (sheet .entry)) budget (length (now (buffer .entry)))) .refusal ⌝ }
-    ensures numbers { λ _. ⌜ now (reply .exit) ≡ quoteTold (quotedOf (now (sheet .entry)) budget (length (now (buffer .entry)))) .numbers ⌝ }
+    ensures refusal { λ r. ⌜ r ≡ quotedOf (now (sheet .entry)) budget (length (now (buffer .entry))) .mark .number ⌝ }
+    ensures numbers { λ _. ⌜ now (reply .exit) ≡ quoteNumbers (quotedOf (now (sheet .entry)) budget (length (now (buffer .entry)))) ⌝ }
     ensures bytes { λ _. ⌜ now (buffer .exit) ≡ bufferQuoted (now (sheet .entry)) budget (now (buffer .entry)) ⌝ }
     ensures promise { λ _. ⌜ Promised (now (sheet .entry)) budget (quotedOf (now (sheet .entry)) budget (length (now (buffer .entry)))) (now (buffer .exit)) ⌝ }
 {
     let quoted = quote(sheet, budget, buffer);
-    let told = quote_told(quoted);
-    let numbers = told.numbers;
-    *reply = numbers;
-    told.refusal
+    let mark = quoted.mark;
+    let told = mark_told(mark);
+    *reply = [
+        told.outcome,
+        quoted.cells as u64,
+        quoted.floor as u64,
+        quoted.visits as u64,
+        quoted.length as u64,
+        told.place,
+    ];
+    told.number
 }
 
 // The audit of a stage sheet against a unit sheet. The refusal's number, or 0.
 #[no_mangle]
 pub extern "C" fn dagmetzi_audit(sheet: &[u8], stage: &[u8], reply: &mut [u64; 6]) -> u32
-    ensures refusal { λ r. ⌜ r ≡ auditTold (auditedOf (now (sheet .entry)) (now (stage .entry))) .refusal ⌝ }
-    ensures numbers { λ _. ⌜ now (reply .exit) ≡ auditTold (auditedOf (now (sheet .entry)) (now (stage .entry))) .numbers ⌝ }
+    ensures refusal { λ r. ⌜ r ≡ auditedOf (now (sheet .entry)) (now (stage .entry)) .number ⌝ }
+    ensures numbers { λ _. ⌜ now (reply .exit) ≡ auditNumbers (auditedOf (now (sheet .entry)) (now (stage .entry))) ⌝ }
 {
-    let told = audit_told(audit(sheet, stage));
-    let numbers = told.numbers;
-    *reply = numbers;
-    told.refusal
+    let audited = audit(sheet, stage);
+    let told = audit_told(audited);
+    let cells = audited_cells(audited);
+    *reply = [told.outcome, cells as u64, 0, 0, 0, told.place];
+    told.number
 }

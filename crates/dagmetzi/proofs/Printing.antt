@@ -3,14 +3,17 @@ use Prim.Native.Nat.{ℕ, _<_, _≤_}
 use mathlib.Core.Path.{_≡_, sym, ap, ap₂, _∙_}
 use mathlib.Core.List.{List, []}
 use borrow.Author.Tests.{lt-ltb, le-ltb}
-use lib.ListN.{length}
+use lib.ListN.{length, take}
 use lib.Seq.{sets}
 use Rattle.base.specs.Cases.{Case, refusing, refusedOutcome, refusedCase}
 use Rattle.base.specs.Refusals.{refusalAt, tooLong}
+use Rattle.stage.specs.Bytes.{longestStage}
+use Rattle.stage.proofs.Prefix.{front-tells}
 use Rattle.quote.specs.Cases.{QuoteReply}
 use Rattle.quote.specs.Quote.{bufferQuoted}
+use Rattle.quote.specs.Audit.{auditedFrom, auditedOf}
 use Rattle.report.specs.Lines.{linesOf, auditLine, longestReport}
-use Rattle.dagmetzi.specs.Printed.{longestSheet, budget, room, quoted, printedOf, audited, auditPrintedOf}
+use Rattle.dagmetzi.specs.Printed.{longestSheet, budget, room, quoted, printedOf, auditPrintedOf}
 
 -- a text at the start of a buffer, as the reports tell it
 abbrev pub Printed : List ℕ → List ℕ → List ℕ → ℕ → Type 0
@@ -35,6 +38,11 @@ module _ (sheet : List ℕ) where
   unfolding auditLine auditPrintedOf
   audit-too-long c stage e l = rw (e, lt-ltb longestSheet (length sheet) l)
 
-  pub audit-line : (c : Case) (stage : List ℕ) → c ≡ audited sheet stage → length sheet ≤ longestSheet → auditLine c ≡ auditPrintedOf sheet stage
+  pub audit-line : (c : Case) (stage : List ℕ) → c ≡ auditedOf sheet stage → length sheet ≤ longestSheet → auditLine c ≡ auditPrintedOf sheet stage
   unfolding auditPrintedOf
   audit-line c stage e l = ap auditLine e ∙ sym (rw (le-ltb longestSheet (length sheet) l))
+
+  -- the front of a stage file is enough, once it is longer than any stage
+  pub audit-front : (stage : List ℕ) (k : ℕ) → longestStage < k → auditPrintedOf sheet (take k stage) ≡ auditPrintedOf sheet stage
+  unfolding auditPrintedOf auditedOf auditedFrom
+  audit-front stage k l = rw (front-tells stage k l)

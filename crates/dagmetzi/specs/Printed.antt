@@ -4,12 +4,12 @@ use mathlib.Core.Bool.{Bool, cond}
 use mathlib.Core.List.{List, []}
 use lib.Dec.{ltb}
 use lib.ListN.{length, replicate}
-use Rattle.base.specs.Cases.{Case}
 use Rattle.base.specs.Refusals.{tooLong}
-use Rattle.quote.specs.Cases.{QuoteReply, quoteReply, auditedCase}
+use Rattle.quote.specs.Cases.{QuoteReply}
 use Rattle.quote.specs.Quote.{quotedOf, bufferQuoted}
 use Rattle.quote.specs.Audit.{auditedOf}
-use Rattle.report.specs.Lines.{sheetText, longestStage, refusalLine, linesOf, auditLine}
+use Rattle.stage.specs.Bytes.{longestStage}
+use Rattle.report.specs.Lines.{sheetText, refusalLine, linesOf, auditLine}
 
 -- the most bytes that the program takes as a sheet
 abbrev pub longestSheet : ℕ
@@ -33,7 +33,7 @@ tooLongLine whose = refusalLine whose tooLong longestSheet
 
 -- the reply of the quote to a sheet, in the numbers of its cases
 abbrev pub quoted : List ℕ → QuoteReply
-quoted sheet = quoteReply (quotedOf sheet budget (length room))
+quoted sheet = quotedOf sheet budget (length room)
 
 -- the lines for a sheet
 unfoldable pub printedOf : List ℕ → List ℕ
@@ -41,12 +41,8 @@ printedOf sheet =
     let lines = linesOf (quoted sheet) (bufferQuoted sheet budget room) in
     cond (isTooLong sheet) (tooLongLine []) lines
 
--- the reply of the audit to a sheet and a stage, in the numbers of its cases
-abbrev pub audited : List ℕ → List ℕ → Case
-audited sheet stage = auditedCase (auditedOf sheet stage)
-
 -- the line for a sheet and a stage
 unfoldable pub auditPrintedOf : List ℕ → List ℕ → List ℕ
 auditPrintedOf sheet stage =
-    let line = auditLine (audited sheet stage) in
+    let line = auditLine (auditedOf sheet stage) in
     cond (isTooLong sheet) (tooLongLine sheetText) line

@@ -11,8 +11,8 @@ use report::LONGEST_REPORT;
 // One byte more than the longest sheet is enough to tell one that is too long.
 const SHEET_ROOM: usize = LONGEST_SHEET + 1;
 
-// Of a stage's file as many bytes are read as of a sheet's. A stage has at most 196, and reading one looks at no byte past the 197th: the bytes that are left
-// out change nothing.
+// Of a stage's file the front is read. A stage has at most 196 bytes, and reading one looks at no byte past the 197th, so that the bytes left out change
+// nothing of the reply (`audit-front`).
 const STAGE_ROOM: usize = 4096;
 
 // Prints a reply.

@@ -9,6 +9,7 @@ use borrow.Author.Tests.{eq-eqb}
 use lib.Dec.{T, eqb, ltb, eqb→eq, ltb→lt, nltb→le}
 use lib.ListN.{length, take}
 use Rattle.base.specs.declared.Refusal.{Refusal}
+use Rattle.base.specs.Cases.{Case, accepting, refusing, refusedOutcome, acceptedCase}
 use Rattle.base.specs.Refusals.{refusalAt, empty}
 use Rattle.base.proofs.Tests.{decide, test-yes, test-no, and-left, and-right}
 use Rattle.table.specs.Bits.{ofBits}
@@ -17,7 +18,6 @@ use Rattle.table.proofs.Bits.{all-at, all-intro}
 use Rattle.relation.specs.Tests.{emptyPattern}
 use Rattle.relation.specs.Families.{Family}
 use Rattle.relation.specs.Handed.{relationOf}
-use Rattle.sheet.specs.declared.Answer.the-variants.{Accepted}
 use Rattle.sheet.specs.declared.Command.{Command}
 use Rattle.sheet.specs.Commands.{inputsOf, wiresOf}
 use Rattle.sheet.specs.Reading.{Reading, holds, refused as unread, readingOf}
@@ -29,24 +29,25 @@ use Rattle.unit.specs.Formed.{relationIn, turnedAway, formedOf}
 use Rattle.unit.specs.Rival.{valueOn}
 use Rattle.unit.proofs.Forming.{formed-refused, formed-empty, formed-whole}
 use Rattle.unit.proofs.Rivals.{byWire, commands-only, rival-told, no-rival}
-use Rattle.quote.specs.declared.Audited.the-variants.{Fits, Differs, SheetRefused}
+use Rattle.quote.specs.Cases.{fits, differs}
 use Rattle.quote.specs.Audit.{keepsTo, sizesApart, auditedStage, auditedFrom, auditedOf}
 use Rattle.quote.specs.Promised.{Accepted as Quotes, RivalStage}
 use Rattle.quote.specs.Quote.{quotedOf, bufferQuoted}
 use Rattle.quote.proofs.Auditing.{ordered-at}
 use Rattle.quote.proofs.Demand.{promised}
 
-never : {A : Type 0} → _≡_ {A = ℕ} 0 1 → A
-never z = absurd (omega arith)
+-- another outcome than yes
+never : {A : Type 0} {c : Case} {k : ℕ} → c ≡ accepting fits k → (c .outcome ≡ fits → ⊥) → A
+never e h = absurd (h (ap (λ (x : Case). x .outcome) e))
 
 module _ (sheet stage : List ℕ) (c : ℕ) where
   -- no sheet, no yes
-  turned : (f : Refusal) → formedOf sheet ≡ turnedAway f → auditedOf sheet stage ≡ Fits c → ⊥
+  turned : (f : Refusal) → formedOf sheet ≡ turnedAway f → auditedOf sheet stage ≡ accepting fits c → ⊥
   unfolding auditedOf auditedFrom
-  turned f e h = let z : SheetRefused f ≡ Fits c = rw e at h in never (cc)
+  turned f e h = let z : refusing refusedOutcome f ≡ accepting fits c = rw e at h in never z (λ o. omega arith)
 
   -- a sheet whose relation has no empty pattern
-  module _ (cs : List Command) (e : readingOf sheet ≡ holds cs) (w : formedOf sheet ≡ record { relation = relationIn cs; answer = Accepted }) where
+  module _ (cs : List Command) (e : readingOf sheet ≡ holds cs) (w : formedOf sheet ≡ record { relation = relationIn cs; answer = acceptedCase }) where
     audited : auditedOf sheet stage ≡ auditedStage (relationIn cs) (readStage stage)
     unfolding auditedOf auditedFrom
     audited = rw w
@@ -73,9 +74,9 @@ module _ (sheet stage : List ℕ) (c : ℕ) where
         all-intro (2 ^ inputsOf cs) (λ p. relationOf (relationIn cs) p (valueOn (inputsOf cs) trees p))
         (λ p l. subst (λ k. T (relationOf (relationIn cs) p (ofBits k (λ j. follow (inputsOf cs) p (byWire trees j))))) (sym el) (f .allowed p l))
 
-    yes-rival : (s : StageSheet) → readStage stage ≡ s → auditedStage (relationIn cs) s ≡ Fits c → RivalStage sheet stage c
+    yes-rival : (s : StageSheet) → readStage stage ≡ s → auditedStage (relationIn cs) s ≡ accepting fits c → RivalStage sheet stage c
     unfolding auditedStage relationIn
-    yes-rival (refused f) d h = never (cc)
+    yes-rival (refused f) d h = never h (λ o. omega arith)
     yes-rival (got n m trees) d h =
         ⊎-elim
         (λ t.
@@ -87,21 +88,21 @@ module _ (sheet stage : List ℕ) (c : ℕ) where
         let f = kept-family m trees d′ em k in
         let r = rival-told sheet cs e trees .1 f in
         let ec = commands-only sheet (r .commands) cs (r .held) e in
-        let counted : Fits (size trees) ≡ Fits c =
+        let counted : accepting fits (size trees) ≡ accepting fits c =
         rw (test-yes (eqb n (inputsOf cs) && eqb m (wiresOf cs)) t, test-yes (keepsTo (relationIn cs) trees) k) at h in
         record {
           trees = trees;
           rival = r;
           taken = d ∙ ap₂ (λ a b. got a b trees) (en ∙ ap inputsOf (sym ec)) (em ∙ ap wiresOf (sym ec));
-          counted = cc;
+          counted = ap (λ (x : Case). x .value) counted;
         })
         (λ k.
-        let z : Differs (size trees) ≡ Fits c = rw (test-yes (eqb n (inputsOf cs) && eqb m (wiresOf cs)) t, test-no (keepsTo (relationIn cs) trees) k) at h in never (cc))
+        let z : accepting differs (size trees) ≡ accepting fits c = rw (test-yes (eqb n (inputsOf cs) && eqb m (wiresOf cs)) t, test-no (keepsTo (relationIn cs) trees) k) at h in never z (λ o. omega arith))
         (decide (keepsTo (relationIn cs) trees)))
-        (λ t. let z : sizesApart ≡ Fits c = rw (test-no (eqb n (inputsOf cs) && eqb m (wiresOf cs)) t) at h in never (cc))
+        (λ t. let z : sizesApart ≡ accepting fits c = rw (test-no (eqb n (inputsOf cs) && eqb m (wiresOf cs)) t) at h in never z (λ o. omega arith))
         (decide (eqb n (inputsOf cs) && eqb m (wiresOf cs)))
 
-    rival-yes : RivalStage sheet stage c → auditedStage (relationIn cs) (readStage stage) ≡ Fits c
+    rival-yes : RivalStage sheet stage c → auditedStage (relationIn cs) (readStage stage) ≡ accepting fits c
     unfolding auditedStage relationIn
     rival-yes y =
         let ec = commands-only sheet (y .rival .commands) cs (y .rival .held) e in
@@ -115,13 +116,13 @@ module _ (sheet stage : List ℕ) (c : ℕ) where
           y .counted,
         )
 
-  pub audit-yes : (auditedOf sheet stage ≡ Fits c) ↔ RivalStage sheet stage c
+  pub audit-yes : (auditedOf sheet stage ≡ accepting fits c) ↔ RivalStage sheet stage c
   audit-yes = go (readingOf sheet) refl
     where
       unread-not : (f : Refusal) → readingOf sheet ≡ unread f → RivalStage sheet stage c → ⊥
-      unread-not f e y = let z : holds (y .rival .commands) ≡ unread f = sym (y .rival .held) ∙ e in never (cc)
+      unread-not f e y = let d : holds (y .rival .commands) ≡ unread f = sym (y .rival .held) ∙ e in let z : _≡_ {A = ℕ} 0 1 = cc in omega arith
 
-      go : (x : Reading) → readingOf sheet ≡ x → (auditedOf sheet stage ≡ Fits c) ↔ RivalStage sheet stage c
+      go : (x : Reading) → readingOf sheet ≡ x → (auditedOf sheet stage ≡ accepting fits c) ↔ RivalStage sheet stage c
       go (unread f) e = (λ h. absurd (turned f (formed-refused sheet f e) h), λ y. absurd (unread-not f e y))
       go (holds cs) e =
           let q = emptyPattern (inputsOf cs) (wiresOf cs) (unitRelation cs) in
@@ -140,7 +141,7 @@ module _ (sheet stage : List ℕ) (c : ℕ) where
 
 -- auditing a quote's own stage says yes with the cells quoted
 pub own-audit : (sheet : List ℕ) (budget : ℕ) (buffer : List ℕ) → Quotes (quotedOf sheet budget (length buffer))
-    → auditedOf sheet (take (quotedOf sheet budget (length buffer) .length) (bufferQuoted sheet budget buffer)) ≡ Fits (quotedOf sheet budget (length buffer) .cells)
+    → auditedOf sheet (take (quotedOf sheet budget (length buffer) .length) (bufferQuoted sheet budget buffer)) ≡ accepting fits (quotedOf sheet budget (length buffer) .cells)
 own-audit sheet budget buffer a =
     audit-yes sheet (take (quotedOf sheet budget (length buffer) .length) (bufferQuoted sheet budget buffer)) (quotedOf sheet budget (length buffer) .cells) .1
     (promised sheet budget buffer .own a)

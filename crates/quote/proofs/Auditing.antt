@@ -9,7 +9,9 @@ use lib.Dec.{eqb, ltb}
 use lib.ListN.{length, getD}
 use lib.Seq.{getD-take}
 use Rattle.base.specs.declared.Refusal.{Refusal}
+use Rattle.base.specs.Cases.{accepting, refusing, refusedCase, refusedOutcome, secondRefusedOutcome}
 use Rattle.base.specs.Sizes.{maxWires}
+use Rattle.base.proofs.Cases.{accepted-refused, refused-accepted, same-refusal}
 use Rattle.base.proofs.Rows.{row-at, row-entry}
 use Rattle.table.specs.Bits.{bit, all, ofBits, row}
 use Rattle.table.specs.Tree.{Tree, Ordered, follow}
@@ -21,6 +23,7 @@ use Rattle.relation.specs.Handed.{relationOf}
 use Rattle.relation.proofs.Sets.{value-four}
 use Rattle.stage.specs.declared.reader.Answer.the-variants.{Accepted, Refused}
 use Rattle.stage.specs.declared.reader.StageRead.{StageRead}
+use Rattle.stage.specs.Cases.{answerCase, StageReply, stageReply}
 use Rattle.stage.specs.Bytes.{AllOrdered, size}
 use Rattle.stage.specs.Read.{StageSheet, got, refused, readStage}
 use Rattle.stage.specs.Reply.{tableOf, tablesOf, replyOf}
@@ -28,21 +31,25 @@ use Rattle.stage.proofs.Sheets.{accepted}
 use Rattle.stage.proofs.Tables.{table-bit}
 use Rattle.sheet.specs.declared.Answer.the-variants.{Accepted as Taken, Refused as NotTaken}
 use Rattle.unit.specs.declared.Formed.{Formed}
+use Rattle.unit.specs.Cases.{formedReply}
 use Rattle.unit.specs.Formed.{formedOf}
 use Rattle.unit.specs.Rival.{valueOn}
-use Rattle.quote.specs.declared.Audited.the-variants.{Fits, Differs, SheetRefused, StageRefused}
+use Rattle.quote.specs.Cases.{fits, differs}
 use Rattle.quote.specs.Audit.{keepsTo, sizesApart, auditedStage, auditedFrom, auditedOf}
 use Rattle.unit.proofs.Rivals.{byWire}
 
 -- what a reply tells of the stage sheet
-module _ (s : StageSheet) (rd : StageRead) (e : rd ≡ replyOf s) where
+module _ (s : StageSheet) (rd : StageRead) (e : stageReply rd ≡ replyOf s) where
+  answer-told : answerCase (rd .answer) ≡ replyOf s .answer
+  answer-told = ap (λ (x : StageReply). x .answer) e
+
   pub told-refused : (f : Refusal) → rd .answer ≡ Refused f → s ≡ refused f
   unfolding replyOf
-  told-refused f h = go s (ap (λ x. x .answer) (sym e) ∙ h)
+  told-refused f h = go s (ap answerCase (sym h) ∙ answer-told)
     where
-      go : (t : StageSheet) → replyOf t .answer ≡ Refused f → t ≡ refused f
-      go (got n m trees) g = let z : _≡_ {A = ℕ} 0 1 = cc in absurd (omega arith)
-      go (refused g) h = let d : g ≡ f = cc in ap refused d
+      go : (t : StageSheet) → refusedCase f ≡ replyOf t .answer → t ≡ refused f
+      go (got n m trees) g = refused-accepted f g
+      go (refused g) d = ap refused (sym (same-refusal refusedOutcome f g d))
 
   pub record Got : Type 0 where
     pub trees : List Tree
@@ -56,13 +63,11 @@ module _ (s : StageSheet) (rd : StageRead) (e : rd ≡ replyOf s) where
     where
       go : (t : StageSheet) → s ≡ t → Got
       go (got n m trees) d =
-          let f : rd ≡ replyOf (got n m trees) = e ∙ ap replyOf d in
-          let en : rd .n ≡ n = ap (λ x. x .n) f in
-          let em : rd .m ≡ m = ap (λ x. x .m) f in
-          record { trees = trees; is = rw (en, em) d; tables = rw en (ap (λ x. x .tables) f); cells = ap (λ x. x .cells) f }
-      go (refused g) d =
-          let f : rd .answer ≡ Refused g = ap (λ x. x .answer) (e ∙ ap replyOf d) in
-          let z : _≡_ {A = ℕ} 0 1 = cc in absurd (omega arith)
+          let f : stageReply rd ≡ replyOf (got n m trees) = e ∙ ap replyOf d in
+          let en : rd .n ≡ n = ap (λ (x : StageReply). x .n) f in
+          let em : rd .m ≡ m = ap (λ (x : StageReply). x .m) f in
+          record { trees = trees; is = rw (en, em) d; tables = rw en (ap (λ (x : StageReply). x .tables) f); cells = ap (λ (x : StageReply). x .cells) f }
+      go (refused g) d = accepted-refused g (ap answerCase (sym h) ∙ answer-told ∙ ap (λ t. replyOf t .answer) d)
 
 -- trees by wire
 pub ordered-at : (n : ℕ) (trees : List Tree) → AllOrdered n trees → (j : ℕ) → j < length trees → Ordered n 0 (byWire trees j)
@@ -108,8 +113,8 @@ keeps-is r bytes m trees e =
     ap₂ (λ w v. eqb (bit w v) 1) (sym (getD-take (2 ^ r .n) (r .sets) p 0 l))
     (value-trees (r .n) trees (omega (arith, st .one-each, st .sizes .m-most)) (st .ordered) p l))
 
-module _ (r : Relation) (bytes : List ℕ) (rd : StageRead) (e : rd ≡ replyOf (readStage bytes)) where
-  pub stage-refused : (f : Refusal) → rd .answer ≡ Refused f → StageRefused f ≡ auditedStage r (readStage bytes)
+module _ (r : Relation) (bytes : List ℕ) (rd : StageRead) (e : stageReply rd ≡ replyOf (readStage bytes)) where
+  pub stage-refused : (f : Refusal) → rd .answer ≡ Refused f → refusing secondRefusedOutcome f ≡ auditedStage r (readStage bytes)
   unfolding auditedStage
   stage-refused f h = rw (told-refused (readStage bytes) rd e f h)
 
@@ -130,21 +135,21 @@ module _ (r : Relation) (bytes : List ℕ) (rd : StageRead) (e : rd ≡ replyOf 
     few-inputs = accepted bytes (rd .n) (rd .m) (g .trees) (g .is) .sizes .n-most
 
     pub tested : rd .n ≡ r .n → rd .m ≡ r .m → (b : Bool) → b ≡ all (2 ^ rd .n) (λ p. ofSets (r .sets) p (value 4 (wires (rd .tables)) p))
-        → cond b (Fits (rd .cells)) (Differs (rd .cells)) ≡ auditedStage r (readStage bytes)
+        → cond b (accepting fits (rd .cells)) (accepting differs (rd .cells)) ≡ auditedStage r (readStage bytes)
     unfolding auditedStage
     tested en em b eb =
         let is : readStage bytes ≡ got (r .n) (rd .m) (g .trees) = g .is ∙ ap (λ n. got n (rd .m) (g .trees)) en in
         let et : rd .tables ≡ tablesOf (r .n) (g .trees) = g .tables ∙ ap (λ n. tablesOf n (g .trees)) en in
         let k : b ≡ keepsTo r (g .trees) =
         eb ∙ ap₂ (λ n ts. all (2 ^ n) (λ p. ofSets (r .sets) p (value 4 (wires ts) p))) en et ∙ keeps-is r bytes (rd .m) (g .trees) is in
-        ap (λ c. cond b (Fits c) (Differs c)) (g .cells) ∙ rw (is, eq-eqb (r .n) (r .n) refl, eq-eqb (rd .m) (r .m) em, ← k)
+        ap (λ c. cond b (accepting fits c) (accepting differs c)) (g .cells) ∙ rw (is, eq-eqb (r .n) (r .n) refl, eq-eqb (rd .m) (r .m) em, ← k)
 
 -- the whole audit, from what forming the relation gave
-module _ (sheet stage : List ℕ) (f : Formed) (ef : f ≡ formedOf sheet) where
+module _ (sheet stage : List ℕ) (f : Formed) (ef : formedReply f ≡ formedOf sheet) where
   pub formed-audit : f .answer ≡ Taken → auditedStage (f .relation) (readStage stage) ≡ auditedOf sheet stage
   unfolding auditedOf auditedFrom
   formed-audit h = rw (← ef, h)
 
-  pub turned-audit : (g : Refusal) → f .answer ≡ NotTaken g → SheetRefused g ≡ auditedOf sheet stage
+  pub turned-audit : (x : Refusal) → f .answer ≡ NotTaken x → refusing refusedOutcome x ≡ auditedOf sheet stage
   unfolding auditedOf auditedFrom
-  turned-audit g h = rw (← ef, h)
+  turned-audit x h = rw (← ef, h)

@@ -4,4 +4,3 @@ pub mod Demand
 pub mod Quoting
 pub mod Auditing
 pub mod Agreeing
-pub mod Bench

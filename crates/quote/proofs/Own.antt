@@ -8,13 +8,13 @@ use borrow.Author.Tests.{lt-leb, le-ltb}
 use native.Mathlib.Nat.{le-refl}
 use lib.Dec.{T, ltb, leb}
 use lib.ListN.{length, getD}
+use Rattle.base.specs.Cases.{accepting, acceptedOutcome, acceptedCase, refusedCase}
 use Rattle.base.specs.Refusals.{refusalAt, shortBuffer}
 use Rattle.table.specs.Bits.{sum}
 use Rattle.table.specs.Cells.{cells}
 use Rattle.table.specs.Tree.{Tree, selectors, reduced}
 use Rattle.table.proofs.Bits.{sum-cong}
 use Rattle.relation.specs.declared.Relation.{Relation}
-use Rattle.relation.specs.declared.Checked.the-variants.{WellFormed}
 use Rattle.relation.specs.Tests.{wires}
 use Rattle.relation.specs.Families as Families
 use Rattle.relation.specs.Families.{Family}
@@ -26,7 +26,6 @@ use Rattle.search.specs.TreeBoard.{tree, Smallest}
 use Rattle.search.specs.Promise.{Promise}
 use Rattle.search.proofs.Families.{fair, smallest}
 use Rattle.search.proofs.Promised.{run-promise}
-use Rattle.stage.specs.declared.writer.Written.the-variants.{Length, Refused as NotWritten}
 use Rattle.stage.specs.Bytes.{size}
 use Rattle.stage.specs.Written.{stageTrees, stageOf, firstOut, tableOut, writtenOf}
 use Rattle.stage.specs.Read.{got, readStage}
@@ -58,7 +57,7 @@ trees-by-wire n (suc m) [] j l h = absurd (omega arith)
 trees-by-wire n (suc m) (t ∷ ts) zero l h = refl
 trees-by-wire n (suc m) (t ∷ ts) (suc j) l h = trees-by-wire n m ts j (omega arith) (omega arith)
 
-module _ (r : Relation) (passes : checkOf r ≡ WellFormed) (budget : ℕ) where
+module _ (r : Relation) (passes : checkOf r ≡ acceptedCase) (budget : ℕ) where
   fit : Fit r
   fit = check-well-formed r passes
 
@@ -122,8 +121,8 @@ module _ (r : Relation) (passes : checkOf r ≡ WellFormed) (budget : ℕ) where
   -- the writer refuses nothing but a short buffer
   pub written : (room : ℕ)
       → writtenOf (r .n) (r .m) (found .tables) room
-      ≡ cond (ltb room (length (stageOf (r .n) (r .m) (found .tables)))) (NotWritten (refusalAt shortBuffer (length (stageOf (r .n) (r .m) (found .tables)))))
-      (Length (length (stageOf (r .n) (r .m) (found .tables))))
+      ≡ cond (ltb room (length (stageOf (r .n) (r .m) (found .tables)))) (refusedCase (refusalAt shortBuffer (length (stageOf (r .n) (r .m) (found .tables)))))
+      (accepting acceptedOutcome (length (stageOf (r .n) (r .m) (found .tables))))
   unfolding writtenOf firstOut
   written room =
       rw (

@@ -10,15 +10,14 @@ use lib.Dec.{T, ltb, ltb→lt, nltb→le}
 use lib.ListN.{length, take, drop}
 use lib.Seq.{take-at}
 use Rattle.base.specs.declared.Refusal.{Refusal}
+use Rattle.base.specs.Cases.{Case, accepting, acceptedOutcome, acceptedCase, refusedCase, isRefused}
 use Rattle.base.specs.Refusals.{refusalAt, empty, shortBuffer}
 use Rattle.base.proofs.Tests.{decide}
 use Rattle.table.specs.Tree.{Tree}
 use Rattle.relation.specs.declared.Relation.{Relation}
-use Rattle.relation.specs.declared.Checked.the-variants.{WellFormed}
 use Rattle.relation.specs.Families.{Family}
 use Rattle.relation.specs.Handed.{relationOf, checkOf}
-use Rattle.search.specs.declared.Answer.{Answer}
-use Rattle.search.specs.declared.Mark.the-variants.{Best, Stopped, Refused}
+use Rattle.search.specs.Cases.{SearchReply}
 use Rattle.search.specs.Search.{floor}
 use Rattle.search.specs.TreeBoard.{tree}
 use Rattle.search.specs.Reply.{markOf, answerOf}
@@ -26,45 +25,32 @@ use Rattle.search.proofs.Entry.{answered}
 use Rattle.sheet.specs.declared.Command.{Command}
 use Rattle.sheet.specs.Commands.{inputsOf, wiresOf}
 use Rattle.sheet.specs.Reading.{holds, readingOf}
-use Rattle.stage.specs.declared.writer.Written.{Written}
-use Rattle.stage.specs.declared.writer.Written.the-variants.{Length, Refused as NotWritten}
 use Rattle.stage.specs.Read.{got, readStage}
 use Rattle.stage.specs.Written.{stageOf, writtenOf, bufferWith, bufferAfter}
 use Rattle.unit.specs.Rival.{Rival}
 use Rattle.unit.proofs.Rivals.{byWire, commands-only}
-use Rattle.quote.specs.Quote.{refusedQuote, withStage, whereMarked, searched, bufferSearched}
+use Rattle.quote.specs.Quote.{noQuote, refusedQuote, withStage, searched, bufferSearched}
 use Rattle.quote.specs.Promised.{RivalStage, NoRival, Promised}
 use Rattle.quote.proofs.Own.{found, trees, one-each, own-family, own-size, above, best, within, spent, written, read-back}
 
--- marks are told apart
-not-best : {A : Type 0} (f : Refusal) → Refused f ≡ Best → A
-not-best f e = let z : _≡_ {A = ℕ} 0 1 = cc in absurd (omega arith)
-
-not-stopped : {A : Type 0} (f : Refusal) → Refused f ≡ Stopped → A
-not-stopped f e = let z : _≡_ {A = ℕ} 0 1 = cc in absurd (omega arith)
-
 -- a refused quote
-pub refused-promise : (sheet : List ℕ) (budget : ℕ) (buffer : List ℕ) (f : Refusal) → (((p : ℕ) × (f ≡ refusalAt empty p)) ↔ NoRival sheet)
-    → Promised sheet budget (refusedQuote f) buffer
+pub refused-promise : (sheet : List ℕ) (budget : ℕ) (buffer : List ℕ) (f : Refusal) → ((f .number ≡ empty) ↔ NoRival sheet) → Promised sheet budget (refusedQuote f) buffer
 refused-promise sheet budget buffer f ten =
     record {
-      best = λ e. not-best f e;
-      stopped = λ e. not-stopped f e;
-      own = λ a. ⊎-elim (λ e. not-best f e) (λ e. not-stopped f e) a;
+      best = λ e. absurd (omega arith);
+      stopped = λ e. absurd (omega arith);
+      own = λ a. ⊎-elim (λ e. absurd (omega arith)) (λ e. absurd (omega arith)) a;
       within = omega arith;
-      spent = λ e. not-stopped f e;
-      refused = (λ w. ten .0 (w .0, told f (w .0) (w .1)), λ h. let w = ten .1 h in (w .0, ap Refused (w .1)));
+      spent = λ e. absurd (omega arith);
+      refused = ten;
     }
-  where
-    told : (g : Refusal) (p : ℕ) → Refused g ≡ Refused (refusalAt empty p) → g ≡ refusalAt empty p
-    told g p e = cc
 
 -- another number than 10, where a rival exists
-other-number : (sheet : List ℕ) (f : Refusal) (x : List Tree) → Rival sheet x → (f .number ≡ 10 → ⊥) → (((p : ℕ) × (f ≡ refusalAt empty p)) ↔ NoRival sheet)
-other-number sheet f x r ne = (λ w. absurd (ne (ap (λ g. g .number) (w .1))), λ h. absurd (h .none x r))
+other-number : (sheet : List ℕ) (f : Refusal) (x : List Tree) → Rival sheet x → (f .number ≡ empty → ⊥) → ((f .number ≡ empty) ↔ NoRival sheet)
+other-number sheet f x r ne = (λ e. absurd (ne e), λ h. absurd (h .none x r))
 
 -- what the stage reader takes, with the sizes of a relation that are the sheet's
-module _ (sheet : List ℕ) (cs : List Command) (held : readingOf sheet ≡ holds cs) (r : Relation) (en : r .n ≡ inputsOf cs) (em : r .m ≡ wiresOf cs) (long : length (r .sets) ≡ 16) (passes : checkOf r ≡ WellFormed)
+module _ (sheet : List ℕ) (cs : List Command) (held : readingOf sheet ≡ holds cs) (r : Relation) (en : r .n ≡ inputsOf cs) (em : r .m ≡ wiresOf cs) (long : length (r .sets) ≡ 16) (passes : checkOf r ≡ acceptedCase)
     (rivals : (x : List Tree) → Rival sheet x ↔ ((length x ≡ r .m) × Family (r .n) (r .m) (relationOf r) (byWire x)))
     (budget : ℕ) where
   to : (x : List Tree) → Rival sheet x → (length x ≡ r .m) × Family (r .n) (r .m) (relationOf r) (byWire x)
@@ -86,7 +72,7 @@ module _ (sheet : List ℕ) (cs : List Command) (held : readingOf sheet ≡ hold
   abbrev stage : List ℕ
   stage = stageOf (r .n) (r .m) (found r passes budget .tables)
 
-  abbrev answer : Bool → Answer
+  abbrev answer : Bool → SearchReply
   answer b =
       record {
         tables = found r passes budget .tables;
@@ -96,61 +82,58 @@ module _ (sheet : List ℕ) (cs : List Command) (held : readingOf sheet ≡ hold
         mark = markOf b;
       }
 
+  own-written : (buffer : List ℕ) → RivalStage sheet (take (length stage) (stage ++ drop (length stage) buffer)) (found r passes budget .cells)
+  own-written buffer =
+      own-stage (take (length stage) (stage ++ drop (length stage) buffer))
+      (ap readStage (take-at stage (drop (length stage) buffer) (length stage) refl) ∙ read-back r passes budget)
+
+  -- nothing is refused, and the own stage is a rival
+  not-ten : (0 ≡ empty) ↔ NoRival sheet
+  not-ten = (λ h. absurd (omega arith), λ h. absurd (h .none (trees r passes budget) own-rival))
+
   -- the stage is written
   written-promise : (b : Bool) → found r passes budget .stopped ≡ b → (buffer : List ℕ)
-      → Promised sheet budget (withStage (answer b) (Length (length stage))) (stage ++ drop (length stage) buffer)
+      → Promised sheet budget (withStage (answer b) (accepting acceptedOutcome (length stage))) (stage ++ drop (length stage) buffer)
   unfolding withStage markOf
   written-promise true e buffer =
       record {
-        best = λ h. absurd (never-best h);
+        best = λ h. absurd (omega arith);
         stopped = λ _ x v. let f = to x v in above r passes budget x (f .0) (f .1);
-        own = λ _. own-stage (take (length stage) (stage ++ drop (length stage) buffer)) (ap readStage (take-at stage (drop (length stage) buffer) (length stage) refl) ∙ read-back r passes budget);
+        own = λ _. own-written buffer;
         within = within r passes budget;
         spent = λ _. spent r passes budget (subst T (sym e) tt);
-        refused = (λ w. absurd (never-refused (w .0) (w .1)), λ h. absurd (h .none (trees r passes budget) own-rival));
+        refused = not-ten;
       }
-    where
-      never-best : Stopped ≡ Best → ⊥
-      never-best h = let z : _≡_ {A = ℕ} 0 1 = cc in omega arith
-
-      never-refused : (p : ℕ) → Stopped ≡ Refused (refusalAt empty p) → ⊥
-      never-refused p h = let z : _≡_ {A = ℕ} 0 1 = cc in omega arith
   written-promise false e buffer =
       record {
         best = λ _ x v. let f = to x v in best r passes budget x (f .0) (f .1) (subst (λ c. T (not c)) (sym e) tt);
-        stopped = λ h. absurd (never-stopped h);
-        own = λ _. own-stage (take (length stage) (stage ++ drop (length stage) buffer)) (ap readStage (take-at stage (drop (length stage) buffer) (length stage) refl) ∙ read-back r passes budget);
+        stopped = λ h. absurd (omega arith);
+        own = λ _. own-written buffer;
         within = within r passes budget;
-        spent = λ h. absurd (never-stopped h);
-        refused = (λ w. absurd (never-refused (w .0) (w .1)), λ h. absurd (h .none (trees r passes budget) own-rival));
+        spent = λ h. absurd (omega arith);
+        refused = not-ten;
       }
-    where
-      never-stopped : Best ≡ Stopped → ⊥
-      never-stopped h = let z : _≡_ {A = ℕ} 0 1 = cc in omega arith
-
-      never-refused : (p : ℕ) → Best ≡ Refused (refusalAt empty p) → ⊥
-      never-refused p h = let z : _≡_ {A = ℕ} 0 1 = cc in omega arith
 
   -- the writer's answer, either way
-  either : (b : Bool) → found r passes budget .stopped ≡ b → (buffer : List ℕ) (w : Written)
-      → w ≡ cond (ltb (length buffer) (length stage)) (NotWritten (refusalAt shortBuffer (length stage))) (Length (length stage))
+  either : (b : Bool) → found r passes budget .stopped ≡ b → (buffer : List ℕ) (w : Case)
+      → w ≡ cond (ltb (length buffer) (length stage)) (refusedCase (refusalAt shortBuffer (length stage))) (accepting acceptedOutcome (length stage))
       → Promised sheet budget (withStage (answer b) w) (bufferWith stage buffer w)
   unfolding withStage
   either b e buffer w ew =
       ⊎-elim
       (λ t.
-      let ew′ : w ≡ NotWritten (refusalAt shortBuffer (length stage)) = ew ∙ rw (lt-ltb (length buffer) (length stage) (ltb→lt (length buffer) (length stage) t)) in
+      let ew′ : w ≡ refusedCase (refusalAt shortBuffer (length stage)) = ew ∙ rw (lt-ltb (length buffer) (length stage) (ltb→lt (length buffer) (length stage) t)) in
       rw ew′ (refused-promise sheet budget buffer (refusalAt shortBuffer (length stage)) (other-number sheet (refusalAt shortBuffer (length stage)) (trees r passes budget) own-rival (λ h. omega arith))))
       (λ t.
-      let ew′ : w ≡ Length (length stage) = ew ∙ rw (le-ltb (length buffer) (length stage) (nltb→le (length buffer) (length stage) t)) in
+      let ew′ : w ≡ accepting acceptedOutcome (length stage) = ew ∙ rw (le-ltb (length buffer) (length stage) (nltb→le (length buffer) (length stage) t)) in
       rw ew′ (written-promise b e buffer))
       (decide (ltb (length buffer) (length stage)))
 
   -- the whole search and its stage
-  marked : (b : Bool) → found r passes budget .stopped ≡ b → (buffer : List ℕ) (w : Written)
-      → w ≡ cond (ltb (length buffer) (length stage)) (NotWritten (refusalAt shortBuffer (length stage))) (Length (length stage))
-      → Promised sheet budget (whereMarked (withStage (answer b) w) refusedQuote (markOf b)) (whereMarked (bufferWith stage buffer w) (λ _. buffer) (markOf b))
-  unfolding whereMarked markOf
+  marked : (b : Bool) → found r passes budget .stopped ≡ b → (buffer : List ℕ) (w : Case)
+      → w ≡ cond (ltb (length buffer) (length stage)) (refusedCase (refusalAt shortBuffer (length stage))) (accepting acceptedOutcome (length stage))
+      → Promised sheet budget (cond (isRefused (markOf b)) (noQuote (markOf b)) (withStage (answer b) w)) (cond (isRefused (markOf b)) buffer (bufferWith stage buffer w))
+  unfolding markOf
   marked true e buffer w ew = either true e buffer w ew
   marked false e buffer w ew = either false e buffer w ew
 

@@ -1,50 +1,66 @@
 -- The cases of a quote: each return of the code is the written reply, with the buffer as it is to be.
 use Prim.Native.Nat.{ℕ}
-use mathlib.Core.Path.{_≡_, _∙_}
-use mathlib.Core.Logic.{_⊎_, inl, inr}
+use mathlib.Core.Path.{_≡_, sym, ap, _∙_}
+use mathlib.Core.Bool.{false}
 use mathlib.Core.List.{List}
 use lib.ListN.{length}
 use Rattle.base.specs.declared.Refusal.{Refusal}
+use Rattle.base.specs.Cases.{Case, isRefused}
 use Rattle.relation.specs.declared.Relation.{Relation}
 use Rattle.search.specs.declared.Answer.{Answer}
-use Rattle.search.specs.declared.Mark.the-variants.{Best, Stopped, Refused}
+use Rattle.search.specs.declared.Mark.the-variants.{Refused}
+use Rattle.search.specs.Cases.{markCase, searchReply}
 use Rattle.search.specs.Reply.{searchOf}
 use Rattle.sheet.specs.declared.Answer.the-variants.{Accepted, Refused as SheetRefused}
+use Rattle.stage.specs.declared.writer.Written.{Written}
+use Rattle.stage.specs.declared.writer.Written.the-variants.{Length, Refused as NotWritten}
+use Rattle.stage.specs.Cases.{writtenCase}
 use Rattle.stage.specs.Written.{writtenOf, bufferAfter}
 use Rattle.unit.specs.declared.Formed.{Formed}
+use Rattle.unit.specs.Cases.{formedReply}
 use Rattle.unit.specs.Formed.{formedOf}
-use Rattle.quote.specs.declared.Quoted.{Quoted}
-use Rattle.quote.specs.Quote.{refusedQuote, withStage, whereMarked, searched, bufferSearched, quotedFrom, quotedOf, bufferFrom, bufferQuoted}
+use Rattle.quote.specs.Cases.{QuoteReply}
+use Rattle.quote.specs.Quote.{refusedQuote, withStage, searched, bufferSearched, quotedFrom, quotedOf, bufferFrom, bufferQuoted}
 use Rattle.quote.specs.Promised.{Promised}
 use Rattle.quote.proofs.Demand.{promised}
 
-module _ (r : Relation) (budget : ℕ) (buffer : List ℕ) (a : Answer) (ea : a ≡ searchOf r budget) where
+-- the writer's answer taken over
+module _ (a : Answer) (w : Written) {x : Case} (e : writtenCase w ≡ x) where
+  pub with-length : (k : ℕ) → w ≡ Length k
+      → _≡_ {A = QuoteReply} (record { cells = a .cells; floor = a .floor; visits = a .visits; length = k; mark = markCase (a .mark) }) (withStage (searchReply a) x)
+  unfolding withStage
+  with-length k d = rw (← (ap writtenCase (sym d) ∙ e))
+
+  pub with-refusal : {q : QuoteReply} (f : Refusal) → w ≡ NotWritten f → q ≡ refusedQuote f → q ≡ withStage (searchReply a) x
+  unfolding withStage
+  with-refusal f d eq = eq ∙ rw (← (ap writtenCase (sym d) ∙ e))
+
+module _ (r : Relation) (budget : ℕ) (buffer : List ℕ) (a : Answer) (ea : searchReply a ≡ searchOf r budget) where
   -- the search has a stage
-  pub with-stage : {q : Quoted} {b : List ℕ} → (a .mark ≡ Best) ⊎ (a .mark ≡ Stopped) → q ≡ withStage a (writtenOf (r .n) (r .m) (a .tables) (length buffer))
+  pub with-stage : {q : QuoteReply} {b : List ℕ} → isRefused (markCase (a .mark)) ≡ false → q ≡ withStage (searchReply a) (writtenOf (r .n) (r .m) (a .tables) (length buffer))
       → b ≡ bufferAfter (r .n) (r .m) (a .tables) buffer → (q ≡ searched r budget (length buffer)) × (b ≡ bufferSearched r budget buffer)
-  unfolding searched bufferSearched whereMarked
-  with-stage (inl e) eq eb = (eq ∙ rw (← ea, e), eb ∙ rw (← ea, e))
-  with-stage (inr e) eq eb = (eq ∙ rw (← ea, e), eb ∙ rw (← ea, e))
+  unfolding searched bufferSearched
+  with-stage h eq eb = (eq ∙ rw (← ea, h), eb ∙ rw (← ea, h))
 
   -- the search refuses the relation
-  pub no-stage : {q : Quoted} (f : Refusal) → a .mark ≡ Refused f → q ≡ refusedQuote f → (q ≡ searched r budget (length buffer)) × (buffer ≡ bufferSearched r budget buffer)
-  unfolding searched bufferSearched whereMarked
+  pub no-stage : {q : QuoteReply} (f : Refusal) → a .mark ≡ Refused f → q ≡ refusedQuote f → (q ≡ searched r budget (length buffer)) × (buffer ≡ bufferSearched r budget buffer)
+  unfolding searched bufferSearched
   no-stage f e eq = (eq ∙ rw (← ea, e), rw (← ea, e))
 
 -- the whole quote, from what forming the relation gave
-module _ (sheet : List ℕ) (budget : ℕ) (buffer : List ℕ) (f : Formed) (ef : f ≡ formedOf sheet) where
+module _ (sheet : List ℕ) (budget : ℕ) (buffer : List ℕ) (f : Formed) (ef : formedReply f ≡ formedOf sheet) where
   -- the three clauses of the quote's contract
-  abbrev pub Kept : Quoted → List ℕ → Type 0
+  abbrev pub Kept : QuoteReply → List ℕ → Type 0
   Kept q b = (q ≡ quotedOf sheet budget (length buffer)) × ((b ≡ bufferQuoted sheet budget buffer) × Promised sheet budget q b)
 
-  clauses : {q : Quoted} {b : List ℕ} → q ≡ quotedOf sheet budget (length buffer) → b ≡ bufferQuoted sheet budget buffer → Kept q b
+  clauses : {q : QuoteReply} {b : List ℕ} → q ≡ quotedOf sheet budget (length buffer) → b ≡ bufferQuoted sheet budget buffer → Kept q b
   clauses eq eb = (eq, (eb, rw (eq, eb) (promised sheet budget buffer)))
 
-  pub formed-quote : {q : Quoted} {b : List ℕ} → f .answer ≡ Accepted → q ≡ searched (f .relation) budget (length buffer)
+  pub formed-quote : {q : QuoteReply} {b : List ℕ} → f .answer ≡ Accepted → q ≡ searched (f .relation) budget (length buffer)
       → b ≡ bufferSearched (f .relation) budget buffer → Kept q b
   unfolding quotedOf quotedFrom bufferQuoted bufferFrom
   formed-quote h eq eb = clauses (eq ∙ rw (← ef, h)) (eb ∙ rw (← ef, h))
 
-  pub turned-quote : {q : Quoted} (g : Refusal) → f .answer ≡ SheetRefused g → q ≡ refusedQuote g → Kept q buffer
+  pub turned-quote : {q : QuoteReply} (g : Refusal) → f .answer ≡ SheetRefused g → q ≡ refusedQuote g → Kept q buffer
   unfolding quotedOf quotedFrom bufferQuoted bufferFrom
   turned-quote g h eq = clauses (eq ∙ rw (← ef, h)) (rw (← ef, h))

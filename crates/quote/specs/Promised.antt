@@ -1,25 +1,30 @@
--- Demand 3: "Every rival stage (any ordered trees that keep to the sheet) has at least as many cells as a quote marked best, and at least as many as the
--- floor of one marked stopped; the quote's own stage is such a rival with the cells it names; .. refusal 10 comes exactly when no rival exists."
--- It is told by the bytes of the sheet (`Rival`), the reply, and the bytes written, which the stage reader takes; nothing here names the search.
+-- Demand 3 of document 01, "Quote, audit, program": what a quote promises about stages that nobody drew. It is told by the bytes of the sheet (`Rival`), the reply,
+-- and the bytes written, which the stage reader takes; nothing here names the search.
 use Prim.Native.Nat.{ℕ, _≤_}
 use mathlib.Core.Path.{_≡_}
 use mathlib.Core.Logic.{_⊎_, _↔_}
 use mathlib.Core.List.{List}
 use lib.ListN.{take}
-use Rattle.base.specs.Refusals.{refusalAt, empty}
+use Rattle.base.specs.Refusals.{empty}
 use Rattle.table.specs.Tree.{Tree}
-use Rattle.search.specs.declared.Mark.the-variants.{Best, Stopped, Refused}
+use Rattle.search.specs.Cases as Marks
 use Rattle.sheet.specs.declared.Command.{Command}
 use Rattle.sheet.specs.Commands.{inputsOf, wiresOf}
 use Rattle.sheet.specs.Reading.{holds, readingOf}
 use Rattle.stage.specs.Bytes.{size}
 use Rattle.stage.specs.Read.{got, readStage}
 use Rattle.unit.specs.Rival.{Rival}
-use Rattle.quote.specs.declared.Quoted.{Quoted}
+use Rattle.quote.specs.Cases.{QuoteReply}
 
--- the quote has a stage
-abbrev pub Accepted : Quoted → Type 0
-Accepted r = (r .mark ≡ Best) ⊎ (r .mark ≡ Stopped)
+-- the quote is marked best, or stopped; it has a stage
+abbrev pub IsBest : QuoteReply → Type 0
+IsBest r = r .mark .outcome ≡ Marks.best
+
+abbrev pub IsStopped : QuoteReply → Type 0
+IsStopped r = r .mark .outcome ≡ Marks.stopped
+
+abbrev pub Accepted : QuoteReply → Type 0
+Accepted r = IsBest r ⊎ IsStopped r
 
 -- what the stage reader takes from these bytes, with the sheet's sizes, is a rival of so many cells
 pub record RivalStage (sheet stage : List ℕ) (cells : ℕ) : Type 0 where
@@ -34,15 +39,15 @@ pub record NoRival (sheet : List ℕ) : Type 0 where
   pub held : readingOf sheet ≡ holds commands
   pub none : (trees : List Tree) → Rival sheet trees → ⊥
 
-pub record Promised (sheet : List ℕ) (budget : ℕ) (r : Quoted) (buffer : List ℕ) : Type 0 where
+pub record Promised (sheet : List ℕ) (budget : ℕ) (r : QuoteReply) (buffer : List ℕ) : Type 0 where
   -- no rival has fewer cells than a quote marked best
-  pub best : r .mark ≡ Best → (trees : List Tree) → Rival sheet trees → r .cells ≤ size trees
+  pub best : IsBest r → (trees : List Tree) → Rival sheet trees → r .cells ≤ size trees
   -- no rival has fewer cells than the floor of a quote marked stopped
-  pub stopped : r .mark ≡ Stopped → (trees : List Tree) → Rival sheet trees → r .floor ≤ size trees
-  -- "The quote's own stage is what the stage reader takes from the bytes written": a rival of exactly the cells named
+  pub stopped : IsStopped r → (trees : List Tree) → Rival sheet trees → r .floor ≤ size trees
+  -- the bytes written are read as a rival of exactly the cells named
   pub own : Accepted r → RivalStage sheet (take (r .length) buffer) (r .cells)
   -- no more parts were expanded than the budget allows, and a stopped search has used it up
   pub within : r .visits ≤ budget
-  pub spent : r .mark ≡ Stopped → r .visits ≡ budget
-  -- refusal 10 comes exactly when reading gives no refusal and no rival exists
-  pub refused : ((p : ℕ) × (r .mark ≡ Refused (refusalAt empty p))) ↔ NoRival sheet
+  pub spent : IsStopped r → r .visits ≡ budget
+  -- the refusal's number is 10 exactly where reading refuses nothing and no rival exists
+  pub refused : (r .mark .number ≡ empty) ↔ NoRival sheet

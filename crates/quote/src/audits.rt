@@ -13,7 +13,11 @@ ghost use Rattle.table.specs.Bits.{all};
 ghost use Rattle.relation.specs.Source.{value};
 ghost use Rattle.relation.specs.Tests.{ofSets, wires};
 ghost use Rattle.stage.specs.Read.{readStage};
-ghost use Rattle.quote.specs.Audit.{stageAnswer, auditedStage};
+ghost use Rattle.base.specs.declared.Refusal.{Refusal};
+ghost use Rattle.stage.specs.declared.reader.Answer.the-variants.{Refused as NotTaken};
+ghost use Rattle.quote.specs.declared.Audited.the-variants.{StageRefused};
+ghost use Rattle.quote.specs.Cases.{auditedCase};
+ghost use Rattle.quote.specs.Audit.{auditedStage};
 
 // Whether the value that the tables drive lies in the set of every pattern.
 fn allowed_everywhere(n: u8, sets: [u16; 16], tables: [u16; 4]) -> bool
@@ -30,9 +34,9 @@ fn allowed_everywhere(n: u8, sets: [u16; 16], tables: [u16; 4]) -> bool
     true
 }
 
-// What a stage sheet's answer is to the audit, where it is a refusal.
+// What the refusal of a stage sheet is to the audit. `audit_stage` asks it of no accepted one; sizes are all that could be wrong with that.
 fn refused_stage(answer: Answer) -> Audited
-    ensures { λ r. ⌜ r ≡ stageAnswer answer ⌝ }
+    ensures { λ r. ⌜ ((f : Refusal) → answer ≡ NotTaken f → r ≡ StageRefused f) ⌝ }
 {
     match answer {
         Answer::Refused(refusal) => Audited::StageRefused(refusal),
@@ -42,7 +46,7 @@ fn refused_stage(answer: Answer) -> Audited
 
 // The audit of a stage sheet against a relation. A stage sheet that is refused ends it there.
 pub fn audit_stage(relation: Relation, s: &[u8]) -> Audited
-    ensures { λ r. ⌜ r ≡ auditedStage relation (readStage (now (s .entry))) ⌝ }
+    ensures { λ r. ⌜ auditedCase r ≡ auditedStage relation (readStage (now (s .entry))) ⌝ }
 {
     let read = read_stage(s);
     let answer = read.answer;

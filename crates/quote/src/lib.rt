@@ -4,6 +4,7 @@ use search::Mark;
 use sheet::Answer;
 ghost use mathlib.Core.Path.{_≡_};
 ghost use lib.ListN.{length};
+ghost use Rattle.quote.specs.Cases.{quoteReply, auditedCase};
 ghost use Rattle.quote.specs.Quote.{quotedOf, bufferQuoted};
 ghost use Rattle.quote.specs.Promised.{Promised};
 ghost use Rattle.quote.specs.Audit.{auditedOf};
@@ -31,9 +32,9 @@ pub enum Audited {
 
 // The smallest stage for a unit sheet, written at the start of the lent buffer, or the best found under the budget; or the refusal, which writes nothing.
 pub fn quote(sheet: &[u8], budget: u32, buffer: &mut [u8]) -> Quoted
-    ensures reply { λ r. ⌜ r ≡ quotedOf (now (sheet .entry)) budget (length (now (buffer .entry))) ⌝ }
+    ensures reply { λ r. ⌜ quoteReply r ≡ quotedOf (now (sheet .entry)) budget (length (now (buffer .entry))) ⌝ }
     ensures bytes { λ _. ⌜ now (buffer .exit) ≡ bufferQuoted (now (sheet .entry)) budget (now (buffer .entry)) ⌝ }
-    ensures promise { λ r. ⌜ Promised (now (sheet .entry)) budget r (now (buffer .exit)) ⌝ }
+    ensures promise { λ r. ⌜ Promised (now (sheet .entry)) budget (quoteReply r) (now (buffer .exit)) ⌝ }
 {
     let formed = unit::form(sheet);
     let answer = formed.answer;
@@ -46,7 +47,7 @@ pub fn quote(sheet: &[u8], budget: u32, buffer: &mut [u8]) -> Quoted
 
 // Whether a stage keeps to a unit sheet, and its cells. The sheet is judged before the stage.
 pub fn audit(sheet: &[u8], stage: &[u8]) -> Audited
-    ensures { λ r. ⌜ r ≡ auditedOf (now (sheet .entry)) (now (stage .entry)) ⌝ }
+    ensures { λ r. ⌜ auditedCase r ≡ auditedOf (now (sheet .entry)) (now (stage .entry)) ⌝ }
 {
     let formed = unit::form(sheet);
     let answer = formed.answer;

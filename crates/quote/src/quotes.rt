@@ -9,10 +9,12 @@ use stage::writer::write_stage;
 ghost use mathlib.Core.Path.{_≡_};
 ghost use lib.ListN.{length};
 ghost use Rattle.stage.specs.Written.{writtenOf, bufferAfter};
+ghost use Rattle.search.specs.Cases.{searchReply};
+ghost use Rattle.quote.specs.Cases.{quoteReply};
 ghost use Rattle.quote.specs.Quote.{refusedQuote, withStage, searched, bufferSearched};
 
 pub fn refused_quote(refusal: Refusal) -> Quoted
-    ensures { λ r. ⌜ r ≡ refusedQuote refusal ⌝ }
+    ensures { λ r. ⌜ quoteReply r ≡ refusedQuote refusal ⌝ }
 {
     Quoted {
         cells: 0,
@@ -25,7 +27,7 @@ pub fn refused_quote(refusal: Refusal) -> Quoted
 
 // The stage of an answer's tables, written.
 fn quote_answer(n: u8, m: u8, answer: Answer, buffer: &mut [u8]) -> Quoted
-    ensures { λ r. ⌜ (r ≡ withStage answer (writtenOf n m (answer .tables) (length (now (buffer .entry)))))
+    ensures { λ r. ⌜ (quoteReply r ≡ withStage (searchReply answer) (writtenOf n m (answer .tables) (length (now (buffer .entry)))))
         × (now (buffer .exit) ≡ bufferAfter n m (answer .tables) (now (buffer .entry))) ⌝ }
 {
     let tables = answer.tables;
@@ -45,7 +47,7 @@ fn quote_answer(n: u8, m: u8, answer: Answer, buffer: &mut [u8]) -> Quoted
 
 // The relation searched, and the stage found written.
 pub fn quote_relation(relation: Relation, budget: u32, buffer: &mut [u8]) -> Quoted
-    ensures { λ r. ⌜ (r ≡ searched relation budget (length (now (buffer .entry)))) × (now (buffer .exit) ≡ bufferSearched relation budget (now (buffer .entry))) ⌝ }
+    ensures { λ r. ⌜ (quoteReply r ≡ searched relation budget (length (now (buffer .entry)))) × (now (buffer .exit) ≡ bufferSearched relation budget (now (buffer .entry))) ⌝ }
 {
     let n = relation.n;
     let m = relation.m;

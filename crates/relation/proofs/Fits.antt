@@ -11,14 +11,13 @@ use lib.Seq.{getD-take}
 use borrow.Author.Tests.{ne-eqb, lt-ltb, le-ltb}
 use Rattle.base.proofs.Tests.{decide, eq-test, test-no}
 use Rattle.base.specs.Refusals.{refusalAt, outOfRange, empty}
+use Rattle.base.specs.Cases.{acceptedCase, refusedCase}
 use Rattle.base.specs.Sizes.{countOut, sizesOut}
 use Rattle.base.specs.Lowest.{lowest}
 use Rattle.base.proofs.Lowest.{lowest-or, lowest-none}
 use Rattle.base.specs.declared.Refusal.{Refusal}
 use Rattle.table.specs.Bits.{any}
 use Rattle.relation.specs.declared.Relation.{Relation}
-use Rattle.relation.specs.declared.Checked.{Checked}
-use Rattle.relation.specs.declared.Checked.the-variants.{WellFormed, Refused}
 use Rattle.relation.specs.Handed.{relationOf, widePattern, checkOf}
 use Rattle.relation.specs.Source.{WellDefined}
 use Rattle.relation.specs.Tests.{ofSets, emptyPattern}
@@ -74,38 +73,38 @@ empty-zero n m sets h =
 
 -- the replies of the test, in its order
 module _ (r : Relation) where
-  pub check-sizes : sizesOut (r .n) (r .m) ≡ true → checkOf r ≡ Refused (refusalAt outOfRange 0)
+  pub check-sizes : sizesOut (r .n) (r .m) ≡ true → checkOf r ≡ refusedCase (refusalAt outOfRange 0)
   unfolding checkOf
   check-sizes e = rw e
 
   pub check-wide : sizesOut (r .n) (r .m) ≡ false → widePattern (r .n) (r .m) (r .sets) < 2 ^ r .n
-      → checkOf r ≡ Refused (refusalAt outOfRange (widePattern (r .n) (r .m) (r .sets)))
+      → checkOf r ≡ refusedCase (refusalAt outOfRange (widePattern (r .n) (r .m) (r .sets)))
   unfolding checkOf
   check-wide e w = rw (e, lt-ltb (widePattern (r .n) (r .m) (r .sets)) (2 ^ r .n) w)
 
   pub check-none : sizesOut (r .n) (r .m) ≡ false → 2 ^ r .n ≤ widePattern (r .n) (r .m) (r .sets) → emptyPattern (r .n) (r .m) (relationOf r) < 2 ^ r .n
-      → checkOf r ≡ Refused (refusalAt empty (emptyPattern (r .n) (r .m) (relationOf r)))
+      → checkOf r ≡ refusedCase (refusalAt empty (emptyPattern (r .n) (r .m) (relationOf r)))
   unfolding checkOf
   check-none e w h =
       rw (e, le-ltb (widePattern (r .n) (r .m) (r .sets)) (2 ^ r .n) w, lt-ltb (emptyPattern (r .n) (r .m) (relationOf r)) (2 ^ r .n) h)
 
   pub check-passed : sizesOut (r .n) (r .m) ≡ false → 2 ^ r .n ≤ widePattern (r .n) (r .m) (r .sets) → 2 ^ r .n ≤ emptyPattern (r .n) (r .m) (relationOf r)
-      → checkOf r ≡ WellFormed
+      → checkOf r ≡ acceptedCase
   unfolding checkOf
   check-passed e w h =
       rw (e, le-ltb (widePattern (r .n) (r .m) (r .sets)) (2 ^ r .n) w, le-ltb (emptyPattern (r .n) (r .m) (relationOf r)) (2 ^ r .n) h)
 
-never : (x : Refusal) → Refused x ≡ WellFormed → ⊥
-never x e = let z : _≡_ {A = ℕ} 0 1 = cc in absurd (omega arith)
+never : (x : Refusal) → refusedCase x ≡ acceptedCase → ⊥
+never x e = omega (arith, ap (λ c. c .outcome) e)
 
-passed : (a b c : Bool) (x y z : Refusal) → cond a (Refused x) (cond b (Refused y) (cond c (Refused z) WellFormed)) ≡ WellFormed
+passed : (a b c : Bool) (x y z : Refusal) → cond a (refusedCase x) (cond b (refusedCase y) (cond c (refusedCase z) acceptedCase)) ≡ acceptedCase
     → T (not a) × T (not b) × T (not c)
 passed true b c x y z e = absurd (never x e)
 passed false true c x y z e = absurd (never y e)
 passed false false true x y z e = absurd (never z e)
 passed false false false x y z e = (tt, tt, tt)
 
-pub check-well-formed : (r : Relation) → checkOf r ≡ WellFormed → Fit r
+pub check-well-formed : (r : Relation) → checkOf r ≡ acceptedCase → Fit r
 unfolding checkOf
 check-well-formed r e =
     let n = r .n in
@@ -127,7 +126,7 @@ check-well-formed r e =
 count-passes : (x k : ℕ) → 1 ≤ x → x ≤ k → countOut x k ≡ false
 count-passes x k l h = rw (ne-eqb x 0 (λ e. omega arith), le-ltb k x h)
 
-pub fit-passes : (r : Relation) → Fit r → checkOf r ≡ WellFormed
+pub fit-passes : (r : Relation) → Fit r → checkOf r ≡ acceptedCase
 unfolding widePattern
 fit-passes r f =
     let n = r .n in
@@ -141,20 +140,16 @@ fit-passes r f =
     (λ l. check-passed r sizes (omega arith) (nltb→le none (2 ^ n) l))
     (decide (ltb none (2 ^ n)))
 
-abbrev numberOf : Checked → ℕ
-numberOf WellFormed = 0
-numberOf (Refused x) = x .number
-
 -- refusal 10 is told only where some pattern has no value
 emptied : (a b c : Bool) (x y p : ℕ)
-    → cond a (Refused (refusalAt outOfRange 0)) (cond b (Refused (refusalAt outOfRange x)) (cond c (Refused (refusalAt empty y)) WellFormed)) ≡ Refused (refusalAt empty p)
+    → cond a (refusedCase (refusalAt outOfRange 0)) (cond b (refusedCase (refusalAt outOfRange x)) (cond c (refusedCase (refusalAt empty y)) acceptedCase)) ≡ refusedCase (refusalAt empty p)
     → T c
-emptied true b c x y p e = absurd (omega (arith, ap numberOf e))
-emptied false true c x y p e = absurd (omega (arith, ap numberOf e))
+emptied true b c x y p e = absurd (omega (arith, ap (λ c. c .number) e))
+emptied false true c x y p e = absurd (omega (arith, ap (λ c. c .number) e))
 emptied false false true x y p e = tt
 emptied false false false x y p e = absurd (never (refusalAt empty p) (sym e))
 
-pub check-empty : (r : Relation) (p : ℕ) → checkOf r ≡ Refused (refusalAt empty p) → WellDefined (r .n) (r .m) (relationOf r) → ⊥
+pub check-empty : (r : Relation) (p : ℕ) → checkOf r ≡ refusedCase (refusalAt empty p) → WellDefined (r .n) (r .m) (relationOf r) → ⊥
 unfolding checkOf
 check-empty r p e w =
     let n = r .n in

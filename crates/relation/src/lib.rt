@@ -5,6 +5,7 @@ use crate::patterns::patterns_of;
 use base::Refusal;
 use base::sizes_out;
 ghost use mathlib.Core.Path.{_≡_};
+ghost use Rattle.relation.specs.Cases.{checkedCase};
 ghost use Rattle.relation.specs.Handed.{checkOf};
 
 pub mod values; // sets of wire values
@@ -27,7 +28,7 @@ pub enum Checked {
 impl Relation {
     // The test of a relation that is handed over as numbers: sizes, then bits past the last value, then empty sets.
     pub fn check(self) -> Checked
-        ensures { λ r. ⌜ r ≡ checkOf self ⌝ }
+        ensures { λ r. ⌜ checkedCase r ≡ checkOf self ⌝ }
     {
         let n = self.n;
         let m = self.m;

@@ -6,6 +6,7 @@ use lib.Dec.{eqb}
 use lib.ListN.{take}
 use Rattle.base.specs.Cases.{Case, refusedOutcome, isRefused}
 use Rattle.search.specs.Cases.{best}
+use Rattle.stage.specs.Bytes.{longestStage}
 use Rattle.quote.specs.Cases.{QuoteReply, fits}
 use Rattle.report.specs.Text.{decimal, hexPairs}
 
@@ -62,10 +63,6 @@ named name x = name ++ decimal x
 -- "cells C floor F visits V"
 unfoldable pub countsOf : QuoteReply → List ℕ
 countsOf q = named cellsText (q .cells) ++ named floorText (q .floor) ++ named visitsText (q .visits)
-
--- Document 01, "Stage sheet": the most bytes that a stage can have
-abbrev pub longestStage : ℕ
-longestStage = 196
 
 -- the stage's own line: the bytes of the buffer that the reply's length says, and never more than a stage has
 unfoldable pub stageLine : ℕ → List ℕ → List ℕ

@@ -12,7 +12,8 @@ ghost use Prim.Native.Nat.{_+_, _≤_, min};
 ghost use lib.ListN.{length};
 ghost use Rattle.quote.specs.Cases.{quoteReply};
 ghost use Rattle.report.specs.Put.{Put};
-ghost use Rattle.report.specs.Lines.{longestStage, longestReport, named, countsOf, stageLine, resultLines, refusalLine, judgedLine};
+ghost use Rattle.stage.specs.Bytes.{longestStage};
+ghost use Rattle.report.specs.Lines.{longestReport, named, countsOf, stageLine, resultLines, refusalLine, judgedLine};
 
 // Puts a number after its name.
 fn put_named(out: &mut [u8], at: usize, name: &[u8], x: u64) -> usize

@@ -5,8 +5,8 @@ use mathlib.Core.Bool.{true, false}
 use mathlib.Core.List.{List, [], _∷_}
 use lib.ListN.{length}
 use Rattle.base.specs.declared.Refusal.{Refusal}
+use Rattle.base.specs.Cases.{accepting, acceptedCase, refusedCase}
 use Rattle.relation.specs.declared.Relation.{Relation}
-use Rattle.relation.specs.declared.Checked.the-variants.{WellFormed, Refused as Turned}
 use Rattle.relation.specs.Source.{Rel}
 use Rattle.relation.specs.Tests.{ofSets}
 use Rattle.relation.specs.Masks.{cleared}
@@ -14,8 +14,7 @@ use Rattle.relation.specs.Handed.{relationOf, checkOf}
 use Rattle.relation.proofs.Sets.{Fit, check-well-formed, cleared-takes, cleared-narrow}
 use Rattle.search.specs.declared.Part.{Part}
 use Rattle.search.specs.declared.State.{State}
-use Rattle.search.specs.declared.Mark.the-variants.{Best, Stopped}
-use Rattle.search.specs.declared.Answer.{Answer}
+use Rattle.search.specs.Cases.{best, stopped, SearchReply}
 use Rattle.search.specs.Search.{floor, start, searchPart, run}
 use Rattle.search.specs.TreeBoard.{tree}
 use Rattle.search.specs.Reply.{markOf, answerOf, refusedWith, afterCheck, searchOf}
@@ -38,17 +37,17 @@ unfolding run
 ran n m budget R st s est e = e ∙ ap (searchPart (tree n m) budget R) (started n m R st est)
 
 pub stopped-answer : (n m : ℕ) (R : Rel) (s t : State) (f : ℕ) → s ≡ t → s .stopped ≡ true → f ≡ floor (tree n m) R
-    → _≡_ {A = Answer} (record { tables = s .tables; cells = s .cells; floor = f; visits = s .visits; mark = Stopped }) (answerOf n m R t)
+    → _≡_ {A = SearchReply} (record { tables = s .tables; cells = s .cells; floor = f; visits = s .visits; mark = accepting stopped 0 }) (answerOf n m R t)
 unfolding answerOf markOf
 stopped-answer n m R s t f e h ef = rw (← e, h, ef)
 
 pub best-answer : (n m : ℕ) (R : Rel) (s t : State) → s ≡ t → s .stopped ≡ false
-    → _≡_ {A = Answer} (record { tables = s .tables; cells = s .cells; floor = s .cells; visits = s .visits; mark = Best }) (answerOf n m R t)
+    → _≡_ {A = SearchReply} (record { tables = s .tables; cells = s .cells; floor = s .cells; visits = s .visits; mark = accepting best 0 }) (answerOf n m R t)
 unfolding answerOf markOf
 best-answer n m R s t e h = rw (← e, h)
 
 -- a relation that passes its test, and its sets as the code holds them
-module _ (r : Relation) (long : length (r .sets) ≡ 16) (passes : checkOf r ≡ WellFormed) where
+module _ (r : Relation) (long : length (r .sets) ≡ 16) (passes : checkOf r ≡ acceptedCase) where
   fit : Fit r
   fit = check-well-formed r passes
 
@@ -71,6 +70,6 @@ module _ (r : Relation) (long : length (r .sets) ≡ 16) (passes : checkOf r ≡
   unfolding searchOf afterCheck
   answered budget = rw passes
 
-pub turned-away : (r : Relation) (budget : ℕ) (f : Refusal) → checkOf r ≡ Turned f → searchOf r budget ≡ refusedWith f
+pub turned-away : (r : Relation) (budget : ℕ) (f : Refusal) → checkOf r ≡ refusedCase f → searchOf r budget ≡ refusedWith (refusedCase f)
 unfolding searchOf afterCheck
 turned-away r budget f e = rw e

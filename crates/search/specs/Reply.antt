@@ -1,28 +1,24 @@
--- Document 01, "Search": "The reply carries four tables (0 past wire m−1), the cells, the mark (stopped, else best), the floor (R's floor when stopped,
--- else the cells) and the visits, the number of parts expanded." Or the refusal of the relation.
+-- Document 01, "Search": what the reply of a search carries, from the state that the search ends in; or the refusal of the relation.
 use Prim.Native.Nat.{ℕ, zero}
 use mathlib.Core.Bool.{Bool, true, false, cond}
 use Rattle.base.specs.Sizes.{maxWires}
-use Rattle.base.specs.declared.Refusal.{Refusal}
+use Rattle.base.specs.Cases.{Case, accepting, isRefused}
 use Rattle.table.specs.Bits.{row}
 use Rattle.relation.specs.declared.Relation.{Relation}
-use Rattle.relation.specs.declared.Checked.{Checked}
-use Rattle.relation.specs.declared.Checked.the-variants.{WellFormed, Refused as Turned}
 use Rattle.relation.specs.Source.{Rel}
 use Rattle.relation.specs.Handed.{relationOf, checkOf}
 use Rattle.search.specs.declared.State.{State}
-use Rattle.search.specs.declared.Mark.{Mark}
-use Rattle.search.specs.declared.Mark.the-variants.{Best, Stopped, Refused}
-use Rattle.search.specs.declared.Answer.{Answer}
+use Rattle.search.specs.Cases.{best, stopped, SearchReply}
 use Rattle.search.specs.Search.{floor, run}
 use Rattle.search.specs.TreeBoard.{tree}
 
--- "the mark (stopped, else best)"
-unfoldable pub markOf : Bool → Mark
-markOf true = Stopped
-markOf false = Best
+-- a search that left a part is stopped, any other is best
+unfoldable pub markOf : Bool → Case
+markOf true = accepting stopped 0
+markOf false = accepting best 0
 
-unfoldable pub answerOf : ℕ → ℕ → Rel → State → Answer
+-- the floor is the relation's own where the search was stopped; else it is the cells found
+unfoldable pub answerOf : ℕ → ℕ → Rel → State → SearchReply
 answerOf n m R s =
     record {
       tables = s .tables;
@@ -32,12 +28,15 @@ answerOf n m R s =
       mark = markOf (s .stopped);
     }
 
-unfoldable pub refusedWith : Refusal → Answer
-refusedWith f = record { tables = row maxWires (λ _. zero); cells = zero; floor = zero; visits = zero; mark = Refused f }
+-- every number of a refused search but its refusal's is 0
+unfoldable pub refusedWith : Case → SearchReply
+refusedWith c = record { tables = row maxWires (λ _. zero); cells = zero; floor = zero; visits = zero; mark = c }
 
-unfoldable pub afterCheck : Relation → ℕ → Checked → Answer
-afterCheck r budget (Turned f) = refusedWith f
-afterCheck r budget WellFormed = answerOf (r .n) (r .m) (relationOf r) (run (tree (r .n) (r .m)) budget (relationOf r))
+unfoldable pub afterCheck : Relation → ℕ → Case → SearchReply
+afterCheck r budget c =
+    let found = answerOf (r .n) (r .m) (relationOf r) (run (tree (r .n) (r .m)) budget (relationOf r)) in
+    cond (isRefused c) (refusedWith c) found
 
-unfoldable pub searchOf : Relation → ℕ → Answer
+-- the reply to any relation and budget: the relation's test comes first
+unfoldable pub searchOf : Relation → ℕ → SearchReply
 searchOf r budget = afterCheck r budget (checkOf r)

@@ -8,6 +8,7 @@ ghost use mathlib.Core.Path.{_≡_};
 ghost use Rattle.relation.specs.Tests.{ofSets};
 ghost use Rattle.search.specs.Search.{run};
 ghost use Rattle.search.specs.TreeBoard.{tree};
+ghost use Rattle.search.specs.Cases.{searchReply};
 ghost use Rattle.search.specs.Reply.{answerOf, searchOf};
 ghost use Rattle.search.specs.Kept.{Sized, Sets};
 
@@ -61,7 +62,7 @@ pub struct Answer {
 // The search of a relation whose sizes and sets were tested, with its sets past the last pattern emptied.
 fn search_sets(n: u8, m: u8, sets: [u16; 16], budget: u32) -> Answer
     requires { ⌜ Sized n m × Sets n m sets ⌝ }
-    ensures { λ r. ⌜ r ≡ answerOf n m (ofSets sets) (run (tree n m) budget (ofSets sets)) ⌝ }
+    ensures { λ r. ⌜ searchReply r ≡ answerOf n m (ofSets sets) (run (tree n m) budget (ofSets sets)) ⌝ }
 {
     let table = blocks();
     let whole = parts::whole(&table, n, m, sets);
@@ -108,7 +109,7 @@ fn search_sets(n: u8, m: u8, sets: [u16; 16], budget: u32) -> Answer
 
 // The search of any relation under any budget. It refuses what the relation's test refuses.
 pub fn search(relation: Relation, budget: u32) -> Answer
-    ensures { λ r. ⌜ r ≡ searchOf relation budget ⌝ }
+    ensures { λ r. ⌜ searchReply r ≡ searchOf relation budget ⌝ }
 {
     let n = relation.n;
     let m = relation.m;

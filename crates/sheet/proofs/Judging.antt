@@ -16,7 +16,8 @@ use Rattle.sheet.specs.declared.Command.the-variants.{End, Sizes, Row, D
 use Rattle.sheet.specs.declared.Sheet.{Sheet}
 use Rattle.sheet.specs.Commands.{isEmpty, inputsOf, isMarked}
 use Rattle.sheet.specs.Gathered.{maxPatterns, maxGates, maxOutputs, gathered, noMark}
-use Rattle.sheet.specs.Reading.{refused, isNotMade, judged, missing, ending, replyOf, accepted}
+use Rattle.sheet.specs.Reading.{refused, isNotMade, judged, missing, ending}
+use Rattle.sheet.specs.Turn.{replyOf, accepted}
 use Rattle.base.proofs.Lowest.{lowest-cong}
 use Rattle.sheet.proofs.Lists.{isEmpty-nil}
 use Rattle.sheet.proofs.Powers.{uncapped}

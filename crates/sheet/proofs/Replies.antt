@@ -1,15 +1,17 @@
 -- What the reply of `read_sheet` tells of the reading.
-use Prim.Native.Nat.{ℕ}
-use mathlib.Core.Path.{_≡_, refl}
+use mathlib.Core.Path.{_≡_, refl, sym, ap, _∙_}
 use mathlib.Core.List.{List}
-use native.Mathlib.Omega.{arith}
 use Rattle.base.specs.declared.Refusal.{Refusal}
+use Rattle.base.specs.Cases.{refusedOutcome}
+use Rattle.base.proofs.Cases.{accepted-refused, refused-accepted, same-refusal}
 use Rattle.sheet.specs.declared.Answer.the-variants.{Accepted, Refused}
 use Rattle.sheet.specs.declared.Command.{Command}
 use Rattle.sheet.specs.declared.Reply.{Reply}
 use Rattle.sheet.specs.declared.Sheet.{Sheet}
+use Rattle.sheet.specs.Cases.{answerCase, SheetReply, sheetReply}
 use Rattle.sheet.specs.Gathered.{gathered}
-use Rattle.sheet.specs.Reading.{Reading, holds, refused, replyOf}
+use Rattle.sheet.specs.Reading.{Reading, holds, refused, replyTold}
+use Rattle.sheet.specs.Turn.{replyOf}
 
 -- an accepted sheet holds commands, and is what they say
 pub record Holding (x : Reading) (sheet : Sheet) : Type 0 where
@@ -17,19 +19,25 @@ pub record Holding (x : Reading) (sheet : Sheet) : Type 0 where
   pub holds-them : x ≡ holds commands
   pub sheet-is : sheet ≡ gathered commands
 
-holding : (x : Reading) → replyOf x .answer ≡ Accepted → Holding x (replyOf x .sheet)
-unfolding replyOf
-holding (holds cs) e = record { commands = cs; holds-them = refl; sheet-is = refl }
-holding (refused f) e = let z : _≡_ {A = ℕ} 0 1 = cc in absurd (omega arith)
+-- the loop's reply is the written one
+pub reply-told : (x : Reading) → sheetReply (replyOf x) ≡ replyTold x
+unfolding replyOf replyTold
+reply-told (holds cs) = refl
+reply-told (refused f) = refl
 
-refusing : (x : Reading) (f : Refusal) → replyOf x .answer ≡ Refused f → x ≡ refused f
-unfolding replyOf
-refusing (holds cs) f e = let z : _≡_ {A = ℕ} 0 1 = cc in absurd (omega arith)
-refusing (refused g) f e = cc
+module _ (r : Reply) where
+  abbrev Tells : Reading → Type 0
+  Tells x = sheetReply r ≡ replyTold x
 
-module _ (x : Reading) (r : Reply) (e : r ≡ replyOf x) where
-  pub accepted-reply : r .answer ≡ Accepted → Holding x (r .sheet)
-  accepted-reply a = rw e (holding x (rw e at a))
+  answer-told : (x : Reading) → Tells x → answerCase (r .answer) ≡ replyTold x .answer
+  answer-told x e = ap (λ (y : SheetReply). y .answer) e
 
-  pub refused-reply : (f : Refusal) → r .answer ≡ Refused f → x ≡ refused f
-  refused-reply f a = refusing x f (rw e at a)
+  pub accepted-reply : (x : Reading) → Tells x → r .answer ≡ Accepted → Holding x (r .sheet)
+  unfolding replyTold
+  accepted-reply (holds cs) e a = record { commands = cs; holds-them = refl; sheet-is = ap (λ (y : SheetReply). y .sheet) e }
+  accepted-reply (refused f) e a = accepted-refused f (ap answerCase (sym a) ∙ answer-told (refused f) e)
+
+  pub refused-reply : (x : Reading) → Tells x → (f : Refusal) → r .answer ≡ Refused f → x ≡ refused f
+  unfolding replyTold
+  refused-reply (holds cs) e f a = refused-accepted f (ap answerCase (sym a) ∙ answer-told (holds cs) e)
+  refused-reply (refused g) e f a = ap refused (sym (same-refusal refusedOutcome f g (ap answerCase (sym a) ∙ answer-told (refused g) e)))

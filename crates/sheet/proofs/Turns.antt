@@ -21,12 +21,13 @@ use Rattle.sheet.specs.declared.State.{State}
 use Rattle.sheet.specs.declared.State.the-variants.{On, Done}
 use Rattle.sheet.specs.declared.Step.the-variants.{Read, Refused as StepRefused}
 use Rattle.sheet.specs.Commands.{isEmpty, collect, isSizes, inputsOf}
+use Rattle.sheet.specs.Cases.{sheetReply}
 use Rattle.sheet.specs.Gathered.{gathered}
 use Rattle.sheet.specs.Reader.{readerAt, movedPast, nextOf}
-use Rattle.sheet.specs.Reading.{Reading, holds, refused, judged, ending, isEnd, Passage, over, on, onward, afterStep, oneCommand, continued, readingFrom, readingOf, replyOf}
-use Rattle.sheet.specs.Turn.{doneWith, turnOf}
+use Rattle.sheet.specs.Reading.{Reading, holds, refused, judged, ending, isEnd, Passage, over, on, onward, afterStep, oneCommand, continued, readingFrom, readingOf}
+use Rattle.sheet.specs.Turn.{doneWith, turnOf, replyOf}
 use Rattle.sheet.proofs.Fields.{nothing}
-use Rattle.sheet.proofs.Replies.{refused-reply}
+use Rattle.sheet.proofs.Replies.{reply-told, refused-reply}
 use Rattle.sheet.proofs.Steps.{twice, HandedBack, reader-moved, inputs-fit}
 use Rattle.sheet.proofs.Passages.{Grown, grown, JudgedTells, judged-tells, PassageTells, passage-tells}
 
@@ -63,7 +64,7 @@ module _ (before : List Command) (c : Command) (at : ℕ) (h : Reply) (e : h ≡
 
   pub follow-refused : (to : ℕ) (f : Refusal) → h .answer ≡ Refused f → record { sheet = h .sheet; state = Done (Refused f) } ≡ turnOf (onward s c to (judged before c at))
   follow-refused to f g =
-      let x = refused-reply (judged before c at) h e f g in
+      let x = refused-reply h (judged before c at) (ap sheetReply e ∙ reply-told (judged before c at)) f g in
       rw (x, e, x) (nothing-gathered f)
 
 -- one command that the reader hands back, or refuses

@@ -6,14 +6,13 @@ use lib.ListN.{length}
 use lib.Dec.{ltb, leb}
 use Rattle.base.specs.declared.Refusal.{Refusal}
 use Rattle.base.specs.Refusals.{refusalAt, cutShort, trailing, noSignal, repeated, tooMany, missingRow}
+use Rattle.base.specs.Cases.{acceptedCase, refusedCase}
 use Rattle.base.specs.Lowest.{lowest}
 use Rattle.sheet.specs.declared.Command.{Command}
 use Rattle.sheet.specs.declared.Command.the-variants.{End, Sizes, Row, DontCare, Gate, Output, Limit}
 use Rattle.sheet.specs.declared.Step.{Step}
 use Rattle.sheet.specs.declared.Step.the-variants.{Read, Refused as StepRefused}
-use Rattle.sheet.specs.declared.Answer.the-variants.{Accepted, Refused}
-use Rattle.sheet.specs.declared.Reply.{Reply}
-use Rattle.sheet.specs.declared.Sheet.{Sheet}
+use Rattle.sheet.specs.Cases.{SheetReply}
 use Rattle.sheet.specs.Commands.{inputsOf, isMarked, gatesOf, outputsOf, signalsMade}
 use Rattle.sheet.specs.Reader.{readerAt, nextOf}
 use Rattle.sheet.specs.Gathered.{gathered, maxGates, maxOutputs}
@@ -112,10 +111,7 @@ readingFrom (suc k) s at before = continued (readingFrom k s) (oneCommand s at b
 unfoldable pub readingOf : List ℕ → Reading
 readingOf s = readingFrom (length s) s 0 []
 
-abbrev pub accepted : Sheet → Reply
-accepted sheet = record { sheet = sheet; answer = Accepted }
-
--- the reply to a reading: what the commands say, or the refusal with nothing gathered
-unfoldable pub replyOf : Reading → Reply
-replyOf (holds cs) = accepted (gathered cs)
-replyOf (refused f) = record { sheet = gathered []; answer = Refused f }
+-- the reply to a reading: what the commands say; or the refusal, with nothing gathered
+unfoldable pub replyTold : Reading → SheetReply
+replyTold (holds cs) = record { sheet = gathered cs; answer = acceptedCase }
+replyTold (refused f) = record { sheet = gathered []; answer = refusedCase f }

@@ -9,12 +9,13 @@ use Rattle.sheet.specs.declared.Command.the-variants.{End, Sizes, Row, D
 use Rattle.sheet.specs.declared.Reader.{Reader}
 use Rattle.sheet.specs.declared.Sheet.{Sheet}
 use Rattle.sheet.specs.declared.Reply.{Reply}
+use Rattle.sheet.specs.declared.Answer.the-variants.{Accepted, Refused}
 use Rattle.sheet.specs.declared.Turn.{Turn}
 use Rattle.sheet.specs.declared.State.the-variants.{On, Done}
 use Rattle.sheet.specs.Commands.{isEmpty, isSizes, inputsOf}
 use Rattle.sheet.specs.Reader.{readerAt}
 use Rattle.sheet.specs.Gathered.{gathered}
-use Rattle.sheet.specs.Reading.{judged, ending, Passage, over, on, onward, oneCommand, replyOf}
+use Rattle.sheet.specs.Reading.{judged, ending, Passage, over, on, onward, oneCommand, Reading, holds, refused}
 
 -- the pattern that a command names; 0 where it names none
 abbrev pub patternOf : Command → ℕ
@@ -25,6 +26,14 @@ patternOf (DontCare p) = p
 patternOf (Gate k a b) = 0
 patternOf (Output s) = 0
 patternOf (Limit p w) = p
+
+-- a reading as the loop ends with it
+abbrev pub accepted : Sheet → Reply
+accepted sheet = record { sheet = sheet; answer = Accepted }
+
+unfoldable pub replyOf : Reading → Reply
+replyOf (holds cs) = accepted (gathered cs)
+replyOf (refused f) = record { sheet = gathered []; answer = Refused f }
 
 abbrev pub doneWith : Reply → Turn
 doneWith r = record { sheet = r .sheet; state = Done (r .answer) }

@@ -12,8 +12,7 @@ ghost use lib.ListN.{getD};
 ghost use lib.Dec.{leb, eqb};
 ghost use Rattle.base.specs.Lowest.{lowest};
 ghost use Rattle.sheet.specs.Gathered.{gathered, maxPatterns, allValues, noMark};
-ghost use Rattle.sheet.specs.Reading.{accepted};
-ghost use Rattle.sheet.specs.Turn.{patternOf, Takes, Judges, Adds, Ends};
+ghost use Rattle.sheet.specs.Turn.{accepted, patternOf, Takes, Judges, Adds, Ends};
 
 // The set of all values of m wires.
 fn all_values(m: u8) -> u16

@@ -3,8 +3,9 @@ use base::Refusal;
 ghost use mathlib.Core.Path.{_≡_};
 ghost use Prim.Native.Nat.{_≤_};
 ghost use Rattle.base.specs.Sizes.{maxInputs};
-ghost use Rattle.sheet.specs.Reading.{refused, readingOf, replyOf, isEnd};
-ghost use Rattle.sheet.specs.Turn.{doneWith, Follows, Turns};
+ghost use Rattle.sheet.specs.Cases.{sheetReply};
+ghost use Rattle.sheet.specs.Reading.{refused, readingOf, replyTold, isEnd};
+ghost use Rattle.sheet.specs.Turn.{replyOf, doneWith, Follows, Turns};
 
 mod commands; // commands.rt: one command at a place, and the reader moved past it
 mod gather; // gather.rt: the sheet with one command more
@@ -153,7 +154,7 @@ fn take_turn(sheet: Sheet, reader: Reader, s: &[u8]) -> Turn
 
 // Reads a whole sheet. Each command has a byte of its own, so there are at most as many turns as bytes.
 pub fn read_sheet(s: &[u8]) -> Reply
-    ensures { λ r. ⌜ r ≡ replyOf (readingOf (now (s .entry))) ⌝ }
+    ensures { λ r. ⌜ sheetReply r ≡ replyTold (readingOf (now (s .entry))) ⌝ }
 {
     let mut sheet = Sheet::fresh(0, 0);
     let mut reader = Reader::new();

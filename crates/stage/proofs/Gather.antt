@@ -7,19 +7,19 @@ use native.Mathlib.Omega.{arith}
 use native.Mathlib.Nat.{add-assoc, zero-add}
 use native.Mathlib.Numerals.{add-one}
 use lib.ListN.{length, getD, set, drop, replicate}
+use Rattle.base.specs.Cases.{acceptedCase, refusedCase}
 use Rattle.base.specs.declared.Refusal.{Refusal}
 use Rattle.base.specs.Refusals.{refusalAt, cutShort, outOfRange}
 use Rattle.base.specs.Sizes.{sizesOut, maxWires}
 use Rattle.table.specs.Bits.{row}
 use Rattle.table.specs.Tree.{Tree, selectors}
 use Rattle.stage.specs.Bytes.{treeBytes, size}
-use Rattle.stage.specs.Read.{Read, taken, fault, andThen, dueNumber, operand, readStage, wireAt, wiresAt, endAt, StageSheet, got, refused, judged, closed}
+use Rattle.stage.specs.Cases.{StageReply, answerCase, takenTree, refusedTree}
+use Rattle.stage.specs.Read.{Read, taken, fault, andThen, dueNumber, operand, readStage, wireAt, wiresAt, endAt, StageSheet, got, refused, closed}
 use Rattle.stage.specs.Reply.{tableOf, tablesOf, refusedReply, replyOf, stepOf}
 use Rattle.stage.specs.declared.reader.Answer.{Answer}
-use Rattle.stage.specs.declared.reader.Answer.the-variants.{Accepted, Refused}
-use Rattle.stage.specs.declared.reader.StageRead.{StageRead}
-use Rattle.stage.specs.declared.reader.TreeStep.the-variants.{Tree as TreeTaken, Refused as TreeRefused}
 use Rattle.stage.proofs.Sheets.{ToldWire, wire-told, ToldWires, wires-told}
+use Rattle.stage.proofs.Ends.{end-map, told, end-answer}
 use Rattle.stage.proofs.Tables.{selectors-few}
 use Rattle.stage.proofs.Places.{due-goes, operand-goes, Took, GoesOn, after-part, took, fell}
 
@@ -31,7 +31,7 @@ wire-goes-on s n m j at = go (wireAt n m j at (drop at s)) (wire-told n m j at (
     go (fault f) h = tt
     go (taken x next rest) h = (after-part s at next (0x21 ∷ j ∷ treeBytes x) rest (h .0) (omega (arith, h .1)), h .2)
 
-module _ (s : List ℕ) (n m j at t c next : ℕ) (e : TreeTaken t c next ≡ stepOf n (wireAt n m j at (drop at s))) where
+module _ (s : List ℕ) (n m j at t c next : ℕ) (e : takenTree t c next ≡ stepOf n (wireAt n m j at (drop at s))) where
   wire-took : Took (wireAt n m j at (drop at s)) s n 0 t c next
   wire-took = took s n 0 t c next (wireAt n m j at (drop at s)) (wire-goes-on s n m j at) e
 
@@ -44,29 +44,32 @@ filled n tables j [] = tables
 filled n tables j (x ∷ xs) = filled n (set tables j (tableOf n x)) (suc j) xs
 
 -- the reply of a sheet whose wires below j are gathered already
-unfoldable pub replyWith : List ℕ → ℕ → ℕ → StageSheet → StageRead
-replyWith tables cells j (got n m trees) = record { n = n; m = m; tables = filled n tables j trees; cells = cells + size trees; answer = Accepted }
+unfoldable pub replyWith : List ℕ → ℕ → ℕ → StageSheet → StageReply
+replyWith tables cells j (got n m trees) = record { n = n; m = m; tables = filled n tables j trees; cells = cells + size trees; answer = acceptedCase }
 replyWith tables cells j (refused f) = refusedReply f
 
 -- one wire more is gathered
-judged-more : (tables : List ℕ) (cells n m j : ℕ) (x : Tree) (xs : List Tree) (a : Answer)
-    → replyWith tables cells j (judged n m (x ∷ xs) a) ≡ replyWith (set tables j (tableOf n x)) (cells + selectors x) (suc j) (judged n m xs a)
-unfolding replyWith judged filled size
-judged-more tables cells n m j x xs (Refused f) = refl
-judged-more tables cells n m j x xs Accepted = rw (add-assoc cells (selectors x) (size xs))
+end-more : (tables : List ℕ) (cells n m j : ℕ) (x : Tree) (xs : List Tree) (at : ℕ) (rest : List ℕ)
+    → replyWith tables cells j (endAt refused (got n m (x ∷ xs)) at rest)
+    ≡ replyWith (set tables j (tableOf n x)) (cells + selectors x) (suc j) (endAt refused (got n m xs) at rest)
+unfolding replyWith filled size
+end-more tables cells n m j x xs at rest =
+    let more = replyWith (set tables j (tableOf n x)) (cells + selectors x) (suc j) in
+    end-map (replyWith tables cells j) refused (got n m (x ∷ xs)) at rest
+    ∙ rw (← add-assoc cells (selectors x) (size xs)) (sym (end-map more refused (got n m xs) at rest))
 
 closed-more : (tables : List ℕ) (cells n m j : ℕ) (x : Tree) (y : Read (List Tree))
     → replyWith tables cells j (closed n m (andThen y (λ xs at rest. taken (x ∷ xs) at rest)))
     ≡ replyWith (set tables j (tableOf n x)) (cells + selectors x) (suc j) (closed n m y)
 unfolding replyWith closed andThen
 closed-more tables cells n m j x (fault f) = refl
-closed-more tables cells n m j x (taken xs at rest) = judged-more tables cells n m j x xs (endAt at rest)
+closed-more tables cells n m j x (taken xs at rest) = end-more tables cells n m j x xs at rest
 
 -- what is left to read from wire j on, at a place of the slice
 abbrev pub left : List ℕ → ℕ → ℕ → ℕ → ℕ → Read (List Tree)
 left s n m j at = wiresAt (m - j) n m j at (drop at s)
 
-module _ (s : List ℕ) (n m j at : ℕ) (tables : List ℕ) (cells : ℕ) (g : StageRead) (so-far : replyWith tables cells j (closed n m (left s n m j at)) ≡ g) where
+module _ (s : List ℕ) (n m j at : ℕ) (tables : List ℕ) (cells : ℕ) (g : StageReply) (so-far : replyWith tables cells j (closed n m (left s n m j at)) ≡ g) where
   step : j < m → m - j ≡ suc (m - (j + 1))
   step h = omega arith
 
@@ -79,17 +82,21 @@ module _ (s : List ℕ) (n m j at : ℕ) (tables : List ℕ) (cells : ℕ) (g : 
       rw (add-one j) (rw (step l, w .is, add-one j) at so-far) in
       rw (w .table, w .cells, add-one j) (sym (closed-more tables cells n m j x (left s n m (suc j) next)) ∙ rw (add-one j) at e)
 
-  pub goes-on : (t c next : ℕ) → j < m → TreeTaken t c next ≡ stepOf n (wireAt n m j at (drop at s))
+  pub goes-on : (t c next : ℕ) → j < m → takenTree t c next ≡ stepOf n (wireAt n m j at (drop at s))
       → replyWith (set tables j t) (cells + c) (j + 1) (closed n m (left s n m (j + 1) next)) ≡ g
   goes-on t c next l read = goes-on-took t c next l (wire-took s n m j at t c next read)
 
-  pub stops : (f : Refusal) → j < m → TreeRefused f ≡ stepOf n (wireAt n m j at (drop at s)) → refusedReply f ≡ g
+  pub stops : (f : Refusal) → j < m → refusedTree f ≡ stepOf n (wireAt n m j at (drop at s)) → refusedReply f ≡ g
   unfolding wiresAt andThen closed replyWith
   stops f l e = rw (step l, fell n f (wireAt n m j at (drop at s)) e) at so-far
 
-  pub ends : (a : Answer) → m ≤ j → a ≡ endAt at (drop at s) → replyWith tables cells j (judged n m [] a) ≡ g
-  unfolding wiresAt closed
-  ends a l e = let z : m - j ≡ 0 = omega arith in rw e (rw z at so-far)
+  pub ends : (a : Answer) → m ≤ j → answerCase a ≡ endAt refusedCase acceptedCase at (drop at s)
+      → told refusedReply (replyWith tables cells j (got n m [])) a ≡ g
+  unfolding wiresAt closed replyWith
+  ends a l e =
+      let z : m - j ≡ 0 = omega arith in
+      let reply = replyWith tables cells j in
+      end-answer refusedReply (reply (got n m [])) at (drop at s) a e ∙ sym (end-map reply refused (got n m []) at (drop at s)) ∙ rw z at so-far
 
 -- all wires are gathered: from nothing, the reply itself
 filled-all : (n : ℕ) (trees : List Tree) → length trees ≤ 4 → filled n (replicate maxWires 0) 0 trees ≡ tablesOf n trees
@@ -101,16 +108,18 @@ filled-all n (a ∷ b ∷ c ∷ []) h = refl
 filled-all n (a ∷ b ∷ c ∷ d ∷ []) h = refl
 filled-all n (a ∷ b ∷ c ∷ d ∷ e ∷ xs) h = absurd (omega arith)
 
-judged-all : (n m : ℕ) (trees : List Tree) → length trees ≤ 4 → (a : Answer) → replyWith (replicate maxWires 0) 0 0 (judged n m trees a) ≡ replyOf (judged n m trees a)
-unfolding replyWith replyOf judged
-judged-all n m trees h (Refused f) = refl
-judged-all n m trees h Accepted = rw (filled-all n trees h, zero-add (size trees))
+end-all : (n m : ℕ) (trees : List Tree) (at : ℕ) (rest : List ℕ) → length trees ≤ 4
+    → replyWith (replicate maxWires 0) 0 0 (endAt refused (got n m trees) at rest) ≡ replyOf (endAt refused (got n m trees) at rest)
+unfolding replyWith replyOf
+end-all n m trees at rest h =
+    end-map (replyWith (replicate maxWires 0) 0 0) refused (got n m trees) at rest
+    ∙ rw (filled-all n trees h, zero-add (size trees)) (sym (end-map replyOf refused (got n m trees) at rest))
 
 closed-all : (n m : ℕ) → m ≤ 4 → (bytes : List ℕ) (y : Read (List Tree)) → ToldWires m n 0 3 bytes y
     → replyWith (replicate maxWires 0) 0 0 (closed n m y) ≡ replyOf (closed n m y)
 unfolding replyWith replyOf closed
 closed-all n m h bytes (fault f) t = refl
-closed-all n m h bytes (taken trees at rest) t = judged-all n m trees (rw (t .2) h) (endAt at rest)
+closed-all n m h bytes (taken trees at rest) t = end-all n m trees at rest (rw (t .2) h)
 
 pub from-nothing : (s : List ℕ) (n m : ℕ) → m ≤ 4 → replyWith (replicate maxWires 0) 0 0 (closed n m (wiresAt m n m 0 3 (drop 3 s))) ≡ replyOf (closed n m (wiresAt m n m 0 3 (drop 3 s)))
 from-nothing s n m h = closed-all n m h (drop 3 s) (wiresAt m n m 0 3 (drop 3 s)) (wires-told m n m 0 3 (drop 3 s))

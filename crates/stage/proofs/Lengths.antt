@@ -1,4 +1,4 @@
--- Laws of the length of a stage: "length 4 + 3 × m + 3 × cells, at most 196".
+-- Laws of the length of a stage (document 01, "Stage sheet"): four bytes for the head and the end, three for each wire and three for each cell.
 use Prim.Native.Nat.{ℕ, zero, suc, _+_, _*_, _^_, _≤_}
 use mathlib.Core.Path.{_≡_, refl, _∙_}
 use mathlib.Core.List.{List, [], _∷_, _++_, map, map-append}
@@ -12,7 +12,7 @@ use Rattle.table.specs.Tree.{Tree, con, sel, selectors, reduced}
 use Rattle.table.proofs.Bits.{sum-bound}
 use Rattle.table.proofs.Cells.{cells-lt}
 use Rattle.table.proofs.Trees.{reduced-selectors}
-use Rattle.stage.specs.Bytes.{treeBytes, wireBytes, stageBytes, size}
+use Rattle.stage.specs.Bytes.{treeBytes, wireBytes, stageBytes, size, longestStage}
 use Rattle.stage.specs.Written.{stageTrees, stageOf, stageCells, wireOf}
 
 -- a tree takes a byte, and three more for each selector
@@ -48,7 +48,7 @@ trees-size n (suc m) tables h =
     rw (take-suc tables m 0 h, map-append (reduced n 0) (take m tables) (t ∷ []))
     (omega (arith, size-append (map (reduced n 0) (take m tables)) (reduced n 0 t ∷ []), trees-size n m tables (omega arith), reduced-selectors n 0 t))
 
--- the law of document 01
+-- the length by wires and cells, and its bound
 pub stage-length : (n m : ℕ) (tables : List ℕ) → m ≤ length tables → length (stageOf n m tables) ≡ 4 + 3 * m + 3 * stageCells n m tables
 unfolding stageOf
 stage-length n m tables h =
@@ -62,7 +62,7 @@ pub stage-cells-few : (n m : ℕ) (tables : List ℕ) → n ≤ 4 → stageCells
 unfolding stageCells
 stage-cells-few n m tables h = sum-bound m 15 (λ j. cells n (getD tables j 0)) (λ j _. cells-few n (getD tables j 0) h)
 
-pub stage-length-most : (n m : ℕ) (tables : List ℕ) → m ≤ length tables → n ≤ 4 → m ≤ 4 → length (stageOf n m tables) ≤ 196
+pub stage-length-most : (n m : ℕ) (tables : List ℕ) → m ≤ length tables → n ≤ 4 → m ≤ 4 → length (stageOf n m tables) ≤ longestStage
 stage-length-most n m tables h a b = omega (arith, stage-length n m tables h, stage-cells-few n m tables a)
 
 -- one wire's part of a stage

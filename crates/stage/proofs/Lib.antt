@@ -1,9 +1,13 @@
 pub mod Ranges
+pub mod Cases
 pub mod Lengths
 pub mod Writing
 pub mod Reading
 pub mod Sheets
+pub mod Ends
 pub mod Tables
 pub mod Places
 pub mod Gather
+pub mod RoundTrip
+pub mod Prefix
 pub mod Rows

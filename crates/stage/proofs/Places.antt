@@ -16,9 +16,10 @@ use Rattle.base.specs.Sizes.{countOut}
 use Rattle.base.proofs.Tests.{decide}
 use Rattle.table.specs.Tree.{Tree, sel, Ordered, selectors}
 use Rattle.stage.specs.Bytes.{treeBytes}
+use Rattle.stage.specs.Cases.{TreeReply, takenTree, refusedTree}
 use Rattle.stage.specs.Read.{Read, taken, fault, andThen, dueNumber, due, operand, branchesAt, selectorAt, treeAt, wireAt}
 use Rattle.stage.specs.Reply.{tableOf, selectOf, stepOf}
-use Rattle.stage.specs.declared.reader.TreeStep.the-variants.{Tree as TreeTaken, Refused as TreeRefused}
+use Rattle.stage.proofs.Cases.{refused-one}
 use Rattle.stage.proofs.Reading.{Told, tree-told}
 use Rattle.stage.proofs.Ranges.{count-fits}
 use Rattle.stage.proofs.Tables.{table-lt, table-select, selectors-few}
@@ -101,8 +102,8 @@ pub record Took (y : Read Tree) (s : List ℕ) (n k t c next : ℕ) : Type 0 whe
   pub cells : c ≡ selectors tree
   pub ordered : Ordered n k tree
 
-never : {A : Type 0} (f : Refusal) (t c x : ℕ) → TreeTaken t c x ≡ TreeRefused f → A
-never f t c x e = let z : _≡_ {A = ℕ} 0 1 = cc in absurd (omega arith)
+never : {A : Type 0} (f : Refusal) (t c x : ℕ) → takenTree t c x ≡ refusedTree f → A
+never f t c x e = absurd (omega (arith, ap (λ (r : TreeReply). r .answer .outcome) e))
 
 -- the bytes after a part of a slice are those at the place after it
 pub after-part : (s : List ℕ) (at next : ℕ) (x rest : List ℕ) → drop at s ≡ x ++ rest → next ≡ at + length x → rest ≡ drop next s
@@ -121,42 +122,42 @@ tree-goes-on s n k at = go (treeAt n k at (drop at s)) (tree-told n k at (drop a
     go (fault f) h = tt
     go (taken x next rest) h = (after-part s at next (treeBytes x) rest (h .0) (h .1), h .2)
 
-pub took : (s : List ℕ) (n k t c next : ℕ) (y : Read Tree) → GoesOn s n k y → TreeTaken t c next ≡ stepOf n y → Took y s n k t c next
+pub took : (s : List ℕ) (n k t c next : ℕ) (y : Read Tree) → GoesOn s n k y → takenTree t c next ≡ stepOf n y → Took y s n k t c next
 unfolding stepOf
 took s n k t c next (fault f) h e = never f t c next e
 took s n k t c next (taken x past rest) h e =
-    let p : next ≡ past = cc in
+    let p : next ≡ past = ap (λ (r : TreeReply). r .next) e in
     let q : rest ≡ drop next s = h .0 ∙ ap (λ (p : ℕ). drop p s) (sym p) in
-    record { tree = x; is = cc; table = cc; cells = cc; ordered = h .1 }
+    record { tree = x; is = cc; table = ap (λ (r : TreeReply). r .table) e; cells = ap (λ (r : TreeReply). r .cells) e; ordered = h .1 }
 
-pub fell : (n : ℕ) (f : Refusal) (y : Read Tree) → TreeRefused f ≡ stepOf n y → y ≡ fault f
+pub fell : (n : ℕ) (f : Refusal) (y : Read Tree) → refusedTree f ≡ stepOf n y → y ≡ fault f
 unfolding stepOf
-fell n f (fault g) e = cc
+fell n f (fault g) e = ap fault (sym (refused-one f g (ap (λ (r : TreeReply). r .answer) e)))
 fell n f (taken x past rest) e = never f _ _ _ (sym e)
 
 -- the bounds of what the reader of trees hands back
-pub tree-bounds : (s : List ℕ) (n k at t c next : ℕ) → k ≤ n → n ≤ 4 → TreeTaken t c next ≡ stepOf n (treeAt n k at (drop at s)) → (t < 2 ^ (2 ^ n)) × (c ≤ 15)
+pub tree-bounds : (s : List ℕ) (n k at t c next : ℕ) → k ≤ n → n ≤ 4 → takenTree t c next ≡ stepOf n (treeAt n k at (drop at s)) → (t < 2 ^ (2 ^ n)) × (c ≤ 15)
 tree-bounds s n k at t c next l h e =
     let z = took s n k t c next (treeAt n k at (drop at s)) (tree-goes-on s n k at) e in
     (rw (z .table) (table-lt n k (z .tree) (z .ordered)), rw (z .cells) (selectors-few n k (z .tree) l h (z .ordered)))
 
 -- the branches of a selector
 module _ (s : List ℕ) (n i at : ℕ) where
-  pub first-fault : (f : Refusal) → TreeRefused f ≡ stepOf n (treeAt n i at (drop at s)) → TreeRefused f ≡ stepOf n (branchesAt (treeAt n i) i at (drop at s))
+  pub first-fault : (f : Refusal) → refusedTree f ≡ stepOf n (treeAt n i at (drop at s)) → refusedTree f ≡ stepOf n (branchesAt (treeAt n i) i at (drop at s))
   unfolding branchesAt andThen stepOf
   first-fault f e = rw (fell n f (treeAt n i at (drop at s)) e)
 
-  module _ (t c next : ℕ) (first : TreeTaken t c next ≡ stepOf n (treeAt n i at (drop at s))) where
+  module _ (t c next : ℕ) (first : takenTree t c next ≡ stepOf n (treeAt n i at (drop at s))) where
     z : Took (treeAt n i at (drop at s)) s n i t c next
     z = took s n i t c next (treeAt n i at (drop at s)) (tree-goes-on s n i at) first
 
-    pub second-fault : (f : Refusal) → TreeRefused f ≡ stepOf n (treeAt n i next (drop next s))
-        → TreeRefused f ≡ stepOf n (branchesAt (treeAt n i) i at (drop at s))
+    pub second-fault : (f : Refusal) → refusedTree f ≡ stepOf n (treeAt n i next (drop next s))
+        → refusedTree f ≡ stepOf n (branchesAt (treeAt n i) i at (drop at s))
     unfolding branchesAt andThen stepOf
     second-fault f e = rw (z .is, fell n f (treeAt n i next (drop next s)) e)
 
-    pub both-taken : (u d past r : ℕ) → TreeTaken u d past ≡ stepOf n (treeAt n i next (drop next s)) → r ≡ selectOf n i t u
-        → TreeTaken r (1 + c + d) past ≡ stepOf n (branchesAt (treeAt n i) i at (drop at s))
+    pub both-taken : (u d past r : ℕ) → takenTree u d past ≡ stepOf n (treeAt n i next (drop next s)) → r ≡ selectOf n i t u
+        → takenTree r (1 + c + d) past ≡ stepOf n (branchesAt (treeAt n i) i at (drop at s))
     unfolding branchesAt andThen stepOf selectors
     both-taken u d past r second e =
         let o = took s n i u d past (treeAt n i next (drop next s)) (tree-goes-on s n i next) second in

@@ -2,6 +2,7 @@
 use Prim.Native.Nat.{ℕ}
 use mathlib.Core.Path.{_≡_, refl}
 use mathlib.Core.List.{List, [], _∷_}
+use Rattle.base.specs.Cases.{accepting, acceptedOutcome, refusedCase}
 use Rattle.base.specs.Refusals.{refusalAt, cutShort, unknown, outOfRange, trailing, outOfTurn, notAscending, shortBuffer}
 use Rattle.base.specs.Lowest.{lowest}
 use Rattle.table.specs.Bits.{bit, sum, ofBits, row}
@@ -9,20 +10,19 @@ use Rattle.table.specs.Cells.{low, high}
 use Rattle.table.specs.Tree.{con, sel, follow, selectors, reduced}
 use Rattle.stage.specs.Bytes.{treeBytes, wireBytes, stageBytes, size}
 use Rattle.stage.specs.Written.{stageTrees, stageOf, firstOut, writtenOf}
-use Rattle.stage.specs.Read.{andThen, misplaced, dueNumber, due, operand, branchesAt, selectorAt, treeFrom, treeWithin, treeAt, wireAt, wiresAt, nothingAfter, endAt, got, refused, judged, closed, readStage}
+use Rattle.stage.specs.Read.{andThen, misplaced, dueNumber, due, operand, branchesAt, selectorAt, treeFrom, treeWithin, treeAt, wireAt, wiresAt, nothingAfter, endAt, got, refused, closed, readStage}
 use Rattle.stage.specs.Reply.{tableOf, tablesOf}
-use Rattle.stage.specs.declared.writer.Written.the-variants.{Length, Refused}
 
 -- all meanings of reading, and of writing, open
 unfoldable reading : ℕ
-unfolding andThen misplaced dueNumber due operand branchesAt selectorAt treeFrom treeWithin treeAt wireAt wiresAt nothingAfter endAt judged closed readStage
+unfolding andThen misplaced dueNumber due operand branchesAt selectorAt treeFrom treeWithin treeAt wireAt wiresAt nothingAfter endAt closed readStage
 reading = 0
 
 unfoldable writing : ℕ
 unfolding lowest low high reduced treeBytes wireBytes stageBytes stageTrees stageOf firstOut writtenOf
 writing = 0
 
--- "20 02 02 21 00 22 01 24 23 21 01 22 02 23 24 2F"
+-- document 01, "Bench sheets": the stage that the program prints for sheet A
 abbrev stage-a : List ℕ
 stage-a =
     0x20 ∷ 0x02 ∷ 0x02 ∷ 0x21 ∷ 0x00 ∷ 0x22 ∷ 0x01 ∷ 0x24 ∷ 0x23 ∷ 0x21 ∷ 0x01 ∷ 0x22 ∷ 0x02 ∷ 0x23 ∷ 0x24 ∷ 0x2F ∷ []
@@ -43,16 +43,16 @@ pub a-bytes : stageOf 2 2 (3 ∷ 10 ∷ 0 ∷ 0 ∷ []) ≡ stage-a
 unfolding writing
 a-bytes = refl
 
--- "A with a 15-byte buffer: 12, place 16; with 16: accepted"
-pub a-short : writtenOf 2 2 (3 ∷ 10 ∷ 0 ∷ 0 ∷ []) 15 ≡ Refused (refusalAt shortBuffer 16)
+-- its writing, in a buffer that lacks one byte and in one that has just enough
+pub a-short : writtenOf 2 2 (3 ∷ 10 ∷ 0 ∷ 0 ∷ []) 15 ≡ refusedCase (refusalAt shortBuffer 16)
 unfolding writing
 a-short = refl
 
-pub a-fits : writtenOf 2 2 (3 ∷ 10 ∷ 0 ∷ 0 ∷ []) 16 ≡ Length 16
+pub a-fits : writtenOf 2 2 (3 ∷ 10 ∷ 0 ∷ 0 ∷ []) 16 ≡ accepting acceptedOutcome 16
 unfolding writing
 a-fits = refl
 
-pub too-large : writtenOf 2 2 (3 ∷ 16 ∷ 0 ∷ 0 ∷ []) 16 ≡ Refused (refusalAt outOfRange 1)
+pub too-large : writtenOf 2 2 (3 ∷ 16 ∷ 0 ∷ 0 ∷ []) 16 ≡ refusedCase (refusalAt outOfRange 1)
 unfolding writing
 too-large = refl
 

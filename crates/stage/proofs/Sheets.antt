@@ -1,28 +1,24 @@
 -- The theorems on stage sheets: the bytes of ordered trees are read as those trees; every accepted sheet is of that kind; what is written is read back.
-use Prim.Native.Nat.{ℕ, zero, suc, _+_, _*_, _^_, _<_, _≤_}
+use Prim.Native.Nat.{ℕ, zero, suc, _+_, _^_, _<_, _≤_}
 use mathlib.Core.Path.{_≡_, refl, sym, ap, subst, _∙_}
 use mathlib.Core.Bool.{cond}
 use mathlib.Core.List.{List, [], _∷_, _++_, map, append-assoc}
 use native.Mathlib.Omega.{arith}
-use native.Mathlib.Nat.{mod-eq-of-lt, zero-add}
+use native.Mathlib.Nat.{zero-add}
 use lib.Dec.{leb, eqb, eqb→eq}
 use lib.ListN.{length, getD, take, length-append}
 use lib.Seq.{getD-take, length-take-le}
 use borrow.Author.Tests.{eq-eqb, lt-leb}
 use Rattle.base.specs.declared.Refusal.{Refusal}
 use Rattle.base.specs.Refusals.{refusalAt, outOfTurn}
-use Rattle.base.specs.Sizes.{sizesOut, maxWires}
+use Rattle.base.specs.Sizes.{sizesOut}
 use Rattle.base.proofs.Tests.{cond-has, test-no}
-use Rattle.table.specs.Bits.{bit, ofBits, row}
-use Rattle.table.specs.Tree.{Tree, Ordered, follow, reduced}
-use Rattle.table.proofs.Bits.{sum-cong, ofBits-bit}
-use Rattle.table.proofs.Trees.{reduced-ordered, reduced-follow}
-use Rattle.stage.specs.Bytes.{treeBytes, wireBytes, stageBytes, AllOrdered, size}
-use Rattle.stage.specs.Written.{stageTrees, stageOf, stageCells}
-use Rattle.stage.specs.Read.{Read, taken, fault, andThen, known, misplaced, dueNumber, due, operand, treeAt, wireAt, wiresAt, nothingAfter, endAt, StageSheet, got, refused, judged, closed, readStage}
-use Rattle.stage.specs.Reply.{tableOf, tablesOf}
-use Rattle.stage.specs.declared.reader.Answer.the-variants.{Refused}
-use Rattle.stage.proofs.Lengths.{trees-length, trees-size}
+use Rattle.table.specs.Tree.{Tree, Ordered, reduced}
+use Rattle.table.proofs.Trees.{reduced-ordered}
+use Rattle.stage.specs.Bytes.{treeBytes, wireBytes, stageBytes, AllOrdered}
+use Rattle.stage.specs.Written.{stageTrees, stageOf}
+use Rattle.stage.specs.Read.{Read, taken, fault, andThen, known, misplaced, dueNumber, due, operand, treeAt, wireAt, wiresAt, nothingAfter, endAt, StageSheet, got, refused, closed, readStage}
+use Rattle.stage.proofs.Lengths.{trees-length}
 use Rattle.stage.proofs.Ranges.{Sized, sizes-in, sizes-fit}
 use Rattle.stage.proofs.Reading.{Told, tree-told, tree-back}
 
@@ -121,12 +117,12 @@ abbrev ToldSheet : List ℕ → StageSheet → Type 0
 ToldSheet bytes (got n m trees) = Stage bytes n m trees
 ToldSheet bytes (refused f) = Unit {0}
 
-end-told : (n m at : ℕ) (trees : List Tree) (bytes rest : List ℕ) → (rest ≡ 0x2F ∷ [] → Stage bytes n m trees) → ToldSheet bytes (judged n m trees (endAt at rest))
-unfolding endAt judged nothingAfter
+end-told : (n m at : ℕ) (trees : List Tree) (bytes rest : List ℕ) → (rest ≡ 0x2F ∷ [] → Stage bytes n m trees) → ToldSheet bytes (endAt refused (got n m trees) at rest)
+unfolding endAt nothingAfter
 end-told n m at trees bytes rest h =
-    due-has (λ a. ToldSheet bytes (judged n m trees a)) Refused 0x2F at (nothingAfter at) (λ _. tt) rest (λ q e. go q e)
+    due-has (ToldSheet bytes) refused 0x2F at (nothingAfter refused (got n m trees) at) (λ _. tt) rest (λ q e. go q e)
   where
-    go : (q : List ℕ) → rest ≡ 0x2F ∷ q → ToldSheet bytes (judged n m trees (nothingAfter at q))
+    go : (q : List ℕ) → rest ≡ 0x2F ∷ q → ToldSheet bytes (nothingAfter refused (got n m trees) at q)
     go [] e = h e
     go (b ∷ q) e = tt
 
@@ -163,41 +159,23 @@ accepted bytes n m trees e = subst (ToldSheet bytes) e (sheet-told bytes)
 
 -- (1) the bytes of ordered trees, one for each wire, are read as those trees
 pub read-back : (n m : ℕ) (trees : List Tree) → Sized n m → length trees ≡ m → AllOrdered n trees → readStage (stageBytes n m trees) ≡ got n m trees
-unfolding readStage due dueNumber operand stageBytes closed judged endAt nothingAfter
+unfolding readStage due dueNumber operand stageBytes closed endAt nothingAfter
 read-back n m trees z l o =
     let w = wires-back trees n m 0 3 (0x2F ∷ []) (omega arith) o in
     let w′ : wiresAt m n m 0 3 (wireBytes 0 trees ++ 0x2F ∷ []) ≡ taken trees (3 + length (wireBytes 0 trees)) (0x2F ∷ []) = rw l at w in
     rw (sizes-fit n m z, w′)
 
--- (3) what is written is read back: the same trees, hence the same tables and the same cells
+-- (3) what is written is read back as the trees written (the whole round trip: proofs/RoundTrip)
 pub trees-ordered : (n : ℕ) (ts : List ℕ) → ((j : ℕ) → j < length ts → getD ts j 0 < 2 ^ (2 ^ n)) → AllOrdered n (map (reduced n 0) ts)
 unfolding AllOrdered
 trees-ordered n [] h = tt
 trees-ordered n (t ∷ ts) h = (reduced-ordered n n 0 t (zero-add n) (h 0 (omega arith)), trees-ordered n ts (λ j l. h (suc j) (omega arith)))
 
-pub table-back : (n t : ℕ) → t < 2 ^ (2 ^ n) → tableOf n (reduced n 0 t) ≡ t
-unfolding tableOf ofBits
-table-back n t h =
-    sum-cong (2 ^ n) (λ p. follow n p (reduced n 0 t) * 2 ^ p) (λ p. bit t p * 2 ^ p)
-    (λ p l. ap (λ b. b * 2 ^ p) (reduced-follow n n 0 t p (zero-add n) h ∙ ap (bit t) (mod-eq-of-lt l)))
-    ∙ ofBits-bit (2 ^ n) t h
-
-tables-back : (n : ℕ) (ts : List ℕ) → ((j : ℕ) → j < length ts → getD ts j 0 < 2 ^ (2 ^ n)) → map (tableOf n) (map (reduced n 0) ts) ≡ ts
-tables-back n [] h = refl
-tables-back n (t ∷ ts) h = cc (table-back n t (h 0 (omega arith)), tables-back n ts (λ j l. h (suc j) (omega arith)))
-
 module _ (n m : ℕ) (tables : List ℕ) (z : Sized n m) (fits : m ≤ length tables) (in-range : (j : ℕ) → j < m → getD tables j 0 < 2 ^ (2 ^ n)) where
-  taken-in : (j : ℕ) → j < length (take m tables) → getD (take m tables) j 0 < 2 ^ (2 ^ n)
+  -- the tables that are read are in range
+  pub taken-in : (j : ℕ) → j < length (take m tables) → getD (take m tables) j 0 < 2 ^ (2 ^ n)
   taken-in j l = let h : j < m = rw (length-take-le m tables fits) at l in rw (getD-take m tables j 0 h) (in-range j h)
 
   pub written-back : readStage (stageOf n m tables) ≡ got n m (stageTrees n m tables)
   unfolding stageOf stageTrees
   written-back = read-back n m (stageTrees n m tables) z (trees-length n m tables fits) (trees-ordered n (take m tables) taken-in)
-
-  -- the tables written, and 0 past wire m - 1
-  pub written-tables : tablesOf n (stageTrees n m tables) ≡ row maxWires (λ j. getD (take m tables) j 0)
-  unfolding tablesOf stageTrees
-  written-tables = ap (λ (ts : List ℕ). row maxWires (λ j. getD ts j 0)) (tables-back n (take m tables) taken-in)
-
-  pub written-cells : size (stageTrees n m tables) ≡ stageCells n m tables
-  written-cells = trees-size n m tables fits

@@ -1,7 +1,7 @@
 -- Laws of writing a stage: what the stores of each part leave.
 use Prim.Native.Nat.{ℕ, zero, suc, _+_, _^_, _/_, _%_, _-_, _<_, _≤_}
 use mathlib.Core.Path.{_≡_, refl, ap, _∙_}
-use mathlib.Core.Bool.{cond}
+use mathlib.Core.Bool.{true, false, cond}
 use mathlib.Core.Logic.{⊎-elim}
 use mathlib.Core.List.{List, [], _∷_, _++_, map}
 use native.Mathlib.Omega.{arith}
@@ -10,8 +10,11 @@ use native.Mathlib.Numerals.{add-one}
 use lib.Dec.{eqb, nleb→lt}
 use lib.ListN.{length, getD, set, take, drop, length-append, drop-of-length-le}
 use lib.Seq.{sets, sets-eq, drop-cons, getD-take, length-take-le}
-use borrow.Author.Tests.{eq-eqb, ne-eqb}
+use borrow.Author.Tests.{eq-eqb, ne-eqb, lt-ltb, le-ltb}
 use Rattle.base.proofs.Rows.{sets-append}
+use Rattle.base.specs.Cases.{accepting, acceptedOutcome, refusedCase}
+use Rattle.base.specs.Refusals.{refusalAt, outOfRange, shortBuffer}
+use Rattle.base.specs.Sizes.{sizesOut}
 use Rattle.base.specs.declared.Refusal.{Refusal}
 use Rattle.base.proofs.Tests.{decide}
 use Rattle.base.proofs.Lowest.{lowest-below}
@@ -19,7 +22,6 @@ use Rattle.table.specs.Cells.{low, high}
 use Rattle.table.specs.Tree.{Tree, sel, reduced}
 use Rattle.stage.specs.Bytes.{treeBytes, wireBytes, stageBytes}
 use Rattle.stage.specs.Written.{stageTrees, wireOf, wiresOf, stageOf, tableOut, firstOut, writtenOf, bufferAfter}
-use Rattle.stage.specs.declared.writer.Written.the-variants.{Length, Refused}
 
 -- the reduced tree of a table of w inputs by the table's halves
 abbrev split : Tree → Tree → ℕ → ℕ → ℕ → Tree
@@ -93,9 +95,9 @@ unfolding stageOf stageBytes wiresOf
 stage-stored l b1 b2 b3 b4 b5 tables n m at e1 e2 e3 e4 e5 e6 =
     cc (sets-append (set (set (set l 0 0x20) 1 n) 2 m) 3 (wireBytes 0 (stageTrees n m tables)) (0x2F ∷ []))
 
--- a run of bytes stored at the start of a buffer that is long enough: the bytes, and the later bytes
-pub front : (l b s : List ℕ) (k : ℕ) → k ≡ length s → k ≤ length l → b ≡ sets l 0 s → b ≡ s ++ drop k l
-front l b s k f h e = e ∙ sets-eq s l 0 (rw (zero-add (length s), ← f) h) ∙ simp (zero-add, f)
+-- a run of bytes stored at the start of a buffer that is long enough: the bytes, and what was behind their places
+pub front : (l b s : List ℕ) → length s ≤ length l → b ≡ sets l 0 s → b ≡ s ++ drop (length s) l
+front l b s h e = e ∙ sets-eq s l 0 (rw (zero-add (length s)) h) ∙ simp zero-add
 
 -- where no wire's table is too large, every wire's table is in range
 pub tables-in : (n m : ℕ) (tables : List ℕ) → m ≤ firstOut n m tables → (j : ℕ) → j < m → getD tables j 0 < 2 ^ (2 ^ n)
@@ -106,13 +108,33 @@ tables-in n m tables h j l =
     (λ u. nleb→lt (2 ^ (2 ^ n)) (getD tables j 0) u)
     (decide (tableOut n (getD tables j 0)))
 
+-- what the writer answers, test by test
+module _ (n m : ℕ) (tables : List ℕ) (room : ℕ) where
+  pub sizes-refused : sizesOut n m ≡ true → writtenOf n m tables room ≡ refusedCase (refusalAt outOfRange 0)
+  unfolding writtenOf
+  sizes-refused e = rw e
+
+  module _ (sizes : sizesOut n m ≡ false) where
+    pub table-refused : firstOut n m tables < m → writtenOf n m tables room ≡ refusedCase (refusalAt outOfRange (firstOut n m tables))
+    unfolding writtenOf
+    table-refused h = rw (sizes, lt-ltb _ _ h)
+
+    module _ (in-range : m ≤ firstOut n m tables) where
+      pub short-refused : room < length (stageOf n m tables) → writtenOf n m tables room ≡ refusedCase (refusalAt shortBuffer (length (stageOf n m tables)))
+      unfolding writtenOf
+      short-refused h = rw (sizes, le-ltb _ _ in-range, lt-ltb _ _ h)
+
+      pub room-accepted : length (stageOf n m tables) ≤ room → writtenOf n m tables room ≡ accepting acceptedOutcome (length (stageOf n m tables))
+      unfolding writtenOf
+      room-accepted h = rw (sizes, le-ltb _ _ in-range, le-ltb _ _ h)
+
 -- the buffer after a refusal, and after a stage was written
 module _ (n m : ℕ) (tables b : List ℕ) where
-  pub kept : (f : Refusal) → writtenOf n m tables (length b) ≡ Refused f → b ≡ bufferAfter n m tables b
+  pub kept : (f : Refusal) → writtenOf n m tables (length b) ≡ refusedCase f → b ≡ bufferAfter n m tables b
   unfolding bufferAfter
-  kept f e = rw e
+  kept f e = rw e refl
 
-  pub written : (k : ℕ) (c : List ℕ) → writtenOf n m tables (length b) ≡ Length k → k ≡ length (stageOf n m tables) → k ≤ length b
+  pub written : (c : List ℕ) → writtenOf n m tables (length b) ≡ accepting acceptedOutcome (length (stageOf n m tables)) → length (stageOf n m tables) ≤ length b
       → c ≡ sets b 0 (stageOf n m tables) → c ≡ bufferAfter n m tables b
   unfolding bufferAfter
-  written k c e f h s = rw e (front b c (stageOf n m tables) k f h s)
+  written c e h s = rw e (front b c (stageOf n m tables) h s)

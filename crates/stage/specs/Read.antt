@@ -1,5 +1,5 @@
 -- Document 01, "Stage sheet" and "Refusals": what reading a stage sheet gives, one command after the other.
--- For one command the refusals come in the order 2, 5, 1, 3, 11; after the end comes 4. "Unless said, the place is the command's first byte."
+-- For one command the refusals come in the order 2, 5, 1, 3, 11; after the end comes 4. A refusal's place is where its command starts, but 4 names the byte that is too much.
 use Prim.Native.Nat.{ℕ, zero, suc, _+_, _-_}
 use mathlib.Core.Bool.{Bool, cond, _||_}
 use mathlib.Core.List.{List, [], _∷_}
@@ -9,8 +9,6 @@ use Rattle.base.specs.Refusals.{refusalAt, cutShort, unknown, outOfRange, trail
 use Rattle.base.specs.declared.Refusal.{Refusal}
 use Rattle.base.specs.Sizes.{countOut, sizesOut}
 use Rattle.table.specs.Tree.{Tree, con, sel}
-use Rattle.stage.specs.declared.reader.Answer.{Answer}
-use Rattle.stage.specs.declared.reader.Answer.the-variants.{Accepted, Refused}
 
 -- what reading at a place takes, with the place and the bytes after it; or the refusal
 pub data Read (A : Type 0) : Type 0 where
@@ -25,12 +23,11 @@ andThen (fault f) next = fault f
 abbrev pub known : ℕ → Bool
 known b = eqb b 0x20 || eqb b 0x21 || eqb b 0x22 || eqb b 0x23 || eqb b 0x24 || eqb b 0x2F
 
--- "2 unknown first byte for this kind of sheet"; "5 known command out of turn"
+-- a first byte that is not due: 5 where it starts another command of a stage sheet, else 2
 unfoldable pub misplaced : ℕ → ℕ
 misplaced b = cond (known b) outOfTurn unknown
 
--- the number of the refusal where the command `want` is due; 0 where it stands there.
--- "1 cut short: the bytes end where a command or its operands are due"
+-- the number of the refusal where the command `want` is due, 1 where no byte is left; 0 where the command stands there
 unfoldable pub dueNumber : ℕ → List ℕ → ℕ
 dueNumber want [] = cutShort
 dueNumber want (b ∷ rest) = cond (eqb b want) 0 (misplaced b)
@@ -39,17 +36,17 @@ dueNumber want (b ∷ rest) = cond (eqb b want) 0 (misplaced b)
 unfoldable pub due : {A : Type 0} → (Refusal → A) → ℕ → ℕ → (List ℕ → A) → List ℕ → A
 due stop want at next bytes = cond (eqb (dueNumber want bytes) 0) (next (drop 1 bytes)) (stop (refusalAt (dueNumber want bytes) at))
 
--- an operand of the command at a place, with what comes after it
+-- an operand of the command at a place, with what comes after it; 1 where no byte is left
 unfoldable pub operand : {A : Type 0} → (Refusal → A) → ℕ → (ℕ → List ℕ → A) → List ℕ → A
 operand stop at next [] = stop (refusalAt cutShort at)
 operand stop at next (x ∷ rest) = next x rest
 
--- a selector on input i "followed by its tree for 0 and its tree for 1"
+-- the two trees of a selector on input i, one after the other
 unfoldable pub branchesAt : (ℕ → List ℕ → Read Tree) → ℕ → ℕ → List ℕ → Read Tree
 branchesAt branch i at rest =
     andThen (branch at rest) (λ z at′ rest′. andThen (branch at′ rest′) (λ o at″ rest″. taken (sel i z o) at″ rest″))
 
--- 22 i below a selector on input k: "3 .. a selector input outside 1 to n", "11 selector input not above its parent's"
+-- 22 i below a selector on input k: 3 where there is no input i, 11 where i does not come after k
 unfoldable pub selectorAt : (ℕ → ℕ → List ℕ → Read Tree) → ℕ → ℕ → ℕ → List ℕ → Read Tree
 selectorAt branch n k at =
     operand fault at
@@ -74,7 +71,7 @@ treeWithin (suc depth) n k at bytes = treeFrom (treeWithin depth n) n k at bytes
 unfoldable pub treeAt : ℕ → ℕ → ℕ → List ℕ → Read Tree
 treeAt n k at bytes = treeWithin (suc (n - k)) n k at bytes
 
--- 21 j and the tree of wire j: "3 .. stage wire ≥ m"; 5 "also, tested after 3, a stage wire below m that isn't the next"
+-- 21 i and the tree of wire j, which is due: 3 where there is no wire i, 5 where i is another wire than j
 unfoldable pub wireAt : ℕ → ℕ → ℕ → ℕ → List ℕ → Read Tree
 wireAt n m j at =
     due fault 0x21 at
@@ -89,28 +86,24 @@ wiresAt (suc left) n m j at bytes =
     andThen (wireAt n m j at bytes)
     (λ x at′ rest. andThen (wiresAt left n m (suc j) at′ rest) (λ xs at″ rest″. taken (x ∷ xs) at″ rest″))
 
--- 2F, and "4 bytes after the end; place: the first of them"
-unfoldable pub nothingAfter : ℕ → List ℕ → Answer
-nothingAfter at [] = Accepted
-nothingAfter at (b ∷ rest) = Refused (refusalAt trailing (at + 1))
+-- 2F, and then nothing: the whole; 4 at the first byte that follows
+unfoldable pub nothingAfter : {A : Type 0} → (Refusal → A) → A → ℕ → List ℕ → A
+nothingAfter stop whole at [] = whole
+nothingAfter stop whole at (b ∷ rest) = stop (refusalAt trailing (at + 1))
 
-unfoldable pub endAt : ℕ → List ℕ → Answer
-endAt at = due Refused 0x2F at (nothingAfter at)
+unfoldable pub endAt : {A : Type 0} → (Refusal → A) → A → ℕ → List ℕ → A
+endAt stop whole at = due stop 0x2F at (nothingAfter stop whole at)
 
 -- what a stage sheet holds: its sizes and one tree for each wire; or the refusal
 pub data StageSheet : Type 0 where
   got : ℕ → ℕ → List Tree → StageSheet
   refused : Refusal → StageSheet
 
-unfoldable pub judged : ℕ → ℕ → List Tree → Answer → StageSheet
-judged n m trees Accepted = got n m trees
-judged n m trees (Refused f) = refused f
-
 unfoldable pub closed : ℕ → ℕ → Read (List Tree) → StageSheet
-closed n m (taken trees at rest) = judged n m trees (endAt at rest)
+closed n m (taken trees at rest) = endAt refused (got n m trees) at rest
 closed n m (fault f) = refused f
 
--- a whole stage sheet: "20 n m; then for each wire j from 0 upward 21 j and one tree; then 2F"
+-- a whole stage sheet: the head with its sizes, a tree for each wire, and the end
 unfoldable pub readStage : List ℕ → StageSheet
 readStage =
     due refused 0x20 0

@@ -1,19 +1,17 @@
--- What the stage reader hands back: "takes any ordered tree and counts its selectors as cells".
+-- Document 01, "Stage sheet": what the stage reader hands back, the truth table of each tree that it took and the selectors of all of them.
 use Prim.Native.Nat.{ℕ, _^_, _-_}
 use mathlib.Core.Bool.{cond}
 use mathlib.Core.List.{List, map}
 use lib.Dec.{eqb}
 use lib.ListN.{getD, replicate}
+use Rattle.base.specs.Cases.{acceptedCase, refusedCase}
 use Rattle.base.specs.declared.Refusal.{Refusal}
 use Rattle.base.specs.Sizes.{maxWires}
 use Rattle.table.specs.Bits.{bit, ofBits, row}
 use Rattle.table.specs.Tree.{Tree, follow, selectors}
 use Rattle.stage.specs.Bytes.{size}
+use Rattle.stage.specs.Cases.{StageReply, TreeReply, takenTree, refusedTree}
 use Rattle.stage.specs.Read.{Read, taken, fault, StageSheet, got, refused}
-use Rattle.stage.specs.declared.reader.TreeStep.{TreeStep}
-use Rattle.stage.specs.declared.reader.TreeStep.the-variants.{Tree as TreeTaken, Refused as TreeRefused}
-use Rattle.stage.specs.declared.reader.Answer.the-variants.{Accepted, Refused}
-use Rattle.stage.specs.declared.reader.StageRead.{StageRead}
 
 -- the truth table of a tree: bit p is the constant that is reached on pattern p
 unfoldable pub tableOf : ℕ → Tree → ℕ
@@ -27,19 +25,19 @@ columnOf j = ofBits 16 (λ p. bit p j)
 unfoldable pub selectOf : ℕ → ℕ → ℕ → ℕ → ℕ
 selectOf n i off on = ofBits (2 ^ n) (λ p. cond (eqb (bit p (n - i)) 0) (bit off p) (bit on p))
 
--- four tables, "0 past wire m−1"
+-- a table for each of four wires; 0 for a wire that the sheet does not have
 unfoldable pub tablesOf : ℕ → List Tree → List ℕ
 tablesOf n trees = row maxWires (λ j. getD (map (tableOf n) trees) j 0)
 
 -- a refused sheet leaves nothing of what was read
-abbrev pub refusedReply : Refusal → StageRead
-refusedReply f = record { n = 0; m = 0; tables = replicate maxWires 0; cells = 0; answer = Refused f }
+abbrev pub refusedReply : Refusal → StageReply
+refusedReply f = record { n = 0; m = 0; tables = replicate maxWires 0; cells = 0; answer = refusedCase f }
 
-unfoldable pub replyOf : StageSheet → StageRead
-replyOf (got n m trees) = record { n = n; m = m; tables = tablesOf n trees; cells = size trees; answer = Accepted }
+unfoldable pub replyOf : StageSheet → StageReply
+replyOf (got n m trees) = record { n = n; m = m; tables = tablesOf n trees; cells = size trees; answer = acceptedCase }
 replyOf (refused f) = refusedReply f
 
 -- what the reader of one tree hands back: its table, its selectors, and the place after it
-unfoldable pub stepOf : ℕ → Read Tree → TreeStep
-stepOf n (taken x next rest) = TreeTaken (tableOf n x) (selectors x) next
-stepOf n (fault f) = TreeRefused f
+unfoldable pub stepOf : ℕ → Read Tree → TreeReply
+stepOf n (taken x next rest) = takenTree (tableOf n x) (selectors x) next
+stepOf n (fault f) = refusedTree f

@@ -4,6 +4,7 @@ use mathlib.Core.Bool.{Bool, cond}
 use mathlib.Core.List.{List, _∷_, _++_, map}
 use lib.Dec.{ltb, leb}
 use lib.ListN.{length, getD, take, drop}
+use Rattle.base.specs.Cases.{Case, accepting, acceptedOutcome, refusedCase, isRefused}
 use Rattle.base.specs.Refusals.{refusalAt, outOfRange, shortBuffer}
 use Rattle.base.specs.Sizes.{sizesOut}
 use Rattle.base.specs.Lowest.{lowest}
@@ -11,10 +12,8 @@ use Rattle.table.specs.Bits.{sum}
 use Rattle.table.specs.Cells.{cells}
 use Rattle.table.specs.Tree.{Tree, reduced}
 use Rattle.stage.specs.Bytes.{treeBytes, wireBytes, stageBytes}
-use Rattle.stage.specs.declared.writer.Written.{Written}
-use Rattle.stage.specs.declared.writer.Written.the-variants.{Length, Refused}
 
--- "The writer emits the reduced tree of 'Cells'"; "tables past wire m−1 aren't read"
+-- the trees that are written: the reduced tree of each of the first m tables; the other tables have no part in it
 unfoldable pub stageTrees : ℕ → ℕ → List ℕ → List Tree
 stageTrees n m tables = map (reduced n 0) (take m tables)
 
@@ -29,30 +28,30 @@ wiresOf n m tables = wireBytes 0 (stageTrees n m tables)
 unfoldable pub stageOf : ℕ → ℕ → List ℕ → List ℕ
 stageOf n m tables = stageBytes n m (stageTrees n m tables)
 
--- "A stage's cells are the sum over its wires."
+-- document 01, "Cells": the cells of all wires together
 unfoldable pub stageCells : ℕ → ℕ → List ℕ → ℕ
 stageCells n m tables = sum m (λ j. cells n (getD tables j 0))
 
--- a table too large for n inputs
+-- a table with bits past the patterns of n inputs
 abbrev pub tableOut : ℕ → ℕ → Bool
 tableOut n t = leb (2 ^ (2 ^ n)) t
 
--- the lowest wire whose table is too large; m where there is none
+-- the first wire with such a table; m where there is none
 unfoldable pub firstOut : ℕ → ℕ → List ℕ → ℕ
 firstOut n m tables = lowest m (λ j. tableOut n (getD tables j 0))
 
--- "The stage writer tests sizes (3, place 0), tables too large for n (3, lowest wire), then 12" with "place: length needed"
-unfoldable pub writtenOf : ℕ → ℕ → List ℕ → ℕ → Written
+-- Refused are, in this order: sizes out of range, at place 0; a table with bits past the patterns, at its wire; a buffer without the room, at the
+-- room that is needed. Otherwise the answer is the stage's length.
+unfoldable pub writtenOf : ℕ → ℕ → List ℕ → ℕ → Case
 writtenOf n m tables room =
-    cond (sizesOut n m) (Refused (refusalAt outOfRange 0))
-    (cond (ltb (firstOut n m tables) m) (Refused (refusalAt outOfRange (firstOut n m tables)))
-    (cond (ltb room (length (stageOf n m tables))) (Refused (refusalAt shortBuffer (length (stageOf n m tables))))
-    (Length (length (stageOf n m tables)))))
+    cond (sizesOut n m) (refusedCase (refusalAt outOfRange 0))
+    (cond (ltb (firstOut n m tables) m) (refusedCase (refusalAt outOfRange (firstOut n m tables)))
+    (cond (ltb room (length (stageOf n m tables))) (refusedCase (refusalAt shortBuffer (length (stageOf n m tables))))
+    (accepting acceptedOutcome (length (stageOf n m tables)))))
 
--- the stage "at the start of the lent buffer; later bytes stay"; a refusal "writes nothing"
-abbrev pub bufferWith : List ℕ → List ℕ → Written → List ℕ
-bufferWith stage buffer (Length k) = stage ++ drop k buffer
-bufferWith stage buffer (Refused f) = buffer
+-- the stage in front and the rest of the buffer unchanged behind it; after a refusal the buffer is as it was
+abbrev pub bufferWith : List ℕ → List ℕ → Case → List ℕ
+bufferWith stage buffer c = cond (isRefused c) buffer (stage ++ drop (c .value) buffer)
 
 unfoldable pub bufferAfter : ℕ → ℕ → List ℕ → List ℕ → List ℕ
 bufferAfter n m tables buffer = bufferWith (stageOf n m tables) buffer (writtenOf n m tables (length buffer))

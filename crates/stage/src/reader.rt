@@ -5,6 +5,8 @@ ghost use mathlib.Core.Path.{_≡_};
 ghost use Prim.Native.Nat.{_+_, _^_, _<_, _≤_};
 ghost use lib.ListN.{length, drop};
 ghost use Rattle.table.specs.Tree.{con};
+ghost use Rattle.base.specs.Cases.{acceptedCase, refusedCase};
+ghost use Rattle.stage.specs.Cases.{answerCase, stageReply, treeReply};
 ghost use Rattle.stage.specs.Read.{misplaced, dueNumber, branchesAt, treeAt, selectorAt, wireAt, wiresAt, endAt, closed, readStage};
 ghost use Rattle.stage.specs.Reply.{tableOf, columnOf, selectOf, stepOf, refusedReply, replyOf};
 
@@ -20,7 +22,7 @@ pub enum Answer {
     Refused(Refusal),
 }
 
-// What a stage sheet says: tables past wire m - 1 are 0, and after a refusal everything is.
+// What a stage sheet says. A wire that it does not have is given table 0; after a refusal all numbers are 0.
 pub struct StageRead {
     pub n: u8,
     pub m: u8,
@@ -93,7 +95,7 @@ fn select(n: u8, i: u8, off: u16, on: u16) -> u16
 // A tree below a selector on input k, or below none where k is 0.
 fn read_tree(s: &[u8], at: usize, n: u8, k: u8) -> TreeStep
     requires { ⌜ (k ≤ n) × (n ≤ 4) ⌝ }
-    ensures { λ r. ⌜ r ≡ stepOf n (treeAt n k at (drop at (now (s .entry)))) ⌝ }
+    ensures { λ r. ⌜ treeReply r ≡ stepOf n (treeAt n k at (drop at (now (s .entry)))) ⌝ }
 {
     if s.len() <= at {
         return TreeStep::Refused(Refusal::at(Refusal::CUT_SHORT, at));
@@ -118,7 +120,7 @@ fn read_tree(s: &[u8], at: usize, n: u8, k: u8) -> TreeStep
 // The same at a byte 22: its input is judged, then its two trees are read.
 fn read_selector(s: &[u8], at: usize, n: u8, k: u8) -> TreeStep
     requires { ⌜ (k ≤ n) × (n ≤ 4) × (at < length (now s)) ⌝ }
-    ensures { λ r. ⌜ r ≡ stepOf n (selectorAt (treeAt n) n k at (drop (at + 1) (now (s .entry)))) ⌝ }
+    ensures { λ r. ⌜ treeReply r ≡ stepOf n (selectorAt (treeAt n) n k at (drop (at + 1) (now (s .entry)))) ⌝ }
 {
     let input_at = at + 1;
     if s.len() <= input_at {
@@ -140,7 +142,7 @@ fn read_selector(s: &[u8], at: usize, n: u8, k: u8) -> TreeStep
 // The two trees of a selector on input i, the one for 0 at a place and the one for 1 after it.
 fn read_branches(s: &[u8], at: usize, n: u8, i: u8) -> TreeStep
     requires { ⌜ (1 ≤ i) × (i ≤ n) × (n ≤ 4) ⌝ }
-    ensures { λ r. ⌜ r ≡ stepOf n (branchesAt (treeAt n i) i at (drop at (now (s .entry)))) ⌝ }
+    ensures { λ r. ⌜ treeReply r ≡ stepOf n (branchesAt (treeAt n i) i at (drop at (now (s .entry)))) ⌝ }
 {
     let for_zero = read_tree(s, at, n, i);
     let TreeStep::Tree {
@@ -170,7 +172,7 @@ fn read_branches(s: &[u8], at: usize, n: u8, i: u8) -> TreeStep
 // 21 j and the tree of wire j.
 fn read_wire(s: &[u8], at: usize, j: u8, n: u8, m: u8) -> TreeStep
     requires { ⌜ n ≤ 4 ⌝ }
-    ensures { λ r. ⌜ r ≡ stepOf n (wireAt n m j at (drop at (now (s .entry)))) ⌝ }
+    ensures { λ r. ⌜ treeReply r ≡ stepOf n (wireAt n m j at (drop at (now (s .entry)))) ⌝ }
 {
     let f = due_number(s, at, 0x21);
     if f != 0 {
@@ -192,7 +194,7 @@ fn read_wire(s: &[u8], at: usize, j: u8, n: u8, m: u8) -> TreeStep
 
 // 2F, and nothing after it.
 fn read_end(s: &[u8], at: usize) -> Answer
-    ensures { λ r. ⌜ r ≡ endAt at (drop at (now (s .entry))) ⌝ }
+    ensures { λ r. ⌜ answerCase r ≡ endAt refusedCase acceptedCase at (drop at (now (s .entry))) ⌝ }
 {
     let f = due_number(s, at, 0x2F);
     if f != 0 {
@@ -206,7 +208,7 @@ fn read_end(s: &[u8], at: usize) -> Answer
 
 // A refused sheet leaves nothing of what was read.
 fn refused(f: Refusal) -> StageRead
-    ensures { λ r. ⌜ r ≡ refusedReply f ⌝ }
+    ensures { λ r. ⌜ stageReply r ≡ refusedReply f ⌝ }
 {
     StageRead {
         n: 0,
@@ -220,7 +222,7 @@ fn refused(f: Refusal) -> StageRead
 // The wires of a stage sheet from place 3 on, and its end.
 fn read_wires(s: &[u8], n: u8, m: u8) -> StageRead
     requires { ⌜ (n ≤ 4) × (m ≤ 4) ⌝ }
-    ensures { λ r. ⌜ r ≡ replyOf (closed n m (wiresAt m n m 0 3 (drop 3 (now (s .entry))))) ⌝ }
+    ensures { λ r. ⌜ stageReply r ≡ replyOf (closed n m (wiresAt m n m 0 3 (drop 3 (now (s .entry))))) ⌝ }
 {
     let mut tables = [0u16; 4];
     let mut cells: u8 = 0;
@@ -257,7 +259,7 @@ fn read_wires(s: &[u8], n: u8, m: u8) -> StageRead
 
 // A whole stage sheet: its tables and its cells, or the refusal.
 pub fn read_stage(s: &[u8]) -> StageRead
-    ensures { λ r. ⌜ r ≡ replyOf (readStage (now (s .entry))) ⌝ }
+    ensures { λ r. ⌜ stageReply r ≡ replyOf (readStage (now (s .entry))) ⌝ }
 {
     let f = due_number(s, 0, 0x20);
     if f != 0 {

@@ -8,6 +8,7 @@ ghost use Prim.Native.Nat.{ℕ, _+_, _*_, _^_, _<_, _≤_};
 ghost use lib.ListN.{length, getD};
 ghost use lib.Seq.{sets};
 ghost use Rattle.table.specs.Tree.{reduced};
+ghost use Rattle.stage.specs.Cases.{writtenCase};
 ghost use Rattle.stage.specs.Bytes.{constantByte, treeBytes};
 ghost use Rattle.stage.specs.Written.{wireOf, wiresOf, stageOf, stageCells, tableOut, firstOut, writtenOf, bufferAfter};
 
@@ -38,7 +39,7 @@ fn constant(t: u16) -> u8
 }
 
 // Writes the reduced tree of a table of w inputs, which stand after k others, and hands back the place after it.
-// The bound on the place is only there for the sums: a stage has at most 196 bytes.
+// The bound on the place is only there for the sums: no stage is longer than 196 bytes.
 fn put_tree(buffer: &mut [u8], at: usize, w: u8, k: u8, t: u16) -> usize
     requires { ⌜ (w + k ≤ 4) × (at + length (treeBytes (reduced w k t)) ≤ 4096) ⌝ }
     ensures { λ r. ⌜ (now (buffer .exit) ≡ sets (now (buffer .entry)) at (treeBytes (reduced w k t))) × (r ≡ at + length (treeBytes (reduced w k t))) ⌝ }
@@ -97,7 +98,7 @@ fn put_stage(buffer: &mut [u8], n: u8, m: u8, tables: [u16; 4])
     put(buffer, at, 0x2F);
 }
 
-// A table too large for n inputs, of which there are at most 4.
+// Whether a table has bits past the patterns of n inputs.
 fn table_out(n: u8, t: u16) -> bool
     ensures { λ r. ⌜ r ≡ tableOut n t ⌝ }
 {
@@ -110,7 +111,7 @@ fn table_out(n: u8, t: u16) -> bool
     }
 }
 
-// The lowest wire whose table is too large, or m.
+// The first wire with such a table, or m.
 fn first_out(n: u8, m: u8, tables: [u16; 4]) -> u8
     requires { ⌜ m ≤ 4 ⌝ }
     ensures { λ r. ⌜ r ≡ firstOut n m tables ⌝ }
@@ -146,9 +147,9 @@ fn stage_length(m: u8, cells: u8) -> usize
     4 + 3 * (m as usize) + 3 * (cells as usize)
 }
 
-// Writes a stage at the start of a buffer; a refusal changes no byte, and later bytes stay.
+// Writes a stage at the start of a buffer and changes nothing behind it; a refusal changes nothing at all.
 pub fn write_stage(n: u8, m: u8, tables: [u16; 4], buffer: &mut [u8]) -> Written
-    ensures { λ r. ⌜ (r ≡ writtenOf n m tables (length (now (buffer .entry)))) × (now (buffer .exit) ≡ bufferAfter n m tables (now (buffer .entry))) ⌝ }
+    ensures { λ r. ⌜ (writtenCase r ≡ writtenOf n m tables (length (now (buffer .entry)))) × (now (buffer .exit) ≡ bufferAfter n m tables (now (buffer .entry))) ⌝ }
 {
     if sizes_out(n, m) {
         return Written::Refused(Refusal::at(Refusal::OUT_OF_RANGE, 0));

@@ -4,6 +4,7 @@ use mathlib.Core.Bool.{cond}
 use mathlib.Core.List.{List, []}
 use lib.Dec.{eqb, leb}
 use lib.ListN.{length, getD, take, drop}
+use Rattle.base.specs.Rows.{row}
 
 -- the byte at a place
 abbrev pub byteAt : List ℕ → ℕ → ℕ
@@ -16,6 +17,10 @@ twoAt s at = byteAt s at + 256 * byteAt s (at + 1)
 -- the number of four bytes at a place
 abbrev pub fourAt : List ℕ → ℕ → ℕ
 fourAt s at = twoAt s at + 65536 * twoAt s (at + 2)
+
+-- so many numbers of two bytes, one after the other from a place on
+abbrev pub numbersAt : ℕ → List ℕ → ℕ → List ℕ
+numbersAt k s from = row k (λ i. twoAt s (from + 2 * i))
 
 -- `count` bytes from a place on, or none where the bytes end before
 unfoldable pub partOf : List ℕ → ℕ → ℕ → List ℕ

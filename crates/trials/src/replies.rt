@@ -25,8 +25,10 @@ use stage::reader::StageRead;
 use stage::reader::read_stage;
 use stage::writer::Written;
 use stage::writer::write_stage;
+ghost use mathlib.Core.Path.{_≡_};
 ghost use Prim.Native.Nat.{_+_, _≤_};
 ghost use lib.ListN.{length};
+ghost use Rattle.trials.specs.Records.{numbersAt};
 
 // The number of bytes that are shown of a stage: no more than the longest has.
 fn shown(k: usize) -> usize
@@ -133,6 +135,7 @@ fn put_audited(out: &mut [u8], at: usize, audited: Audited) -> usize
 // Sixteen sets from a place on.
 fn sets_at(s: &[u8], from: usize) -> [u16; 16]
     requires { ⌜ from ≤ 70000 ⌝ }
+    ensures { λ r. ⌜ r ≡ numbersAt 16 (now (s .entry)) from ⌝ }
 {
     let mut sets = [0u16; 16];
     let mut i: usize = 0;
@@ -146,6 +149,7 @@ fn sets_at(s: &[u8], from: usize) -> [u16; 16]
 // Four tables from a place on.
 fn tables_at(s: &[u8], from: usize) -> [u16; 4]
     requires { ⌜ from ≤ 70000 ⌝ }
+    ensures { λ r. ⌜ r ≡ numbersAt 4 (now (s .entry)) from ⌝ }
 {
     [
         u16_at(s, from),

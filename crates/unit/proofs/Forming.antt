@@ -8,44 +8,26 @@ use lib.Dec.{ltb, ltb→lt, nltb→le}
 use borrow.Author.Tests.{lt-ltb, le-ltb}
 use Rattle.base.specs.declared.Refusal.{Refusal}
 use Rattle.base.specs.Refusals.{refusalAt, empty}
+use Rattle.base.specs.Cases.{acceptedCase}
 use Rattle.base.proofs.Tests.{decide}
 use Rattle.relation.specs.Handed.{checkOf}
 use Rattle.sheet.specs.declared.Command.{Command}
-use Rattle.sheet.specs.declared.Answer.the-variants.{Accepted, Refused}
+use Rattle.sheet.specs.declared.Answer.the-variants.{Accepted}
 use Rattle.sheet.specs.declared.Reply.{Reply}
 use Rattle.sheet.specs.Commands.{inputsOf}
-use Rattle.sheet.specs.Gathered.{gathered}
-use Rattle.sheet.specs.Reading.{Reading, holds, refused, readingOf, replyOf}
+use Rattle.sheet.specs.Cases.{sheetReply}
+use Rattle.sheet.specs.Reading.{holds, refused, readingOf, replyTold}
+use Rattle.sheet.proofs.Replies.{accepted-reply}
 use Rattle.sheet.proofs.Sound.{sound}
 use Rattle.unit.specs.Formed.{relationIn, turnedAway, formedFrom, formedOf}
 use Rattle.unit.specs.Parts.{Held, afterCheck}
 use Rattle.unit.proofs.Told.{emptyIn, refused-empty, passes-whole}
 
-pub apart : {A : Type 0} (f : Refusal) → Accepted ≡ Refused f → A
-apart f e = let z : _≡_ {A = ℕ} 0 1 = cc in absurd (omega arith)
-
-same-refusal : (f g : Refusal) → Refused f ≡ Refused g → f ≡ g
-same-refusal f g e = cc
-
--- a reply that accepts comes from a sheet that was read, and one that refuses from the reading's refusal
-pub accepted-reading : (bytes : List ℕ) (r : Reply) → r ≡ replyOf (readingOf bytes) → r .answer ≡ Accepted
-    → (cs : List Command) × (readingOf bytes ≡ holds cs) × (r .sheet ≡ gathered cs)
-unfolding replyOf
-accepted-reading bytes r e a = go (readingOf bytes) refl e
-  where
-    go : (x : Reading) → readingOf bytes ≡ x → r ≡ replyOf x → (cs : List Command) × (readingOf bytes ≡ holds cs) × (r .sheet ≡ gathered cs)
-    go (holds cs) d e = (cs, d, ap (λ (y : Reply). y .sheet) e)
-    go (refused f) d e = apart f (sym a ∙ ap (λ (y : Reply). y .answer) e)
-
-unfoldable pub accepted-held : (bytes : List ℕ) (r : Reply) → r ≡ replyOf (readingOf bytes) → r .answer ≡ Accepted → Held (r .sheet)
+-- a reply that accepts comes from a sheet that was read
+unfoldable pub accepted-held : (bytes : List ℕ) (r : Reply) → sheetReply r ≡ replyTold (readingOf bytes) → r .answer ≡ Accepted → Held (r .sheet)
 accepted-held bytes r e a =
-    let x = accepted-reading bytes r e a in
-    record { bytes = bytes; commands = x .0; held = x .1; gathers = x .2 }
-
-pub refused-reading : (x : Reading) (r : Reply) (f : Refusal) → r ≡ replyOf x → r .answer ≡ Refused f → x ≡ refused f
-unfolding replyOf
-refused-reading (holds cs) r f e a = apart f (sym (ap (λ (y : Reply). y .answer) e) ∙ a)
-refused-reading (refused g) r f e a = ap refused (same-refusal g f (sym (ap (λ (y : Reply). y .answer) e) ∙ a))
+    let x = accepted-reply r (readingOf bytes) e a in
+    record { bytes = bytes; commands = x .commands; held = x .holds-them; gathers = x .sheet-is }
 
 module _ (bytes : List ℕ) where
   pub formed-refused : (f : Refusal) → readingOf bytes ≡ refused f → formedOf bytes ≡ turnedAway f
@@ -59,7 +41,7 @@ module _ (bytes : List ℕ) where
     formed-empty l = rw (e, lt-ltb (emptyIn cs) (2 ^ inputsOf cs) l)
 
     pub formed-whole : 2 ^ inputsOf cs ≤ emptyIn cs
-        → formedOf bytes ≡ record { relation = relationIn cs; answer = Accepted }
+        → formedOf bytes ≡ record { relation = relationIn cs; answer = acceptedCase }
     unfolding formedOf formedFrom
     formed-whole l = rw (e, le-ltb (emptyIn cs) (2 ^ inputsOf cs) l)
 

@@ -7,6 +7,7 @@ use native.Mathlib.Omega.{arith}
 use lib.Dec.{T, ltb, ltb→lt, nltb→le}
 use lib.ListN.{length, getD}
 use Rattle.base.specs.Refusals.{refusalAt, empty}
+use Rattle.base.proofs.Cases.{accepted-refused}
 use Rattle.base.proofs.Tests.{decide, and-intro, and-left, and-right}
 use Rattle.table.specs.Bits.{bit, ofBits}
 use Rattle.table.specs.Tree.{Tree, con, follow}
@@ -20,7 +21,7 @@ use Rattle.sheet.specs.Commands.{inputsOf, wiresOf, rowsOn, limitsOn}
 use Rattle.sheet.specs.Reading.{holds, readingOf}
 use Rattle.sheet.proofs.Each.{Each}
 use Rattle.sheet.proofs.Sound.{sound}
-use Rattle.unit.specs.declared.Formed.{Formed}
+use Rattle.unit.specs.Cases.{FormedReply}
 use Rattle.unit.specs.Gates.{outputsFor}
 use Rattle.unit.specs.Relation.{permits, sameList, alike, unitRelation}
 use Rattle.unit.specs.Rival.{valueOn, Keeps, Rival}
@@ -28,7 +29,7 @@ use Rattle.unit.specs.Formed.{relationIn, turnedAway, formedOf}
 use Rattle.unit.proofs.Codings.{same-list, list-same}
 use Rattle.unit.proofs.Allowed.{permits-each, each-permits}
 use Rattle.unit.proofs.Told.{emptyIn, family-told}
-use Rattle.unit.proofs.Forming.{apart, formed-empty, formed-whole}
+use Rattle.unit.proofs.Forming.{formed-empty, formed-whole}
 use Rattle.unit.proofs.Said.{limits-said, said-limits, rows-said, said-rows}
 use Rattle.unit.proofs.Choice.{listed, listed-length, listed-at, family-same, family-value, chosen, chosen-family}
 
@@ -154,6 +155,6 @@ module _ (bytes : List ℕ) (cs : List Command) (e : readingOf bytes ≡ holds c
         λ none. (q, formed-empty bytes cs e (no-rival .1 none)),
         λ t.
             ⊎-elim (λ b. no-rival .0 (ltb→lt q (2 ^ inputsOf cs) b))
-            (λ b. absurd (apart (refusalAt empty (t .0)) (ap (λ (x : Formed). x .answer) (sym (formed-whole bytes cs e (nltb→le q (2 ^ inputsOf cs) b)) ∙ t .1))))
+            (λ b. accepted-refused (refusalAt empty (t .0)) (ap (λ (x : FormedReply). x .answer) (sym (formed-whole bytes cs e (nltb→le q (2 ^ inputsOf cs) b)) ∙ t .1)))
             (decide (ltb q (2 ^ inputsOf cs))),
       )

@@ -3,10 +3,10 @@ use mathlib.Core.Path.{_≡_, refl}
 use mathlib.Core.List.{List, [], _∷_}
 use Prim.Native.Nat.{ℕ}
 use Rattle.base.specs.Refusals.{refusalAt, empty}
+use Rattle.base.specs.Cases.{acceptedCase}
 use Rattle.base.specs.Lowest.{lowest}
 use Rattle.table.specs.Bits.{bit, any, sum, ofBits, row}
 use Rattle.relation.specs.Tests.{isOne, emptyPattern}
-use Rattle.sheet.specs.declared.Answer.the-variants.{Accepted}
 use Rattle.sheet.specs.Commands.{collect}
 use Rattle.sheet.specs.Reader.{nextOf}
 use Rattle.sheet.specs.Reading.{judged, ending, oneCommand, readingFrom, readingOf}
@@ -22,7 +22,7 @@ opened = 0
 
 -- A: "R: {1}, {0,3}, {0,3}, {2}"; bit v of a set is value v
 pub sheet-a : formedOf sheetA
-    ≡ record { relation = record { n = 2; m = 2; sets = 2 ∷ 9 ∷ 9 ∷ 4 ∷ 0 ∷ 0 ∷ 0 ∷ 0 ∷ 0 ∷ 0 ∷ 0 ∷ 0 ∷ 0 ∷ 0 ∷ 0 ∷ 0 ∷ [] }; answer = Accepted }
+    ≡ record { relation = record { n = 2; m = 2; sets = 2 ∷ 9 ∷ 9 ∷ 4 ∷ 0 ∷ 0 ∷ 0 ∷ 0 ∷ 0 ∷ 0 ∷ 0 ∷ 0 ∷ 0 ∷ 0 ∷ 0 ∷ 0 ∷ [] }; answer = acceptedCase }
 unfolding opened
 sheet-a = refl
 
@@ -40,6 +40,6 @@ abbrev pub limitsOnly : List ℕ
 limitsOnly = 1 ∷ 1 ∷ 1 ∷ 2 ∷ 0 ∷ 0 ∷ 3 ∷ 1 ∷ 6 ∷ 0 ∷ 3 ∷ 0 ∷ 6 ∷ 0 ∷ 2 ∷ 0 ∷ 6 ∷ 1 ∷ 1 ∷ 0 ∷ 0 ∷ []
 
 pub limits-only : formedOf limitsOnly
-    ≡ record { relation = record { n = 1; m = 1; sets = 2 ∷ 1 ∷ 0 ∷ 0 ∷ 0 ∷ 0 ∷ 0 ∷ 0 ∷ 0 ∷ 0 ∷ 0 ∷ 0 ∷ 0 ∷ 0 ∷ 0 ∷ 0 ∷ [] }; answer = Accepted }
+    ≡ record { relation = record { n = 1; m = 1; sets = 2 ∷ 1 ∷ 0 ∷ 0 ∷ 0 ∷ 0 ∷ 0 ∷ 0 ∷ 0 ∷ 0 ∷ 0 ∷ 0 ∷ 0 ∷ 0 ∷ 0 ∷ 0 ∷ [] }; answer = acceptedCase }
 unfolding opened
 limits-only = refl

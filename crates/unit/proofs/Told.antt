@@ -10,6 +10,7 @@ use lib.ListN.{getD}
 use lib.Pow.{pow-mono}
 use borrow.Author.Tests.{lt-ltb, le-ltb, ne-eqb}
 use Rattle.base.specs.Refusals.{refusalAt, empty}
+use Rattle.base.specs.Cases.{acceptedCase, refusedCase}
 use Rattle.base.specs.Sizes.{sizesOut, maxInputs, maxWires}
 use Rattle.base.proofs.Lowest.{lowest-none}
 use Rattle.base.proofs.Tests.{decide, cond-has, test-yes, test-no}
@@ -17,7 +18,6 @@ use Rattle.table.specs.Bits.{bit, any, ofBits}
 use Rattle.table.specs.Tree.{Tree, follow}
 use Rattle.table.proofs.Bits.{any-cong, ofBits-lt}
 use Rattle.table.proofs.Trees.{follow-lt}
-use Rattle.relation.specs.declared.Checked.the-variants.{WellFormed, Refused}
 use Rattle.relation.specs.Source.{WellDefined}
 use Rattle.relation.specs.Tests.{ofSets, emptyPattern}
 use Rattle.relation.specs.Handed.{relationOf, widePattern, checkOf}
@@ -129,13 +129,13 @@ module _ (cs : List Command) (s : Sound cs) where
       (λ t. omega (arith, leb→le (2 ^ (2 ^ wiresOf cs)) (getD (relationIn cs .sets) p 0) t, entry-below p)))
 
   pub refused-empty : emptyIn cs < 2 ^ inputsOf cs
-      → checkOf (relationIn cs) ≡ Refused (refusalAt empty (emptyIn cs))
+      → checkOf (relationIn cs) ≡ refusedCase (refusalAt empty (emptyIn cs))
   unfolding relationIn
   refused-empty l =
       check-none (relationIn cs) sizes-in (omega (arith, none-wide)) (subst (λ x. x < 2 ^ inputsOf cs) (sym empty-told) l)
-      ∙ ap (λ p. Refused (refusalAt empty p)) empty-told
+      ∙ ap (λ p. refusedCase (refusalAt empty p)) empty-told
 
-  pub passes-whole : 2 ^ inputsOf cs ≤ emptyIn cs → checkOf (relationIn cs) ≡ WellFormed
+  pub passes-whole : 2 ^ inputsOf cs ≤ emptyIn cs → checkOf (relationIn cs) ≡ acceptedCase
   unfolding relationIn
   passes-whole l = check-passed (relationIn cs) sizes-in (omega (arith, none-wide)) (subst (λ x. 2 ^ inputsOf cs ≤ x) (sym empty-told) l)
 

@@ -2,5 +2,7 @@
 pub mod Gates
 pub mod Relation
 pub mod Rival
+pub mod Present
+pub mod Cases
 pub mod Formed
 pub mod Parts

@@ -1,21 +1,20 @@
 -- What the steps towards the relation give, for a sheet that was read, in terms of its commands.
 use Prim.Native.Nat.{ℕ, _<_}
 use mathlib.Core.Path.{_≡_}
+use mathlib.Core.Bool.{cond}
 use mathlib.Core.List.{List}
 use lib.ListN.{length, getD}
+use Rattle.base.specs.Cases.{Case, isRefused}
 use Rattle.table.specs.Bits.{ofBits}
 use Rattle.relation.specs.declared.Relation.{Relation}
-use Rattle.relation.specs.declared.Checked.{Checked}
-use Rattle.relation.specs.declared.Checked.the-variants.{WellFormed, Refused}
-use Rattle.sheet.specs.declared.Answer.the-variants.{Accepted}
 use Rattle.sheet.specs.declared.Command.{Command}
 use Rattle.sheet.specs.declared.Sheet.{Sheet}
 use Rattle.sheet.specs.Commands.{signalsMade, outputsOf}
 use Rattle.sheet.specs.Gathered.{gathered, maxValues}
 use Rattle.sheet.specs.Reading.{holds, readingOf}
-use Rattle.unit.specs.declared.Formed.{Formed}
+use Rattle.unit.specs.Cases.{FormedReply}
 use Rattle.unit.specs.Gates.{signalsOn, outputsFor}
-use Rattle.unit.specs.Formed.{turnedAway}
+use Rattle.unit.specs.Formed.{noRelation}
 
 -- a sheet that was gathered from the commands of an accepted reading
 pub record Held (sheet : Sheet) : Type 0 where
@@ -37,6 +36,5 @@ abbrev pub Codes : List Command → List ℕ → Type 0
 Codes cs codes = (v : ℕ) → v < maxValues → getD codes v 0 ≡ codeOf cs v
 
 -- a relation that was tested: refused or whole
-abbrev pub afterCheck : Relation → Checked → Formed
-afterCheck r WellFormed = record { relation = r; answer = Accepted }
-afterCheck r (Refused f) = turnedAway f
+abbrev pub afterCheck : Relation → Case → FormedReply
+afterCheck r c = record { relation = cond (isRefused c) noRelation r; answer = c }

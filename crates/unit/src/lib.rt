@@ -6,6 +6,7 @@ use relation::Relation;
 use sheet::Answer;
 ghost use mathlib.Core.Path.{_≡_};
 ghost use Rattle.relation.specs.Handed.{checkOf};
+ghost use Rattle.unit.specs.Cases.{formedReply};
 ghost use Rattle.unit.specs.Formed.{turnedAway, formedOf};
 ghost use Rattle.unit.specs.Parts.{afterCheck};
 
@@ -19,7 +20,7 @@ pub struct Formed {
 }
 
 fn turned_away(f: Refusal) -> Formed
-    ensures { λ r. ⌜ r ≡ turnedAway f ⌝ }
+    ensures { λ r. ⌜ formedReply r ≡ turnedAway f ⌝ }
 {
     let relation = Relation {
         n: 0,
@@ -34,7 +35,7 @@ fn turned_away(f: Refusal) -> Formed
 
 // A relation with an empty pattern is refused: 10.
 fn judge(relation: Relation) -> Formed
-    ensures { λ r. ⌜ r ≡ afterCheck relation (checkOf relation) ⌝ }
+    ensures { λ r. ⌜ formedReply r ≡ afterCheck relation (checkOf relation) ⌝ }
 {
     let checked = relation.check();
     match checked {
@@ -48,7 +49,7 @@ fn judge(relation: Relation) -> Formed
 
 // Reads a whole sheet and forms its relation: any refusal of the reading, else 10 or the relation.
 pub fn form(s: &[u8]) -> Formed
-    ensures { λ r. ⌜ r ≡ formedOf (now (s .entry)) ⌝ }
+    ensures { λ r. ⌜ formedReply r ≡ formedOf (now (s .entry)) ⌝ }
 {
     let reply = sheet::read_sheet(s);
     let answer = reply.answer;

@@ -1,7 +1,10 @@
--- `dagmetzi_audit` meets its contract: what the audit ensures, told as numbers.
-use mathlib.Core.Path.{ap, _∙_}
+-- `dagmetzi_audit` meets its contract: what the audit ensures, as numbers.
+use Prim.Native.Nat.{ℕ}
+use mathlib.Core.Path.{ap, ap₂, _∙_}
+use mathlib.Core.List.{[], _∷_}
+use Rattle.base.specs.Cases.{Case}
 use Rattle.capi.specs.declared.told.Told.{Told}
-use Rattle.capi.specs.Told.{auditTold}
+use Rattle.capi.specs.Told.{auditNumbers}
 use borrow.Author.Needs.{needs}
 use Rattle.capi.proofs.dagmetzi_audit.Statement.{statement}
 use Rattle.capi.proofs.dagmetzi_audit.Tie as tie
@@ -12,10 +15,19 @@ audit-requires c κs = search needs
 audit-told-requires : tie.Need-audit-told-requires
 audit-told-requires c κs = search needs
 
+audited-cells-requires : tie.Need-audited-cells-requires
+audited-cells-requires c κs = search needs
+
+cast-t7 : tie.Need-cast-t7
+cast-t7 c = search needs
+
 returns : tie.Need-returns
 returns c =
-    let e = c .before .audit-told .ensures ∙ ap auditTold (c .before .before .audit .ensures) in
-    (ap (λ (t : Told). t .refusal) e, ap (λ (t : Told). t .numbers) e)
+    let a = c .before .before .before .audit .ensures in
+    let t = c .before .before .audit-told .ensures in
+    let v = c .before .audited-cells .ensures in
+    (ap (λ (x : Told). x .number) t ∙ ap (λ (x : Case). x .number) a, ap₂ (λ (x : Told) (k : ℕ). x .outcome ∷ k ∷ 0 ∷ 0 ∷ 0 ∷ x .place ∷ []) t v ∙ ap auditNumbers a)
 
 pub dagmetzi-audit-spec : {M : Type 1} → statement M
-dagmetzi-audit-spec = tie.close (tie.spec audit-requires audit-told-requires returns)
+dagmetzi-audit-spec =
+    tie.close (tie.spec audit-requires audit-told-requires audited-cells-requires cast-t7 returns)

@@ -1,23 +1,62 @@
--- `dagmetzi_search` meets its contract: what the search ensures, told as numbers.
-use mathlib.Core.Path.{ap, _∙_}
-use Rattle.capi.specs.declared.told.Told.{Told}
-use Rattle.capi.specs.Told.{searchTold}
+-- `dagmetzi_search` meets its contract: what the search ensures, as numbers; the tables are written unless it refuses.
+use Prim.Native.Nat.{ℕ, _<_, _≤_}
+use mathlib.Core.Path.{_≡_, refl, ap, _∙_}
+use native.Mathlib.Omega.{arith}
+use borrow.Author.Tests.{lt-leb, le-leb}
+use mathlib.Core.Logic.{⊎-elim}
+use mathlib.Core.List.{List, [], _∷_}
+use Rattle.base.specs.Cases.{refusedOutcome}
 use Rattle.search.specs.declared.Answer.{Answer}
+use Rattle.search.specs.Cases.{markCase, SearchReply, searchReply}
+use Rattle.capi.specs.declared.told.Told.{Told}
+use Rattle.capi.specs.Told.{told, searchNumbers, tablesAfter}
 use borrow.Author.Needs.{needs}
 use Rattle.capi.proofs.dagmetzi_search.Statement.{statement}
 use Rattle.capi.proofs.dagmetzi_search.Tie as tie
 
+-- the tables lent, by the outcome
+module _ (a : Answer) (t : Told) (lent tables : List ℕ) {x : SearchReply} (et : t ≡ told (markCase (a .mark))) (e : searchReply a ≡ x) where
+  outcome-is : t .outcome ≡ markCase (a .mark) .outcome
+  outcome-is = ap (λ (y : Told). y .outcome) et
+
+  written : t .outcome < refusedOutcome → tables ≡ a .tables → tables ≡ tablesAfter x lent
+  written h d =
+      let l = lt-leb refusedOutcome (markCase (a .mark) .outcome) (omega (arith, outcome-is)) in
+      d ∙ rw l (refl {a = a .tables}) ∙ ap (λ (y : SearchReply). tablesAfter y lent) e
+
+  left : refusedOutcome ≤ t .outcome → tables ≡ lent → tables ≡ tablesAfter x lent
+  left h d =
+      let l = le-leb refusedOutcome (markCase (a .mark) .outcome) (omega (arith, outcome-is)) in
+      d ∙ rw l (refl {a = lent}) ∙ ap (λ (y : SearchReply). tablesAfter y lent) e
+
 search-requires : tie.Need-search-requires
 search-requires c κs = search needs
 
-search-told-requires : tie.Need-search-told-requires
-search-told-requires c κs = search needs
+mark-told-requires : tie.Need-mark-told-requires
+mark-told-requires c κs = search needs
+
+cast-t14 : tie.Need-cast-t14
+cast-t14 c = search needs
+
+cast-t15 : tie.Need-cast-t15
+cast-t15 c = search needs
+
+cast-t16 : tie.Need-cast-t16
+cast-t16 c = search needs
 
 returns : tie.Need-returns
 returns c =
-    let s = c .before .before .before .search .ensures in
-    let e = c .before .before .search-told .ensures ∙ ap searchTold s in
-    (ap (λ (t : Told). t .refusal) e, (ap (λ (t : Told). t .numbers) e, ap (λ (a : Answer). a .tables) s))
+    let s = c .before .before .before .before .before .before .before .before .search in
+    let t = c .before .before .before .before .before .before .before .mark-told .ensures in
+    let r = s .result in
+    let e = s .ensures in (
+      ap (λ (x : Told). x .number) t ∙ ap (λ (x : SearchReply). x .mark .number) e,
+      (
+        ap (λ (x : Told). x .outcome ∷ r .cells ∷ r .floor ∷ r .visits ∷ 0 ∷ x .place ∷ []) t ∙ ap searchNumbers e,
+        ⊎-elim (λ w. written r _ _ _ t e (w .0 .taken) (w .1)) (λ w. left r _ _ _ t e (w .0 .left) (w .1)) (c .before .before .before .before .if1 .came),
+      ),
+    )
 
 pub dagmetzi-search-spec : {M : Type 1} → statement M
-dagmetzi-search-spec = tie.close (tie.spec search-requires search-told-requires returns)
+dagmetzi-search-spec =
+    tie.close (tie.spec search-requires mark-told-requires cast-t14 cast-t15 cast-t16 returns)

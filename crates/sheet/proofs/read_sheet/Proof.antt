@@ -3,7 +3,10 @@ use mathlib.Core.Path.{_≡_, ap, _∙_}
 use native.Mathlib.Omega.{arith}
 use borrow.Author.Needs.{needs}
 use lib.ListN.{length}
-use Rattle.sheet.specs.Reading.{refused, replyOf}
+use Rattle.sheet.specs.Cases.{sheetReply}
+use Rattle.sheet.specs.Reading.{refused}
+use Rattle.sheet.specs.Turn.{replyOf}
+use Rattle.sheet.proofs.Replies.{reply-told}
 use Rattle.sheet.proofs.Turns.{Going, going-first, goes-on, stops, ends}
 use Rattle.sheet.proofs.read_sheet.Statement.{statement}
 use Rattle.sheet.proofs.read_sheet.Tie as tie
@@ -36,8 +39,10 @@ returns : tie.Need-returns Inv-loop μ-loop
 returns c =
     let t = c .before .before .before .before in
     let l = c .before .before .before .before .before .before .loop in
-    stops _ (l .sheet) (l .reader) _ _ (l .inv .2) (t .take-turn .result) _ (omega arith)
-    (t .take-turn .ensures (l .inv .2 .before) (l .inv .2 .gathered-is) (l .inv .2 .reader-is)) (c .before .state2 .given .1)
+    ap sheetReply
+    (stops _ (l .sheet) (l .reader) _ _ (l .inv .2) (t .take-turn .result) _ (omega arith)
+    (t .take-turn .ensures (l .inv .2 .before) (l .inv .2 .gathered-is) (l .inv .2 .reader-is)) (c .before .state2 .given .1))
+    ∙ reply-told _
 
 add-counter : tie.Need-add-counter Inv-loop μ-loop
 add-counter c = omega arith
@@ -64,7 +69,8 @@ refusal-requires c κs = search needs
 returns-2 : tie.Need-returns-2 Inv-loop μ-loop
 returns-2 c =
     let l = c .before .before .before .loop in
-    c .refusal .ensures ∙ ap (λ f. replyOf (refused f)) (c .before .at .ensures) ∙ ends _ (l .sheet) (l .reader) _ _ (l .inv .2) (omega arith)
+    ap sheetReply (c .refusal .ensures ∙ ap (λ f. replyOf (refused f)) (c .before .at .ensures) ∙ ends _ (l .sheet) (l .reader) _ _ (l .inv .2) (omega arith))
+    ∙ reply-told _
 
 pub read-sheet-spec : {M : Type 1} → statement M
 read-sheet-spec =

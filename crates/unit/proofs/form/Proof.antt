@@ -2,7 +2,8 @@
 use mathlib.Core.Path.{ap, sym, _∙_}
 use Rattle.relation.specs.Handed.{checkOf}
 use Rattle.unit.specs.Parts.{afterCheck}
-use Rattle.unit.proofs.Forming.{accepted-held, refused-reading, formed-refused, after-check}
+use Rattle.sheet.proofs.Replies.{refused-reply}
+use Rattle.unit.proofs.Forming.{accepted-held, formed-refused, after-check}
 use borrow.Author.Needs.{needs}
 use Rattle.unit.proofs.form.Statement.{statement}
 use Rattle.unit.proofs.form.Tie as tie
@@ -38,7 +39,7 @@ returns c =
 returns-2 : tie.Need-returns-2
 returns-2 c =
     let read = c .before .before .before .before .read-sheet in
-    c .turned-away .ensures ∙ sym (formed-refused _ _ (refused-reading _ (read .result) _ (read .ensures) (c .before .before .answer .given .1)))
+    c .turned-away .ensures ∙ sym (formed-refused _ _ (refused-reply (read .result) _ (read .ensures) _ (c .before .before .answer .given .1)))
 
 pub form-spec : {M : Type 1} → statement M
 form-spec =

@@ -1,7 +1,6 @@
 -- `audit_reply` meets its contract: the sheet is too long, or the audit says it.
 use mathlib.Core.Path.{ap}
 use Rattle.base.specs.Cases.{refusing, refusedOutcome}
-use Rattle.quote.specs.Cases.{auditedCase}
 use Rattle.dagmetzi.proofs.Printing.{printed, audit-too-long, audit-line}
 use borrow.Author.Needs.{needs}
 use Rattle.dagmetzi.proofs.replies.audit_reply.Statement.{statement}
@@ -34,7 +33,7 @@ same-length-2 c = search needs
 returns-2 : tie.Need-returns-2
 returns-2 c =
     let a = c .before .before .before .before .before .before .before .before .before .args in
-    let e = audit-line (a .sheet .now) _ (a .stage .now) (ap auditedCase (c .before .before .before .before .audit .ensures)) (c .before .before .before .before .before .if1 .left) in
+    let e = audit-line (a .sheet .now) _ (a .stage .now) (c .before .before .before .before .audit .ensures) (c .before .before .before .before .before .if1 .left) in
     printed _ _ _ e (c .before .before .report-audit2 .ensures)
 
 pub audit-reply-spec : {M : Type 1} → statement M

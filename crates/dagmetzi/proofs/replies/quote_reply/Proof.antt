@@ -1,6 +1,4 @@
 -- `quote_reply` meets its contract: the sheet is too long, or the quote says it.
-use mathlib.Core.Path.{ap}
-use Rattle.quote.specs.Cases.{quoteReply}
 use Rattle.dagmetzi.proofs.Printing.{printed, quote-too-long, quote-lines}
 use borrow.Author.Needs.{needs}
 use Rattle.dagmetzi.proofs.replies.quote_reply.Statement.{statement}
@@ -43,7 +41,7 @@ returns-2 : tie.Need-returns-2
 returns-2 c =
     let a = c .before .before .before .before .before .before .before .before .before .before .before .args in
     let q = c .before .before .before .before .before .before .quote .ensures in
-    let e = quote-lines (a .sheet .now) _ _ (ap quoteReply (q .0)) (q .1 .0) (c .before .before .before .before .before .before .before .before .if1 .left) in
+    let e = quote-lines (a .sheet .now) _ _ (q .0) (q .1 .0) (c .before .before .before .before .before .before .before .before .if1 .left) in
     printed _ _ _ e (c .before .before .report2 .ensures)
 
 pub quote-reply-spec : {M : Type 1} → statement M

@@ -1,7 +1,5 @@
-use Rattle.quote.specs.Audit.{stageAnswer}
 use mathlib.Core.Bool.{true, false}
-use Rattle.quote.specs.declared.Audited.the-variants.{Fits, Differs}
-use Rattle.quote.specs.Audit.{auditedStage}
+use Rattle.quote.specs.Cases.{auditedCase}
 use Rattle.quote.specs.declared.Audited.the-variants.{StageRefused}
 use mathlib.Core.Path.{_≡_, sym, ap, _∙_}
 use Rattle.quote.proofs.Auditing.{stage-refused, inputs-differ, wires-differ, few-inputs, tested}
@@ -28,12 +26,11 @@ refused-stage-requires : tie.Need-refused-stage-requires
 refused-stage-requires c κs = search needs
 
 returns : tie.Need-returns
-unfolding stageAnswer
 returns c =
     let a = c .before .before .before .before .before .args in
     let d = c .before .before .before .read-stage in
     let g = c .before .enum-told2 .given in
-    c .refused-stage .ensures ∙ ap stageAnswer (g .1) ∙ stage-refused (a .relation) (a .s .now) (d .result) (d .ensures) (g .0 .0) (g .1)
+    ap auditedCase (c .refused-stage .ensures (g .0 .0) (g .1)) ∙ stage-refused (a .relation) (a .s .now) (d .result) (d .ensures) (g .0 .0) (g .1)
 
 at-requires : tie.Need-at-requires
 at-requires c κs = search needs
@@ -43,7 +40,7 @@ returns-2 c =
     let b = c .before in
     let a = b .before .before .before .before .before .before .before .args in
     let d = b .before .before .before .before .before .read-stage in
-    ap StageRefused (c .at .ensures) ∙ inputs-differ (a .relation) (a .s .now) (d .result) (d .ensures) (b .before .before .before .enum-told .given .1) (b .if1 .taken)
+    ap (λ f. auditedCase (StageRefused f)) (c .at .ensures) ∙ inputs-differ (a .relation) (a .s .now) (d .result) (d .ensures) (b .before .before .before .enum-told .given .1) (b .if1 .taken)
 
 at-requires-2 : tie.Need-at-requires-2
 at-requires-2 c κs = search needs
@@ -53,7 +50,7 @@ returns-3 c =
     let b = c .before .before .before .before in
     let a = b .before .before .before .before .before .before .before .args in
     let d = b .before .before .before .before .before .read-stage in
-    ap StageRefused (c .at2 .ensures) ∙ wires-differ (a .relation) (a .s .now) (d .result) (d .ensures) (b .before .before .before .enum-told .given .1) (b .if1 .left) (c .before .if2 .taken)
+    ap (λ f. auditedCase (StageRefused f)) (c .at2 .ensures) ∙ wires-differ (a .relation) (a .s .now) (d .result) (d .ensures) (b .before .before .before .enum-told .given .1) (b .if1 .left) (c .before .if2 .taken)
 
 allowed-everywhere-requires : tie.Need-allowed-everywhere-requires
 allowed-everywhere-requires c κs =

@@ -1,5 +1,4 @@
-use mathlib.Core.Path.{_≡_, sym, ap, _∙_}
-use Rattle.quote.specs.Quote.{withStage}
+use Rattle.quote.proofs.Quoting.{with-length, with-refusal}
 use borrow.Author.Needs.{needs}
 use Rattle.quote.proofs.quotes.quote_answer.Statement.{statement}
 use Rattle.quote.proofs.quotes.quote_answer.Tie as tie
@@ -24,15 +23,19 @@ same-length : tie.Need-same-length
 same-length c = search needs
 
 returns : tie.Need-returns
-unfolding withStage
-returns c = let w = c .before .before .before .before .before .write-stage .ensures in (rw (sym (w .0) ∙ c .before .written .given .1), w .1)
+returns c =
+    let a = c .before .before .before .before .before .before .before .before .before .args in
+    let w = c .before .before .before .before .before .write-stage in
+    (with-length (a .answer) (w .result) (w .ensures .0) _ (c .before .written .given .1), w .ensures .1)
 
 same-length-2 : tie.Need-same-length-2
 same-length-2 c = search needs
 
 returns-2 : tie.Need-returns-2
-unfolding withStage
-returns-2 c = let w = c .before .before .before .before .before .before .write-stage .ensures in (rw (sym (w .0) ∙ c .before .before .written2 .given .1) (c .refused-quote .ensures), w .1)
+returns-2 c =
+    let a = c .before .before .before .before .before .before .before .before .before .before .args in
+    let w = c .before .before .before .before .before .before .write-stage in
+    (with-refusal (a .answer) (w .result) (w .ensures .0) _ (c .before .before .written2 .given .1) (c .refused-quote .ensures), w .ensures .1)
 
 pub quote-answer-spec : {M : Type 1} → statement M
 quote-answer-spec =

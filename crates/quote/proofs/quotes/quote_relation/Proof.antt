@@ -1,10 +1,11 @@
-use mathlib.Core.Logic.{inl, inr}
+use Rattle.base.specs.Cases.{isRefused}
+use Rattle.search.specs.Cases.{markCase}
 use Rattle.quote.proofs.Quoting.{with-stage, no-stage}
 use mathlib.Core.Path.{_≡_, sym, ap, _∙_}
 use lib.ListN.{length}
 use Rattle.search.specs.Reply.{searchOf}
 use Rattle.stage.specs.Written.{writtenOf, bufferAfter}
-use Rattle.quote.specs.Quote.{withStage, whereMarked, searched, bufferSearched, refusedQuote}
+use Rattle.quote.specs.Quote.{withStage, searched, bufferSearched, refusedQuote}
 use borrow.Author.Needs.{needs}
 use Rattle.quote.proofs.quotes.quote_relation.Statement.{statement}
 use Rattle.quote.proofs.quotes.quote_relation.Tie as tie
@@ -43,7 +44,7 @@ returns c =
     let a = c .before .before .before .before .before .before .before .before .args in
     let s = c .before .before .before .before .before .before .search in
     let q = c .before .before .quote-answer .ensures in
-    with-stage (a .relation) (a .budget) (a .buffer .now) (s .result) (s .ensures) (inl (c .before .before .before .before .enum-told .given .1)) (q .0) (q .1)
+    with-stage (a .relation) (a .budget) (a .buffer .now) (s .result) (s .ensures) (ap (λ k. isRefused (markCase k)) (c .before .before .before .before .enum-told .given .1)) (q .0) (q .1)
 
 same-length-2 : tie.Need-same-length-2
 same-length-2 c = search needs
@@ -53,7 +54,7 @@ returns-2 c =
     let a = c .before .before .before .before .before .before .before .before .args in
     let s = c .before .before .before .before .before .before .search in
     let q = c .before .before .quote-answer2 .ensures in
-    with-stage (a .relation) (a .budget) (a .buffer .now) (s .result) (s .ensures) (inr (c .before .before .before .before .enum-told2 .given .1)) (q .0) (q .1)
+    with-stage (a .relation) (a .budget) (a .buffer .now) (s .result) (s .ensures) (ap (λ k. isRefused (markCase k)) (c .before .before .before .before .enum-told2 .given .1)) (q .0) (q .1)
 
 returns-3 : tie.Need-returns-3
 returns-3 c =

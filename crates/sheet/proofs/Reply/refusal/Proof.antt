@@ -1,4 +1,4 @@
-use Rattle.sheet.specs.Reading.{replyOf}
+use Rattle.sheet.specs.Turn.{replyOf}
 use Rattle.sheet.proofs.Fields.{nothing}
 use borrow.Author.Needs.{needs}
 use Rattle.sheet.proofs.Reply.refusal.Statement.{statement}

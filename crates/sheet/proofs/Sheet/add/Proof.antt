@@ -2,9 +2,9 @@ use mathlib.Core.Path.{_≡_, ap, sym, subst, _∙_}
 use Prim.Native.Nat.{_<_}
 use Rattle.sheet.specs.declared.Command.{Command}
 use Rattle.sheet.specs.Commands.{isSizes, isEmpty}
-use Rattle.sheet.specs.Reading.{accepted, replyOf, judged}
+use Rattle.sheet.specs.Reading.{judged}
 use Rattle.sheet.specs.Gathered.{maxPatterns}
-use Rattle.sheet.specs.Turn.{patternOf}
+use Rattle.sheet.specs.Turn.{patternOf, accepted, replyOf}
 use Rattle.sheet.proofs.Judging.{sizes-taken, end-taken}
 use borrow.Author.Needs.{needs}
 use Rattle.sheet.proofs.Sheet.add.Statement.{statement}

@@ -1,5 +1,6 @@
 use mathlib.Core.Path.{ap, _∙_}
-use Rattle.sheet.specs.Reading.{refused, replyOf}
+use Rattle.sheet.specs.Reading.{refused}
+use Rattle.sheet.specs.Turn.{replyOf}
 use Rattle.sheet.proofs.Judging.{dont-care-repeated, dont-care-taken}
 use borrow.Author.Needs.{needs}
 use Rattle.sheet.proofs.Sheet.dont_care.Statement.{statement}

@@ -1,15 +1,15 @@
 -- `read_tree`, `read_selector` and `read_branches` meet their contracts: what they hand back is told by the tree that the meaning takes.
 -- The measure: the inputs that are left fall at each selector.
-use Prim.Native.Nat.{_+_, _*_, _-_}
+use Prim.Native.Nat.{_+_, _*_, _-_, _≤_}
 use mathlib.Core.Path.{sym, ap, _∙_}
 use native.Mathlib.Omega.{arith}
 use borrow.Author.Needs.{needs}
 use borrow.Author.Tests.{lt-ltb, le-ltb, le-leb, eq-eqb, ne-eqb}
-use lib.ListN.{drop}
+use lib.ListN.{getD, drop}
 use Rattle.table.specs.Tree.{selectors}
 use Rattle.stage.specs.Read.{fault, selectorAt, treeFrom}
 use Rattle.stage.specs.Reply.{stepOf}
-use Rattle.stage.specs.declared.reader.TreeStep.the-variants.{Refused as TreeRefused}
+use Rattle.stage.specs.Cases.{refusedTree, treeReply}
 use Rattle.stage.proofs.Reading.{tree-is}
 use Rattle.stage.proofs.Tables.{table-zero}
 use Rattle.stage.proofs.Places.{here, out, operand-stops, selector-goes, selector-in, tree-bounds, first-fault, second-fault, both-taken}
@@ -94,7 +94,7 @@ read-branches-returns : (t : ℕ) → read-branches-lts.Need-returns (read-branc
 read-branches-returns t c =
     let r = c .before .before in
     let a = r .before .before .args in
-    c .enum-told .given .1 ∙ first-fault (a .s .now) (a .n) (a .i) (a .at) _ (sym (c .enum-told .given .1) ∙ r .read-tree .ensures)
+    ap treeReply (c .enum-told .given .1) ∙ first-fault (a .s .now) (a .n) (a .i) (a .at) _ (ap treeReply (sym (c .enum-told .given .1)) ∙ r .read-tree .ensures)
 
 read-branches-read-tree-requires-2 : (t : ℕ) → read-branches-lts.Need-read-tree-requires-2 (read-branches-claims t) (read-branches-at t) read-branches.Post
 read-branches-read-tree-requires-2 t c κs = omega arith
@@ -111,9 +111,9 @@ read-branches-returns-2 t c =
     let r = fz .before .before in
     let s = r .before .before in
     let a = s .args in
-    let first = sym (fz .for-zero .given .1) ∙ r .read-tree .ensures in
-    c .enum-told2 .given .1
-    ∙ second-fault (a .s .now) (a .n) (a .i) (a .at) _ _ _ first _ (sym (c .enum-told2 .given .1) ∙ c .before .before .read-tree2 .ensures)
+    let first = ap treeReply (sym (fz .for-zero .given .1)) ∙ r .read-tree .ensures in
+    ap treeReply (c .enum-told2 .given .1)
+    ∙ second-fault (a .s .now) (a .n) (a .i) (a .at) _ _ _ first _ (ap treeReply (sym (c .enum-told2 .given .1)) ∙ c .before .before .read-tree2 .ensures)
 
 read-branches-select-requires : (t : ℕ) → read-branches-lts.Need-select-requires (read-branches-claims t) (read-branches-at t) read-branches.Post
 read-branches-select-requires t c κs =
@@ -121,11 +121,13 @@ read-branches-select-requires t c κs =
     let r = fz .before .before in
     let s = r .before .before in
     let a = s .args in
-    let first = sym (fz .for-zero .given .1) ∙ r .read-tree .ensures in
+    let first = ap treeReply (sym (fz .for-zero .given .1)) ∙ r .read-tree .ensures in
     let fo = c .before in
-    let second = sym (fo .for-one .given .1) ∙ fo .before .before .read-tree2 .ensures in
+    let second = ap treeReply (sym (fo .for-one .given .1)) ∙ fo .before .before .read-tree2 .ensures in
     let p = s .pre .1 in
-    (p .0, p .1, p .2, tree-bounds (a .s .now) (a .n) (a .i) (a .at) _ _ _ (s .pre .1 .1) (s .pre .1 .2) first .0, tree-bounds (a .s .now) (a .n) (a .i) _ _ _ _ (s .pre .1 .1) (s .pre .1 .2) second .0)
+    let fits-off = tree-bounds (a .s .now) (a .n) (a .i) (a .at) _ _ _ (p .1) (p .2) first .0 in
+    let fits-on = tree-bounds (a .s .now) (a .n) (a .i) _ _ _ _ (p .1) (p .2) second .0 in
+    (p .0, p .1, p .2, omega (arith, fits-off, fits-on), omega (arith, fits-off, fits-on))
 
 read-branches-add-t14 : (t : ℕ) → read-branches-lts.Need-add-t14 (read-branches-claims t) (read-branches-at t) read-branches.Post
 read-branches-add-t14 t c =
@@ -133,7 +135,7 @@ read-branches-add-t14 t c =
     let r = fz .before .before in
     let s = r .before .before in
     let a = s .args in
-    let first = sym (fz .for-zero .given .1) ∙ r .read-tree .ensures in
+    let first = ap treeReply (sym (fz .for-zero .given .1)) ∙ r .read-tree .ensures in
     omega (arith, tree-bounds (a .s .now) (a .n) (a .i) (a .at) _ _ _ (s .pre .1 .1) (s .pre .1 .2) first .1)
 
 read-branches-add-t15 : (t : ℕ) → read-branches-lts.Need-add-t15 (read-branches-claims t) (read-branches-at t) read-branches.Post
@@ -142,9 +144,9 @@ read-branches-add-t15 t c =
     let r = fz .before .before in
     let s = r .before .before in
     let a = s .args in
-    let first = sym (fz .for-zero .given .1) ∙ r .read-tree .ensures in
+    let first = ap treeReply (sym (fz .for-zero .given .1)) ∙ r .read-tree .ensures in
     let fo = c .before .before in
-    let second = sym (fo .for-one .given .1) ∙ fo .before .before .read-tree2 .ensures in
+    let second = ap treeReply (sym (fo .for-one .given .1)) ∙ fo .before .before .read-tree2 .ensures in
     omega (arith, tree-bounds (a .s .now) (a .n) (a .i) (a .at) _ _ _ (s .pre .1 .1) (s .pre .1 .2) first .1, tree-bounds (a .s .now) (a .n) (a .i) _ _ _ _ (s .pre .1 .1) (s .pre .1 .2) second .1)
 
 read-branches-returns-3 : (t : ℕ) → read-branches-lts.Need-returns-3 (read-branches-claims t) (read-branches-at t) read-branches.Post
@@ -153,9 +155,9 @@ read-branches-returns-3 t c =
     let r = fz .before .before in
     let s = r .before .before in
     let a = s .args in
-    let first = sym (fz .for-zero .given .1) ∙ r .read-tree .ensures in
+    let first = ap treeReply (sym (fz .for-zero .given .1)) ∙ r .read-tree .ensures in
     let fo = c .before .before in
-    let second = sym (fo .for-one .given .1) ∙ fo .before .before .read-tree2 .ensures in
+    let second = ap treeReply (sym (fo .for-one .given .1)) ∙ fo .before .before .read-tree2 .ensures in
     both-taken (a .s .now) (a .n) (a .i) (a .at) _ _ _ first _ _ _ _ second (c .select .ensures)
 
 read-selector-add-input-at : (t : ℕ) → read-selector-lts.Need-add-input-at (read-selector-claims t) (read-selector-at t) read-selector.Post
@@ -168,7 +170,7 @@ read-selector-returns : (t : ℕ) → read-selector-lts.Need-returns (read-selec
 unfolding selectorAt stepOf
 read-selector-returns t c =
     let a = c .before .before .before .args in
-    rw (operand-stops fault (a .at) _ (a .s .now) (a .at + 1) (c .before .if1 .taken)) (ap TreeRefused (c .at .ensures))
+    rw (operand-stops fault (a .at) _ (a .s .now) (a .at + 1) (c .before .if1 .taken)) (ap refusedTree (c .at .ensures))
 
 read-selector-shared-slice-read-i : (t : ℕ) → read-selector-lts.Need-shared-slice-read-i (read-selector-claims t) (read-selector-at t) read-selector.Post
 read-selector-shared-slice-read-i t c = omega arith
@@ -182,7 +184,7 @@ read-selector-returns-2 t c =
     let i2 = c .before in
     let e1 = i2 .before .before in
     let a = e1 .before .before .args in
-    rw (selector-goes (a .s .now) (a .n) (a .k) (a .at) (e1 .if1 .left), eq-eqb _ _ (i2 .if2 .taken)) (ap TreeRefused (c .at2 .ensures))
+    rw (selector-goes (a .s .now) (a .n) (a .k) (a .at) (e1 .if1 .left), eq-eqb _ _ (i2 .if2 .taken)) (ap refusedTree (c .at2 .ensures))
 
 read-selector-at-requires-3 : (t : ℕ) → read-selector-lts.Need-at-requires-3 (read-selector-claims t) (read-selector-at t) read-selector.Post
 read-selector-at-requires-3 t c κs = search needs
@@ -194,7 +196,7 @@ read-selector-returns-3 t c =
     let i2 = i3 .before in
     let e1 = i2 .before .before in
     let a = e1 .before .before .args in
-    rw (selector-goes (a .s .now) (a .n) (a .k) (a .at) (e1 .if1 .left), ne-eqb _ _ (i2 .if2 .left), lt-ltb _ _ (i3 .if3 .taken)) (ap TreeRefused (c .at3 .ensures))
+    rw (selector-goes (a .s .now) (a .n) (a .k) (a .at) (e1 .if1 .left), ne-eqb _ _ (i2 .if2 .left), lt-ltb _ _ (i3 .if3 .taken)) (ap refusedTree (c .at3 .ensures))
 
 read-selector-at-requires-4 : (t : ℕ) → read-selector-lts.Need-at-requires-4 (read-selector-claims t) (read-selector-at t) read-selector.Post
 read-selector-at-requires-4 t c κs = search needs
@@ -207,8 +209,9 @@ read-selector-returns-4 t c =
     let i2 = i3 .before in
     let e1 = i2 .before .before in
     let a = e1 .before .before .args in
-    rw (selector-goes (a .s .now) (a .n) (a .k) (a .at) (e1 .if1 .left), ne-eqb _ _ (i2 .if2 .left), le-ltb _ _ (i3 .if3 .left), le-leb _ _ (i4 .if4 .taken))
-    (ap TreeRefused (c .at4 .ensures))
+    let not-above : getD (a .s .now) (a .at + 1) 0 ≤ a .k = i4 .if4 .taken in
+    rw (selector-goes (a .s .now) (a .n) (a .k) (a .at) (e1 .if1 .left), ne-eqb _ _ (i2 .if2 .left), le-ltb _ _ (i3 .if3 .left), le-leb _ _ not-above)
+    (ap refusedTree (c .at4 .ensures))
 
 read-selector-add-read-branches : (t : ℕ) → read-selector-lts.Need-add-read-branches (read-selector-claims t) (read-selector-at t) read-selector.Post
 read-selector-add-read-branches t c = omega arith
@@ -233,7 +236,7 @@ unfolding treeFrom stepOf
 read-tree-returns t c =
     let s = c .before .before .before in
     let a = s .args in
-    rw (tree-is (a .n) (a .k) (s .pre .1 .0) (a .at) (drop (a .at) (a .s .now)), out (a .s .now) (a .at) (c .before .if1 .taken)) (ap TreeRefused (c .at .ensures))
+    rw (tree-is (a .n) (a .k) (s .pre .1 .0) (a .at) (drop (a .at) (a .s .now)), out (a .s .now) (a .at) (c .before .if1 .taken)) (ap refusedTree (c .at .ensures))
 
 read-tree-shared-slice-read-b : (t : ℕ) → read-tree-lts.Need-shared-slice-read-b (read-tree-claims t) (read-tree-at t) read-tree.Post
 read-tree-shared-slice-read-b t c = omega arith
@@ -295,7 +298,7 @@ read-tree-returns-5 t c =
     let unfolded = tree-is (a .n) (a .k) (s .pre .1 .0) (a .at) (drop (a .at) (a .s .now)) in
     let b = here (a .s .now) (a .at) (e1 .if1 .left) in
     let r = c .before .before .match .rest in
-    rw (unfolded, b, ne-eqb _ _ (r .0 .1), ne-eqb _ _ (r .1), ne-eqb _ _ (r .0 .0 .1), ← c .before .misplaced-number .ensures) (ap TreeRefused (c .at2 .ensures))
+    rw (unfolded, b, ne-eqb _ _ (r .0 .1), ne-eqb _ _ (r .1), ne-eqb _ _ (r .0 .0 .1), ← c .before .misplaced-number .ensures) (ap refusedTree (c .at2 .ensures))
 
 pub +read-branches+read-selector+read-tree-spec : {M : Type 1} → statement M
 +read-branches+read-selector+read-tree-spec =

@@ -5,7 +5,7 @@ use Prim.Native.Nat.{_+_}
 use lib.ListN.{drop}
 use lib.Seq.{drop-drop}
 use Rattle.stage.specs.Read.{endAt, nothingAfter}
-use Rattle.stage.specs.declared.reader.Answer.the-variants.{Refused}
+use Rattle.base.specs.Cases.{refusedCase}
 use Rattle.stage.proofs.Places.{here, out, due-in, due-stops, due-goes}
 use Rattle.stage.proofs.reader.read_end.Statement.{statement}
 use Rattle.stage.proofs.reader.read_end.Tie as tie
@@ -22,7 +22,7 @@ returns c =
     let d = c .before .before in
     let a = d .before .before .args in
     let h = d .due-number .ensures in
-    rw (due-stops Refused 0x2F (a .at) _ (drop (a .at) (a .s .now)) (λ e. c .before .if1 .taken (h ∙ e)), ← h) (ap Refused (c .at .ensures))
+    rw (due-stops refusedCase 0x2F (a .at) _ (drop (a .at) (a .s .now)) (λ e. c .before .if1 .taken (h ∙ e)), ← h) (ap refusedCase (c .at .ensures))
 
 add-if2 : tie.Need-add-if2
 add-if2 c =
@@ -44,11 +44,11 @@ returns-2 c =
     let d = e1 .before in
     let a = d .before .before .args in
     rw (
-      due-goes Refused 0x2F (a .at) _ (drop (a .at) (a .s .now)) (sym (d .due-number .ensures) ∙ e1 .if1 .left),
+      due-goes refusedCase 0x2F (a .at) _ (drop (a .at) (a .s .now)) (sym (d .due-number .ensures) ∙ e1 .if1 .left),
       drop-drop 1 (a .at) (a .s .now),
       here (a .s .now) (a .at + 1) (c .before .if2 .taken),
     )
-    (ap Refused (c .at2 .ensures))
+    (ap refusedCase (c .at2 .ensures))
 
 returns-3 : tie.Need-returns-3
 unfolding endAt nothingAfter
@@ -57,7 +57,7 @@ returns-3 c =
     let d = e1 .before in
     let a = d .before .before .args in
     rw (
-      due-goes Refused 0x2F (a .at) _ (drop (a .at) (a .s .now)) (sym (d .due-number .ensures) ∙ e1 .if1 .left),
+      due-goes refusedCase 0x2F (a .at) _ (drop (a .at) (a .s .now)) (sym (d .due-number .ensures) ∙ e1 .if1 .left),
       drop-drop 1 (a .at) (a .s .now),
       out (a .s .now) (a .at + 1) (c .if2 .left),
     )

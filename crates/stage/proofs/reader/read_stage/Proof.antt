@@ -1,7 +1,13 @@
 -- `read_stage` meets its contract: the head judged, then the wires and the end.
-use mathlib.Core.Path.{sym, ap, _∙_}
+use mathlib.Core.Path.{_≡_, sym, ap, _∙_}
+use mathlib.Core.Bool.{true, false}
+use native.Mathlib.Omega.{arith}
+use lib.ListN.{getD, drop}
 use borrow.Author.Needs.{needs}
-use Rattle.stage.specs.Read.{readStage, refused}
+use Rattle.base.specs.Refusals.{refusalAt, cutShort, outOfRange}
+use Rattle.base.specs.Sizes.{sizesOut}
+use Rattle.stage.specs.Cases.{stageReply}
+use Rattle.stage.specs.Read.{wiresAt, readStage, refused, closed}
 use Rattle.stage.specs.Reply.{refusedReply, replyOf}
 use Rattle.stage.proofs.Ranges.{sizes-in}
 use Rattle.stage.proofs.Places.{due-stops}
@@ -38,7 +44,8 @@ returns-2 c =
     let e1 = c .before .before .before in
     let d = e1 .before in
     let a = d .before .before .args in
-    rw (head-short (a .s .now) (sym (d .due-number .ensures) ∙ e1 .if1 .left) (c .before .before .if2 .taken)) (c .refused2 .ensures ∙ ap refusedReply (c .before .at2 .ensures))
+    let told : c .before .at2 .result ≡ refusalAt cutShort 0 = c .before .at2 .ensures in
+    rw (head-short (a .s .now) (sym (d .due-number .ensures) ∙ e1 .if1 .left) (c .before .before .if2 .taken)) (c .refused2 .ensures ∙ ap refusedReply told)
 
 shared-slice-read-n : tie.Need-shared-slice-read-n
 shared-slice-read-n c = search needs
@@ -59,33 +66,28 @@ returns-3 : tie.Need-returns-3
 unfolding replyOf
 returns-3 c =
     let e2 = c .before .before .before .before .before .before in
-    let e1 = c .before .before .before .before .before .before .before in
+    let e1 = e2 .before in
     let d = e1 .before in
     let a = d .before .before .args in
-    rw (
-      head-goes (a .s .now) (sym (d .due-number .ensures) ∙ e1 .if1 .left) (e2 .if2 .left),
-      ← c .before .before .before .sizes-out .ensures,
-      c .before .before .if3 .taken,
-    )
-    (c .refused3 .ensures ∙ ap refusedReply (c .before .at3 .ensures))
+    let out : sizesOut (getD (a .s .now) 1 0) (getD (a .s .now) 2 0) ≡ true = sym (c .before .before .before .sizes-out .ensures) ∙ c .before .before .if3 .taken in
+    let told : c .before .at3 .result ≡ refusalAt outOfRange 0 = c .before .at3 .ensures in
+    rw (head-goes (a .s .now) (sym (d .due-number .ensures) ∙ e1 .if1 .left) (e2 .if2 .left), out) (c .refused3 .ensures ∙ ap refusedReply told)
 
 read-wires-requires : tie.Need-read-wires-requires
 read-wires-requires c κs =
-    let z = sizes-in _ _ (sym (c .before .sizes-out .ensures) ∙ c .if3 .left) in
-    (z .n-most, z .m-most)
+    let s = c .before .before .before .before .before .before .before .before .args .s .now in
+    let z = sizes-in (getD s 1 0) (getD s 2 0) (sym (c .before .sizes-out .ensures) ∙ c .if3 .left) in
+    (omega (arith, z), omega (arith, z))
 
 returns-4 : tie.Need-returns-4
 returns-4 c =
     let e2 = c .before .before .before .before .before in
-    let e1 = c .before .before .before .before .before .before in
+    let e1 = e2 .before in
     let d = e1 .before in
-    let a = d .before .before .args in
-    rw (
-      head-goes (a .s .now) (sym (d .due-number .ensures) ∙ e1 .if1 .left) (e2 .if2 .left),
-      ← c .before .before .sizes-out .ensures,
-      c .before .if3 .left,
-    )
-    (c .read-wires .ensures)
+    let s = d .before .before .args .s .now in
+    let in-range : sizesOut (getD s 1 0) (getD s 2 0) ≡ false = sym (c .before .before .sizes-out .ensures) ∙ c .before .if3 .left in
+    let read : stageReply (c .read-wires .result) ≡ replyOf (closed (getD s 1 0) (getD s 2 0) (wiresAt (getD s 2 0) (getD s 1 0) (getD s 2 0) 0 3 (drop 3 s))) = c .read-wires .ensures in
+    rw (head-goes s (sym (d .due-number .ensures) ∙ e1 .if1 .left) (e2 .if2 .left), in-range) read
 
 pub read-stage-spec : {M : Type 1} → statement M
 read-stage-spec =

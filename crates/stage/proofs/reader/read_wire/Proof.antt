@@ -6,7 +6,7 @@ use native.Mathlib.Omega.{arith}
 use borrow.Author.Needs.{needs}
 use borrow.Author.Tests.{le-leb, lt-leb, eq-eqb, ne-eqb}
 use Rattle.stage.specs.Reply.{stepOf}
-use Rattle.stage.specs.declared.reader.TreeStep.the-variants.{Refused as TreeRefused}
+use Rattle.stage.specs.Cases.{refusedTree}
 use Rattle.stage.proofs.Places.{due-in, wire-stops, wire-short, wire-goes}
 use Rattle.stage.proofs.reader.read_wire.Statement.{statement}
 use Rattle.stage.proofs.reader.read_wire.Tie as tie
@@ -23,7 +23,7 @@ returns c =
     let d = c .before .before in
     let a = d .before .before .args in
     let h = d .due-number .ensures in
-    rw (wire-stops (a .s .now) (a .n) (a .m) (a .j) (a .at) (λ e. c .before .if1 .taken (h ∙ e)), ← h) (ap TreeRefused (c .at .ensures))
+    rw (wire-stops (a .s .now) (a .n) (a .m) (a .j) (a .at) (λ e. c .before .if1 .taken (h ∙ e)), ← h) (ap refusedTree (c .at .ensures))
 
 add-wire-at : tie.Need-add-wire-at
 add-wire-at c =
@@ -41,7 +41,7 @@ returns-2 c =
     let e1 = c .before .before in
     let d = e1 .before in
     let a = d .before .before .args in
-    rw (wire-short (a .s .now) (a .n) (a .m) (a .j) (a .at) (sym (d .due-number .ensures) ∙ e1 .if1 .left) (c .before .if2 .taken)) (ap TreeRefused (c .at2 .ensures))
+    rw (wire-short (a .s .now) (a .n) (a .m) (a .j) (a .at) (sym (d .due-number .ensures) ∙ e1 .if1 .left) (c .before .if2 .taken)) (ap refusedTree (c .at2 .ensures))
 
 shared-slice-read-i : tie.Need-shared-slice-read-i
 shared-slice-read-i c = search needs
@@ -57,7 +57,7 @@ returns-3 c =
     let d = e1 .before in
     let a = d .before .before .args in
     rw (wire-goes (a .s .now) (a .n) (a .m) (a .j) (a .at) (sym (d .due-number .ensures) ∙ e1 .if1 .left) (e2 .if2 .left), le-leb _ _ (c .before .if3 .taken))
-    (ap TreeRefused (c .at3 .ensures))
+    (ap refusedTree (c .at3 .ensures))
 
 at-requires-4 : tie.Need-at-requires-4
 at-requires-4 c κs = search needs
@@ -75,7 +75,7 @@ returns-4 c =
       lt-leb _ _ (c .before .before .if3 .left),
       ne-eqb _ _ other,
     )
-    (ap TreeRefused (c .at4 .ensures))
+    (ap refusedTree (c .at4 .ensures))
 
 add-read-tree : tie.Need-add-read-tree
 add-read-tree c = search needs

@@ -1,12 +1,13 @@
 -- `read_wires` meets its contract. The loop's invariant: what is left to read, on what is gathered, gives the whole reply.
 use Prim.Native.Nat.{_*_, _-_, _≤_}
-use mathlib.Core.Path.{_≡_, refl, sym, _∙_}
+use mathlib.Core.Path.{_≡_, refl, sym, ap, _∙_}
 use native.Mathlib.Nat.{sub-zero, add-zero}
 use native.Mathlib.Omega.{arith}
 use borrow.Author.Needs.{needs}
 use lib.ListN.{length, length-set}
 use Rattle.stage.specs.Bytes.{size}
-use Rattle.stage.specs.Read.{closed, judged}
+use Rattle.stage.specs.Cases.{treeReply}
+use Rattle.stage.specs.Read.{closed}
 use Rattle.stage.specs.Reply.{replyOf}
 use Rattle.stage.proofs.Gather.{filled, replyWith, left, wire-few, goes-on, stops, ends, from-nothing}
 use Rattle.stage.proofs.reader.read_wires.Statement.{statement}
@@ -50,7 +51,7 @@ add-cells c =
     let l = i .before .loop in
     let st = i .before .before .before in
     let a = st .args in
-    let read = sym (w .wire .given .1) ∙ r .read-wire .ensures in
+    let read = ap treeReply (sym (w .wire .given .1)) ∙ r .read-wire .ensures in
     let few = wire-few (a .s .now) (a .n) (a .m) (l .j) (l .at) _ _ _ read (st .pre .0) in
     omega (arith, few, l .inv, st .pre, i .loop-test .taken)
 
@@ -69,7 +70,7 @@ returns c =
     let a = i .before .before .before .args in
     c .refused .ensures
     ∙ stops (a .s .now) (a .n) (a .m) (l .j) (l .at) (l .tables) (l .cells) _ (l .inv .3) _ (i .loop-test .taken)
-    (sym (w .wire2 .given .1) ∙ r .read-wire .ensures)
+    (ap treeReply (sym (w .wire2 .given .1)) ∙ r .read-wire .ensures)
     ∙ rw sub-zero
 
 add-j : tie.Need-add-j Inv-loop μ-loop
@@ -86,7 +87,7 @@ loop-again c =
     let l = i .before .loop in
     let st = i .before .before .before in
     let a = st .args in
-    let read = sym (w .wire .given .1) ∙ r .read-wire .ensures in
+    let read = ap treeReply (sym (w .wire .given .1)) ∙ r .read-wire .ensures in
     let few = wire-few (a .s .now) (a .n) (a .m) (l .j) (l .at) _ _ _ read (st .pre .0) in (
       omega arith,
       omega (arith, few, l .inv),
@@ -107,23 +108,23 @@ refused-requires-2 : tie.Need-refused-requires-2 Inv-loop μ-loop
 refused-requires-2 c κs = search needs
 
 returns-2 : tie.Need-returns-2 Inv-loop μ-loop
-unfolding replyWith judged filled size
+unfolding replyWith filled size
 returns-2 c =
     let e = c .before .before in
     let t = e .before in
     let l = t .before .loop in
     let a = t .before .before .before .args in
-    let h = ends (a .s .now) (a .n) (a .m) (l .j) (l .at) (l .tables) (l .cells) _ (l .inv .3) _ (t .loop-test .left) (e .read-end .ensures) in
+    let h = ends (a .s .now) (a .n) (a .m) (l .j) (l .at) (l .tables) (l .cells) _ (l .inv .3) (e .read-end .result) (t .loop-test .left) (e .read-end .ensures) in
     simp (c .enum-told .given .1, add-zero, sub-zero) at h
 
 returns-3 : tie.Need-returns-3 Inv-loop μ-loop
-unfolding replyWith judged
+unfolding replyWith
 returns-3 c =
     let e = c .before .before .before .before in
     let t = e .before in
     let l = t .before .loop in
     let a = t .before .before .before .args in
-    let h = ends (a .s .now) (a .n) (a .m) (l .j) (l .at) (l .tables) (l .cells) _ (l .inv .3) _ (t .loop-test .left) (e .read-end .ensures) in
+    let h = ends (a .s .now) (a .n) (a .m) (l .j) (l .at) (l .tables) (l .cells) _ (l .inv .3) (e .read-end .result) (t .loop-test .left) (e .read-end .ensures) in
     c .refused2 .ensures ∙ simp (c .before .before .answer .given .1, sub-zero) at h
 
 pub read-wires-spec : {M : Type 1} → statement M

@@ -15,9 +15,9 @@ abbrev Inv-loop : tie.InvT-loop
 Inv-loop buffer₀ n m tables at₀ j₀ buffer at j =
     (j ≤ m)
     × (length buffer ≡ length buffer₀)
-    × (at ≤ 3 + 48 * j)
     × (sets buffer at (wiresFrom n m j tables) ≡ sets buffer₀ 3 (wiresOf n m tables))
     × (at + length (wiresFrom n m j tables) ≡ 3 + length (wiresOf n m tables))
+    × (at ≤ 3 + 48 * j)
 
 abbrev μ-loop : tie.MeasureT-loop
 μ-loop buffer₀ n m tables at₀ j₀ buffer at j = m - j
@@ -27,7 +27,7 @@ within c = let l : length (c .args .t4) ≡ 4 = search needs in omega arith
 
 loop-holds : tie.Need-loop-holds Inv-loop μ-loop
 unfolding wiresOf stageTrees
-loop-holds c = (omega arith, refl, omega arith, refl, refl)
+loop-holds c = (omega arith, refl, refl, refl, omega arith)
 
 cast-put-wire : tie.Need-cast-put-wire Inv-loop μ-loop
 cast-put-wire c = omega arith
@@ -61,9 +61,9 @@ loop-again c =
     let few = cells-few (a .n) (getD (a .t4) (l .j) 0) (s .pre .0) in (
       omega arith,
       p .put-wire .kept .0 ∙ l .inv .1,
-      omega (arith, l .inv, p .put-wire .ensures .1, wire-length (a .n) (l .j) (getD (a .t4) (l .j) 0), few),
-      stored (l .buffer) _ x y _ (l .at) _ (p .put-wire .ensures .0) (p .put-wire .ensures .1) (rw step at (l .inv .3)),
+      stored (l .buffer) _ x y _ (l .at) _ (p .put-wire .ensures .0) (p .put-wire .ensures .1) (rw step at (l .inv .2)),
       omega (arith, l .inv, p .put-wire .ensures .1, longer),
+      omega (arith, l .inv, p .put-wire .ensures .1, wire-length (a .n) (l .j) (getD (a .t4) (l .j) 0), few),
     )
 
 same-length : tie.Need-same-length Inv-loop μ-loop
@@ -75,7 +75,7 @@ returns c =
     let s = c .before .before .before in
     let a = s .args in
     let e = wires-end (a .n) (a .m) (l .j) (a .t4) (within s) (c .loop-test .left) in
-    (rw e at (l .inv .3), omega (arith, l .inv, ap length e))
+    (rw e at (l .inv .2), omega (arith, l .inv, ap length e))
 
 pub put-wires-spec : {M : Type 1} → statement M
 put-wires-spec =

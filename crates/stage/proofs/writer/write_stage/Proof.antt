@@ -1,20 +1,25 @@
 -- `write_stage` meets its contract: each test in its order, and the length that is computed is the stage's.
-use Prim.Native.Nat.{_≤_}
-use mathlib.Core.Path.{_≡_, sym, _∙_}
+use Prim.Native.Nat.{_<_, _≤_}
+use mathlib.Core.Path.{_≡_, sym, ap, _∙_}
+use mathlib.Core.Bool.{true, false}
 use native.Mathlib.Omega.{arith}
 use lib.ListN.{length}
 use borrow.Author.Needs.{needs}
-use borrow.Author.Tests.{lt-ltb, le-ltb}
-use Rattle.stage.specs.Written.{stageOf, writtenOf}
-use Rattle.stage.specs.declared.writer.Written.the-variants.{Length, Refused}
+use Rattle.base.specs.Cases.{accepting, acceptedOutcome, refusedCase}
+use Rattle.base.specs.Refusals.{refusalAt, outOfRange, shortBuffer}
+use Rattle.base.specs.Sizes.{sizesOut}
+use Rattle.stage.specs.Written.{stageOf, firstOut}
 use Rattle.stage.proofs.Lengths.{stage-length}
 use Rattle.stage.proofs.Ranges.{Sized, sizes-in}
-use Rattle.stage.proofs.Writing.{tables-in, kept, written}
+use Rattle.stage.proofs.Writing.{tables-in, sizes-refused, table-refused, short-refused, room-accepted, kept, written}
 use Rattle.stage.proofs.writer.write_stage.Statement.{statement}
 use Rattle.stage.proofs.writer.write_stage.Tie as tie
 
+sizes : (c : tie.Else1) → sizesOut (c .before .before .before .args .n) (c .before .before .before .args .m) ≡ false
+sizes c = sym (c .before .sizes-out .ensures) ∙ c .if1 .left
+
 sized : (c : tie.Else1) → Sized (c .before .before .before .args .n) (c .before .before .before .args .m)
-sized c = let a = c .before .before .before .args in sizes-in (a .n) (a .m) (sym (c .before .sizes-out .ensures) ∙ c .if1 .left)
+sized c = let a = c .before .before .before .args in sizes-in (a .n) (a .m) (sizes c)
 
 -- the length that is computed is the stage's
 length-is : (c : tie.After-stage-length)
@@ -29,6 +34,11 @@ length-is c =
     let h : a .m ≤ length (a .tables) = omega arith in
     omega (arith, c .stage-length .ensures, c .before .stage-cells .ensures .0, stage-length (a .n) (a .m) (a .tables) h)
 
+-- no wire's table is too large
+in-range : (c : tie.Else2) → c .before .before .before .before .before .args .m
+    ≤ firstOut (c .before .before .before .before .before .args .n) (c .before .before .before .before .before .args .m) (c .before .before .before .before .before .args .tables)
+in-range c = rw (c .before .first-out .ensures) at (c .if2 .left)
+
 sizes-out-requires : tie.Need-sizes-out-requires
 sizes-out-requires c κs = search needs
 
@@ -36,12 +46,12 @@ at-requires : tie.Need-at-requires
 at-requires c κs = search needs
 
 returns : tie.Need-returns
-unfolding writtenOf
 returns c =
     let o = c .before .before in
     let a = o .before .before .args in
-    let e : writtenOf (a .n) (a .m) (a .tables) (length (a .buffer .now)) ≡ Refused (c .at .result) =
-    simp (← o .sizes-out .ensures, c .before .if1 .taken, c .at .ensures) in
+    let out : sizesOut (a .n) (a .m) ≡ true = sym (o .sizes-out .ensures) ∙ c .before .if1 .taken in
+    let told : c .at .result ≡ refusalAt outOfRange 0 = c .at .ensures in
+    let e = sizes-refused (a .n) (a .m) (a .tables) (length (a .buffer .now)) out ∙ ap refusedCase (sym told) in
     (sym e, kept (a .n) (a .m) (a .tables) (a .buffer .now) _ e)
 
 first-out-requires : tie.Need-first-out-requires
@@ -54,13 +64,14 @@ at-requires-2 : tie.Need-at-requires-2
 at-requires-2 c κs = search needs
 
 returns-2 : tie.Need-returns-2
-unfolding writtenOf
 returns-2 c =
     let f = c .before .before in
     let e1 = f .before in
     let a = e1 .before .before .before .args in
-    let e : writtenOf (a .n) (a .m) (a .tables) (length (a .buffer .now)) ≡ Refused (c .at2 .result) =
-    simp (← e1 .before .sizes-out .ensures, e1 .if1 .left, ← f .first-out .ensures, lt-ltb _ _ (c .before .if2 .taken), c .at2 .ensures) in
+    let wire : f .first-out .result ≡ firstOut (a .n) (a .m) (a .tables) = f .first-out .ensures in
+    let early : firstOut (a .n) (a .m) (a .tables) < a .m = rw wire at (c .before .if2 .taken) in
+    let told : c .at2 .result ≡ refusalAt outOfRange (f .first-out .result) = c .at2 .ensures in
+    let e = table-refused (a .n) (a .m) (a .tables) (length (a .buffer .now)) (sizes e1) early ∙ ap refusedCase (sym (told ∙ ap (refusalAt outOfRange) wire)) in
     (sym e, kept (a .n) (a .m) (a .tables) (a .buffer .now) _ e)
 
 stage-cells-requires : tie.Need-stage-cells-requires
@@ -69,7 +80,7 @@ stage-cells-requires c κs =
     let e1 = f .before in
     let a = e1 .before .before .before .args in
     let z = sized e1 in
-    (z .n-least, z .n-most, z .m-most, tables-in (a .n) (a .m) (a .tables) (rw (f .first-out .ensures) at (c .if2 .left)))
+    (z .n-least, z .n-most, z .m-most, tables-in (a .n) (a .m) (a .tables) (in-range c))
 
 stage-length-requires : tie.Need-stage-length-requires
 stage-length-requires c κs = search needs
@@ -78,23 +89,14 @@ at-requires-3 : tie.Need-at-requires-3
 at-requires-3 c κs = search needs
 
 returns-3 : tie.Need-returns-3
-unfolding writtenOf
 returns-3 c =
     let l = c .before .before in
-    let f = l .before .before .before in
-    let e1 = f .before in
+    let e2 = l .before .before in
+    let e1 = e2 .before .before in
     let a = e1 .before .before .before .args in
-    let long = length-is l in
-    let e : writtenOf (a .n) (a .m) (a .tables) (length (a .buffer .now)) ≡ Refused (c .at3 .result) =
-    simp (
-      ← e1 .before .sizes-out .ensures,
-      e1 .if1 .left,
-      ← f .first-out .ensures,
-      le-ltb _ _ (l .before .before .if2 .left),
-      ← long,
-      lt-ltb _ _ (c .before .if3 .taken),
-      c .at3 .ensures,
-    ) in
+    let short : length (a .buffer .now) < length (stageOf (a .n) (a .m) (a .tables)) = rw (length-is l) at (c .before .if3 .taken) in
+    let told : c .at3 .result ≡ refusalAt shortBuffer (l .stage-length .result) = c .at3 .ensures in
+    let e = short-refused (a .n) (a .m) (a .tables) (length (a .buffer .now)) (sizes e1) (in-range e2) short ∙ ap refusedCase (sym (told ∙ ap (refusalAt shortBuffer) (length-is l))) in
     (sym e, kept (a .n) (a .m) (a .tables) (a .buffer .now) _ e)
 
 put-stage-requires : tie.Need-put-stage-requires
@@ -106,25 +108,16 @@ same-length : tie.Need-same-length
 same-length c = search needs
 
 returns-4 : tie.Need-returns-4
-unfolding writtenOf
 returns-4 c =
     let p = c .before .before in
     let e3 = p .before .before in
     let l = e3 .before in
-    let f = l .before .before .before in
-    let e1 = f .before in
+    let e2 = l .before .before in
+    let e1 = e2 .before .before in
     let a = e1 .before .before .before .args in
-    let long = length-is l in
-    let e : writtenOf (a .n) (a .m) (a .tables) (length (a .buffer .now)) ≡ Length (l .stage-length .result) =
-    simp (
-      ← e1 .before .sizes-out .ensures,
-      e1 .if1 .left,
-      ← f .first-out .ensures,
-      le-ltb _ _ (l .before .before .if2 .left),
-      ← long,
-      le-ltb _ _ (e3 .if3 .left),
-    ) in
-    (sym e, written (a .n) (a .m) (a .tables) (a .buffer .now) _ _ e long (e3 .if3 .left) (p .put-stage .ensures))
+    let room : length (stageOf (a .n) (a .m) (a .tables)) ≤ length (a .buffer .now) = rw (length-is l) at (e3 .if3 .left) in
+    let e = room-accepted (a .n) (a .m) (a .tables) (length (a .buffer .now)) (sizes e1) (in-range e2) room in
+    (ap (accepting acceptedOutcome) (length-is l) ∙ sym e, written (a .n) (a .m) (a .tables) (a .buffer .now) _ e room (p .put-stage .ensures))
 
 pub write-stage-spec : {M : Type 1} → statement M
 write-stage-spec =

@@ -1,19 +1,22 @@
--- `replies::sets_at` is safe and ends. The measure is the number of sets that are left. Assumes nothing.
-use Prim.Native.Nat.{_-_, _≤_}
+-- `replies::sets_at` meets its contract: the sets passed are filled in. The measure is the number of sets that are left.
+use Prim.Native.Nat.{ℕ, _+_, _*_, _-_, _<_, _≤_}
 use mathlib.Core.Path.{_≡_}
 use borrow.Author.Needs.{needs}
-use lib.ListN.{length}
+use native.Mathlib.Omega.{arith}
+use lib.ListN.{length, getD, length-set}
+use Rattle.base.proofs.Rows.{filled-more, filled-row}
+use Rattle.trials.specs.Records.{twoAt}
 use Rattle.trials.proofs.replies.sets_at.Statement.{statement}
 use Rattle.trials.proofs.replies.sets_at.Tie as tie
 
 abbrev Inv-loop : tie.InvT-loop
-Inv-loop s from sets₀ i₀ sets i = (i ≤ 16) × (length sets ≡ 16)
+Inv-loop s from sets₀ i₀ sets i = (i ≤ 16) × (length sets ≡ 16) × ((q : ℕ) → q < i → getD sets q 0 ≡ twoAt s (from + 2 * q))
 
 abbrev μ-loop : tie.MeasureT-loop
 μ-loop s from sets₀ i₀ sets i = 16 - i
 
 loop-holds : tie.Need-loop-holds Inv-loop μ-loop
-loop-holds c = search needs
+loop-holds c = (omega arith, search needs, λ q l. absurd (omega arith))
 
 mul-u16-at : tie.Need-mul-u16-at Inv-loop μ-loop
 mul-u16-at c = search needs
@@ -37,10 +40,18 @@ loop-less : tie.Need-loop-less Inv-loop μ-loop
 loop-less c = search needs
 
 loop-again : tie.Need-loop-again Inv-loop μ-loop
-loop-again c = search needs
+loop-again c =
+    let l = c .before .before .loop in
+    let a = c .before .before .before .before .args in
+    let v = l .inv in
+    (omega arith, simp length-set (v .1), filled-more (λ q. twoAt (a .s .now) (a .from + 2 * q)) (l .sets) (l .i) (c .u16-at .result) (omega (arith, v .1)) (v .2) (c .u16-at .ensures))
 
 returns : tie.Need-returns Inv-loop μ-loop
-returns c = search needs
+returns c =
+    let l = c .before .loop in
+    let a = c .before .before .before .args in
+    let v = l .inv in
+    filled-row 16 (λ q. twoAt (a .s .now) (a .from + 2 * q)) (l .sets) (v .1) (λ q b. v .2 q (omega arith))
 
 pub sets-at-spec : {M : Type 1} → statement M
 sets-at-spec =

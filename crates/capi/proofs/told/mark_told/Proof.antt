@@ -1,8 +1,7 @@
--- `tell_marked` meets its contract: the numbers by the mark.
-use Rattle.capi.specs.Told.{markedTold}
+-- `mark_told` meets its contract: the numbers by the mark.
 use borrow.Author.Needs.{needs}
-use Rattle.capi.proofs.told.tell_marked.Statement.{statement}
-use Rattle.capi.proofs.told.tell_marked.Tie as tie
+use Rattle.capi.proofs.told.mark_told.Statement.{statement}
+use Rattle.capi.proofs.told.mark_told.Tie as tie
 
 enum-told : tie.Need-enum-told
 enum-told c = search needs
@@ -23,19 +22,16 @@ tell-refusal-requires : tie.Need-tell-refusal-requires
 tell-refusal-requires c κs = search needs
 
 returns : tie.Need-returns
-unfolding markedTold
 returns c = rw (c .before .enum-told .given .1) (c .tell .ensures)
 
 returns-2 : tie.Need-returns-2
-unfolding markedTold
 returns-2 c = rw (c .before .enum-told2 .given .1) (c .tell2 .ensures)
 
 returns-3 : tie.Need-returns-3
-unfolding markedTold
 returns-3 c = rw (c .before .before .mark .given .1) (c .tell-refusal .ensures)
 
-pub tell-marked-spec : {M : Type 1} → statement M
-tell-marked-spec =
+pub mark-told-spec : {M : Type 1} → statement M
+mark-told-spec =
     tie.close
     (tie.spec
     enum-told

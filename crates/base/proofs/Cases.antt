@@ -1,0 +1,16 @@
+-- Laws of cases: they tell an acceptance from a refusal, and one refusal from another.
+use Prim.Native.Nat.{ℕ}
+use mathlib.Core.Path.{_≡_, ap, ap₂}
+use native.Mathlib.Omega.{arith}
+use Rattle.base.specs.declared.Refusal.{Refusal}
+use Rattle.base.specs.Refusals.{refusalAt}
+use Rattle.base.specs.Cases.{Case, acceptedCase, refusing, refusedCase}
+
+pub accepted-refused : {A : Type 0} (f : Refusal) → acceptedCase ≡ refusedCase f → A
+accepted-refused f e = absurd (omega (arith, ap (λ (c : Case). c .outcome) e))
+
+pub refused-accepted : {A : Type 0} (f : Refusal) → refusedCase f ≡ acceptedCase → A
+refused-accepted f e = absurd (omega (arith, ap (λ (c : Case). c .outcome) e))
+
+pub same-refusal : (o : ℕ) (f g : Refusal) → refusing o f ≡ refusing o g → f ≡ g
+same-refusal o f g e = ap₂ refusalAt (ap (λ (c : Case). c .number) e) (ap (λ (c : Case). c .place) e)

@@ -1,0 +1,97 @@
+-- Document 01, "Bench sheets": the starred rows, proved together over the written meanings.
+use Prim.Native.Nat.{ℕ}
+use mathlib.Core.Path.{_≡_, refl}
+use mathlib.Core.List.{List, [], _∷_}
+use Rattle.base.specs.Cases.{Case, accepting, acceptedCase}
+use Rattle.base.specs.Lowest.{lowest}
+use Rattle.base.specs.Refusals.{refusalAt, cutShort, outOfTurn, empty}
+use Rattle.table.specs.Bits.{bit, all, any, sum, ofBits, row}
+use Rattle.table.specs.Cells.{low, high, cells}
+use Rattle.table.specs.Tree.{reduced}
+use Rattle.table.specs.Pick.{suits, nearer, least, orZero, leastOf}
+use Rattle.relation.specs.declared.Relation.{Relation}
+use Rattle.relation.specs.Source.{value}
+use Rattle.relation.specs.Tests.{ofSets, keep, agree, occurs, fits, free, freeWire, compatible, conflict, emptyPattern, isOne, openPairs}
+use Rattle.relation.specs.Handed.{relationOf, widePattern, checkOf}
+use Rattle.search.specs.Cases.{best, stopped, SearchReply}
+use Rattle.search.specs.Search.{tablesOf, total, pick, picks, floor, left, quick, start, split, expand, charge, treat, visit, searchPart, run}
+use Rattle.search.specs.TreeBoard.{tree}
+use Rattle.search.specs.Reply.{markOf, answerOf, refusedWith, afterCheck, searchOf}
+use Rattle.sheet.specs.Reading.{readingOf}
+use Rattle.sheet.proofs.Rows.{sheetA}
+use Rattle.stage.specs.Bytes.{treeBytes, wireBytes, stageBytes}
+use Rattle.stage.specs.Written.{stageTrees, stageOf, firstOut, writtenOf, bufferAfter}
+use Rattle.unit.specs.Formed.{formedOf}
+use Rattle.unit.specs.Present.{presentTable, presentCells}
+use Rattle.unit.proofs.Rows as UnitRows
+use Rattle.unit.proofs.Rows.{limitedA}
+use Rattle.quote.specs.Quote.{refusedQuote, withStage, searched, quotedFrom, quotedOf, bufferSearched, bufferFrom, bufferQuoted}
+use Rattle.report.specs.Text.{digits, decimal, hexDigit, hexPair, furtherPairs, hexPairs}
+use Rattle.report.specs.Lines.{newline, named, countsOf, stageLine, resultLines, refusalLine, linesOf}
+use Rattle.dagmetzi.specs.Printed.{budget, printedOf}
+
+-- all that a search, a stage, a quote and the printed lines compute by
+unfoldable opened : ℕ
+unfolding UnitRows.opened bit all any sum ofBits row low high cells reduced suits nearer least orZero leastOf value ofSets keep agree occurs fits free freeWire compatible conflict emptyPattern isOne openPairs lowest relationOf widePattern checkOf tablesOf total pick picks floor left quick start split expand charge treat visit searchPart run tree markOf answerOf refusedWith afterCheck searchOf treeBytes wireBytes stageBytes stageTrees stageOf firstOut writtenOf bufferAfter presentTable presentCells withStage searched quotedFrom quotedOf bufferSearched bufferFrom bufferQuoted digits decimal hexDigit hexPair furtherPairs hexPairs named countsOf stageLine resultLines refusalLine linesOf printedOf
+opened = 0
+
+-- A as it is printed: "cells 2 floor 2 visits 0 best" and "20 02 02 21 00 22 01 24 23 21 01 22 02 23 24 2F"
+abbrev linesA : List ℕ
+linesA =
+    0x63 ∷ 0x65 ∷ 0x6C ∷ 0x6C ∷ 0x73 ∷ 0x20 ∷ 0x32 ∷ 0x20 ∷ 0x66 ∷ 0x6C ∷ 0x6F ∷ 0x6F ∷ 0x72 ∷ 0x20 ∷ 0x32 ∷ 0x20 ∷ 0x76 ∷ 0x69 ∷ 0x73 ∷ 0x69 ∷ 0x74 ∷ 0x73 ∷ 0x20 ∷ 0x30
+    ∷ 0x20 ∷ 0x62 ∷ 0x65 ∷ 0x73 ∷ 0x74 ∷ newline
+    ∷ 0x32 ∷ 0x30 ∷ 0x20 ∷ 0x30 ∷ 0x32 ∷ 0x20 ∷ 0x30 ∷ 0x32 ∷ 0x20 ∷ 0x32 ∷ 0x31 ∷ 0x20 ∷ 0x30 ∷ 0x30 ∷ 0x20 ∷ 0x32 ∷ 0x32 ∷ 0x20 ∷ 0x30 ∷ 0x31 ∷ 0x20 ∷ 0x32 ∷ 0x34 ∷ 0x20
+    ∷ 0x32 ∷ 0x33 ∷ 0x20 ∷ 0x32 ∷ 0x31 ∷ 0x20 ∷ 0x30 ∷ 0x31 ∷ 0x20 ∷ 0x32 ∷ 0x32 ∷ 0x20 ∷ 0x30 ∷ 0x32 ∷ 0x20 ∷ 0x32 ∷ 0x33 ∷ 0x20 ∷ 0x32 ∷ 0x34 ∷ 0x20 ∷ 0x32 ∷ 0x46 ∷ newline ∷ []
+
+-- B of source document 001, section 5, and C: bit v of a set is value v
+abbrev relationB : Relation
+relationB = record { n = 2; m = 2; sets = 1 ∷ 2 ∷ 9 ∷ 12 ∷ 0 ∷ 0 ∷ 0 ∷ 0 ∷ 0 ∷ 0 ∷ 0 ∷ 0 ∷ 0 ∷ 0 ∷ 0 ∷ 0 ∷ [] }
+
+abbrev relationC : Relation
+relationC = record { n = 1; m = 2; sets = 3 ∷ 6 ∷ 0 ∷ 0 ∷ 0 ∷ 0 ∷ 0 ∷ 0 ∷ 0 ∷ 0 ∷ 0 ∷ 0 ∷ 0 ∷ 0 ∷ 0 ∷ 0 ∷ [] }
+
+-- what a row says of a search that refuses nothing: cells, floor, visits and mark
+pub record Says (a : SearchReply) (c f v mark : ℕ) : Type 0 where
+  pub cells-are : a .cells ≡ c
+  pub floor-is : a .floor ≡ f
+  pub visits-are : a .visits ≡ v
+  pub mark-is : a .mark ≡ accepting mark 0
+
+pub record Starred : Type 0 where
+  -- A: the relation formed from its bytes, {1}, {0,3}, {0,3}, {2}
+  pub a-relation : formedOf sheetA
+      ≡ record { relation = record { n = 2; m = 2; sets = 2 ∷ 9 ∷ 9 ∷ 4 ∷ 0 ∷ 0 ∷ 0 ∷ 0 ∷ 0 ∷ 0 ∷ 0 ∷ 0 ∷ 0 ∷ 0 ∷ 0 ∷ 0 ∷ [] }; answer = acceptedCase }
+  -- what the program prints for its bytes, to the last one
+  pub a-printed : printedOf sheetA ≡ linesA
+  -- the cells of the present stage, by the tables that its own 02 commands tell
+  pub a-present : presentCells (readingOf sheetA) ≡ 4
+  -- B with a budget of 1, and B0 with none
+  pub b : Says (searchOf relationB 1) 3 3 1 best
+  pub b0 : Says (searchOf relationB 0) 3 2 0 stopped
+  -- C with a budget of 2, and C1 with 1
+  pub c : Says (searchOf relationC 2) 0 0 2 best
+  pub c1 : Says (searchOf relationC 1) 1 0 1 stopped
+  -- Tables: the cells of five functions of three inputs
+  pub tables : (cells 3 0x00 ≡ 0) × (cells 3 0xAA ≡ 1) × (cells 3 0xF0 ≡ 1) × (cells 3 0xE8 ≡ 5) × (cells 3 0x96 ≡ 7)
+  -- the empty sheet and the lone 00, with any buffer
+  pub empty-sheet : (room : ℕ) → quotedOf [] budget room ≡ refusedQuote (refusalAt cutShort 0)
+  pub lone-end : (room : ℕ) → quotedOf (0 ∷ []) budget room ≡ refusedQuote (refusalAt outOfTurn 0)
+  -- A with 06 02 02 00 before its end
+  pub a-limited : (room : ℕ) → quotedOf limitedA budget room ≡ refusedQuote (refusalAt empty 2)
+
+pub starred : Starred
+unfolding opened
+starred =
+    record {
+      a-relation = refl;
+      a-printed = refl;
+      a-present = refl;
+      b = record { cells-are = refl; floor-is = refl; visits-are = refl; mark-is = refl };
+      b0 = record { cells-are = refl; floor-is = refl; visits-are = refl; mark-is = refl };
+      c = record { cells-are = refl; floor-is = refl; visits-are = refl; mark-is = refl };
+      c1 = record { cells-are = refl; floor-is = refl; visits-are = refl; mark-is = refl };
+      tables = (refl, refl, refl, refl, refl);
+      empty-sheet = λ _. refl;
+      lone-end = λ _. refl;
+      a-limited = λ _. refl;
+    }

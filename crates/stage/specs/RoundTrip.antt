@@ -1,0 +1,35 @@
+-- Demand 2, the round trip: reading undoes writing. It is told by what the writer leaves in the buffer and by what the reader replies to that: the tables that
+-- were handed to the writer, and their cells.
+use Prim.Native.Nat.{ℕ}
+use mathlib.Core.Path.{_≡_}
+use mathlib.Core.Bool.{cond, not}
+use mathlib.Core.List.{List}
+use lib.Dec.{T, ltb}
+use lib.ListN.{length, getD, take}
+use Rattle.base.specs.Cases.{acceptedCase, isRefused}
+use Rattle.base.specs.Sizes.{maxWires}
+use Rattle.table.specs.Bits.{row}
+use Rattle.stage.specs.Cases.{StageReply}
+use Rattle.stage.specs.Read.{readStage}
+use Rattle.stage.specs.Reply.{replyOf}
+use Rattle.stage.specs.Written.{stageCells, writtenOf, bufferAfter}
+
+-- the first bytes of the buffer that the writer leaves, as many as it says the stage has
+abbrev pub bytesWritten : ℕ → ℕ → List ℕ → List ℕ → List ℕ
+bytesWritten n m tables buffer = take (writtenOf n m tables (length buffer) .value) (bufferAfter n m tables buffer)
+
+-- the reply that gives all of it back: the sizes, the table of each of the m wires (0 for those that the stage lacks), the cells, and nothing refused
+abbrev pub givenBack : ℕ → ℕ → List ℕ → StageReply
+givenBack n m tables =
+    record {
+      n = n;
+      m = m;
+      tables = row maxWires (λ j. cond (ltb j m) (getD tables j 0) 0);
+      cells = stageCells n m tables;
+      answer = acceptedCase;
+    }
+
+-- whatever is handed to the writer: unless it refuses, the reader gives it back
+pub record RoundTrip : Type 0 where
+  pub same : (n m : ℕ) (tables buffer : List ℕ) → length tables ≡ maxWires → T (not (isRefused (writtenOf n m tables (length buffer))))
+      → replyOf (readStage (bytesWritten n m tables buffer)) ≡ givenBack n m tables
