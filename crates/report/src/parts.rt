@@ -74,8 +74,10 @@ pub fn put_refusal(out: &mut [u8], whose: &[u8], refusal: Refusal) -> usize
     requires { ⌜ length (now whose) ≤ 10 ⌝ }
     ensures { λ r. ⌜ Put (now (out .entry)) 0 (refusalLine (now (whose .entry)) (refusal .number) (refusal .place)) (now (out .exit)) r × (r ≤ longestReport) ⌝ }
 {
+    let number = refusal.number as u64;
+    let place = refusal.place as u64;
     let start = put_text(out, 0, whose);
-    let middle = put_named(out, start, b"refused ", refusal.number as u64);
-    let end = put_named(out, middle, b" at ", refusal.place as u64);
+    let middle = put_named(out, start, b"refused ", number);
+    let end = put_named(out, middle, b" at ", place);
     put_byte(out, end, b'\n')
 }
