@@ -311,7 +311,7 @@ fn too_long() -> Refusal {
     Refusal { number: TOO_LONG, place: LONGEST_SHEET }
 }
 
-/// 14 comes before everything, so before the stage is looked at.
+/// A sheet that is too long is refused before the stage is looked at.
 fn audit_line(sheet: &[u8], stage: &[u8]) -> String {
     let audited = if sheet.len() > LONGEST_SHEET { Audit::SheetRefused(too_long()) } else { audit(sheet, stage) };
     match audited {

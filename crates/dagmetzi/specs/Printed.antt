@@ -23,7 +23,7 @@ budget = 10000
 abbrev pub room : List ℕ
 room = replicate longestStage 0
 
--- Document 01, "Refusals", 14: the program's own, and before all others
+-- Document 01, "Refusals", 14: the program's own, told from the length alone
 abbrev pub isTooLong : List ℕ → Bool
 isTooLong sheet = ltb longestSheet (length sheet)
 
@@ -31,6 +31,7 @@ isTooLong sheet = ltb longestSheet (length sheet)
 abbrev pub tooLongLine : List ℕ → List ℕ
 tooLongLine whose = refusalLine whose tooLong longestSheet
 
+-- the reply of the quote to a sheet, in the numbers of its cases
 abbrev pub quoted : List ℕ → QuoteReply
 quoted sheet = quotedOf sheet budget (length room)
 

@@ -1,10 +1,8 @@
-// Reading: the bytes of a descriptor, or of a file by its name, put at the start of a lent buffer.
+// Reading: an argument, a descriptor, or a file by its name, put at the start of a lent buffer.
 use crate::messages;
-ghost use Prim.Native.Nat.{_≤_};
-ghost use lib.ListN.{length};
 ghost use Rattle.io.specs.Counts.{Counts};
 
-// How many bytes were read; and whether that is all there was, or as much as the buffer takes. Where it is not, a message has been said.
+// How many bytes were read; and whether that is all there was, or as much as the buffer takes. Where it is not, the reason has been said on standard error.
 pub struct Input {
     pub length: usize,
     pub is_read: bool,
@@ -18,16 +16,10 @@ fn read_all(fd: i32, buffer: &mut [u8]) -> Input
     let mut length: usize = 0;
     for _ in 0..buffer.len() {
         let got = libc::read(fd, &mut buffer[length..]);
-        if got < 0 {
+        if got <= 0 {
             return Input {
                 length,
-                is_read: false,
-            };
-        }
-        if got == 0 {
-            return Input {
-                length,
-                is_read: true,
+                is_read: got == 0,
             };
         }
         let more = io::count(got, &buffer[length..]);
@@ -39,7 +31,7 @@ fn read_all(fd: i32, buffer: &mut [u8]) -> Input
     }
 }
 
-// Reads from a descriptor that is known to a message by its name.
+// Reads from a descriptor, which messages call by a name.
 pub fn read_open(fd: i32, name: &[u8], buffer: &mut [u8]) -> Input
     ensures { λ r. ⌜ Counts (r .length) (now (buffer .exit)) ⌝ }
 {
@@ -50,7 +42,7 @@ pub fn read_open(fd: i32, name: &[u8], buffer: &mut [u8]) -> Input
     input
 }
 
-// Reads a file by its name.
+// Reads a file by its name. A folder opens, and cannot be read.
 fn read_file(name: &[u8], buffer: &mut [u8]) -> Input
     ensures { λ r. ⌜ Counts (r .length) (now (buffer .exit)) ⌝ }
 {
@@ -67,18 +59,30 @@ fn read_file(name: &[u8], buffer: &mut [u8]) -> Input
     input
 }
 
-// Reads the file that an argument names.
+// Reads an argument itself, an empty one too. One that the buffer cannot hold is not cut, since its start is another word or name.
 pub fn read_argument(i: usize, buffer: &mut [u8]) -> Input
     ensures { λ r. ⌜ Counts (r .length) (now (buffer .exit)) ⌝ }
 {
-    let mut name = io::buffer();
-    let length = os::arg(i, &mut name);
-    if os::errno() != 0 {
+    let length = os::arg(i, buffer);
+    let is_read = os::errno() == 0;
+    if !is_read {
         messages::fail(b"cannot take ", b"an argument that long");
+    }
+    Input { length, is_read }
+}
+
+// Reads the file that an argument names.
+pub fn read_named(i: usize, buffer: &mut [u8]) -> Input
+    ensures { λ r. ⌜ Counts (r .length) (now (buffer .exit)) ⌝ }
+{
+    let mut name = io::buffer();
+    let argument = read_argument(i, &mut name);
+    if !argument.is_read {
         return Input {
             length: 0,
             is_read: false,
         };
     }
+    let length = argument.length;
     read_file(&name[..length], buffer)
 }

@@ -4,6 +4,9 @@ ghost use Prim.Native.Nat.{_≤_};
 ghost use lib.ListN.{length};
 ghost use Rattle.io.specs.Counts.{Counts};
 
+// Room for a name as long as the system takes, and the words around it.
+const LONGEST_LINE: usize = 4200;
+
 // A byte as it is shown. What would end the line or steer a terminal becomes a question mark, so that a name cannot pass for another message.
 fn shown(b: u8) -> u8 {
     if b < 0x20 {
@@ -47,14 +50,14 @@ fn begin(line: &mut [u8], what: &[u8], name: &[u8]) -> usize
 
 // Says what could not be done with a name, and the system's reason: "dagmetzi: cannot open NAME: No such file or directory".
 pub fn fail(what: &[u8], name: &[u8]) {
-    let mut line = [0u8; 4200];
+    let mut line = [0u8; LONGEST_LINE];
     let length = begin(&mut line, what, name);
     os::fail(&line[..length]);
 }
 
 // Says what is wrong with a word, and what to write: "dagmetzi: unknown word WORD: try audit SHEET STAGE".
 pub fn advise(what: &[u8], word: &[u8], advice: &[u8]) {
-    let mut line = [0u8; 4200];
+    let mut line = [0u8; LONGEST_LINE];
     let length = begin(&mut line, what, word);
     let end = add(&mut line, length, advice);
     io::write_all(STDERR_FILENO, &line[..end]);

@@ -2,6 +2,7 @@
 use base::Refusal;
 use quote::Audited;
 use quote::Quoted;
+use report::LONGEST_STAGE;
 use search::Mark;
 ghost use mathlib.Core.Path.{_≡_};
 ghost use Prim.Native.Nat.{_≤_};
@@ -9,15 +10,16 @@ ghost use lib.ListN.{length};
 ghost use lib.Seq.{sets};
 ghost use Rattle.base.specs.Refusals.{refusalAt, tooLong};
 ghost use Rattle.search.specs.Cases.{markCase};
+ghost use Rattle.report.specs.Lines.{longestReport};
 ghost use Rattle.base.specs.Cases.{refusedCase};
 ghost use Rattle.dagmetzi.specs.Printed.{longestSheet, printedOf, auditPrintedOf};
 
 // The longest sheet that is taken, and the budget of a quote.
-const LONGEST_SHEET: usize = 4096;
+pub const LONGEST_SHEET: usize = 4096;
 
 const BUDGET: u32 = 10000;
 
-// The refusal of a sheet that is too long. It comes before everything.
+// The refusal of a sheet that is too long: nothing of such a sheet is read, and no stage beside it.
 fn too_long() -> Refusal
     ensures { λ r. ⌜ r ≡ refusalAt tooLong longestSheet ⌝ }
 {
@@ -39,9 +41,9 @@ fn too_long_quote() -> Quoted
 
 // The lines for a sheet.
 pub fn quote_reply(sheet: &[u8], out: &mut [u8]) -> usize
-    ensures { λ r. ⌜ (r ≡ length (printedOf (now (sheet .entry)))) × (now (out .exit) ≡ sets (now (out .entry)) 0 (printedOf (now (sheet .entry)))) × (r ≤ 700) ⌝ }
+    ensures { λ r. ⌜ (r ≡ length (printedOf (now (sheet .entry)))) × (now (out .exit) ≡ sets (now (out .entry)) 0 (printedOf (now (sheet .entry)))) × (r ≤ longestReport) ⌝ }
 {
-    let mut stage = [0u8; 196];
+    let mut stage = [0u8; LONGEST_STAGE];
     if LONGEST_SHEET < sheet.len() {
         return report::report(too_long_quote(), &stage, out);
     }
@@ -51,7 +53,7 @@ pub fn quote_reply(sheet: &[u8], out: &mut [u8]) -> usize
 
 // The line for a sheet and a stage.
 pub fn audit_reply(sheet: &[u8], stage: &[u8], out: &mut [u8]) -> usize
-    ensures { λ r. ⌜ (r ≡ length (auditPrintedOf (now (sheet .entry)) (now (stage .entry)))) × (now (out .exit) ≡ sets (now (out .entry)) 0 (auditPrintedOf (now (sheet .entry)) (now (stage .entry)))) × (r ≤ 700) ⌝ }
+    ensures { λ r. ⌜ (r ≡ length (auditPrintedOf (now (sheet .entry)) (now (stage .entry)))) × (now (out .exit) ≡ sets (now (out .entry)) 0 (auditPrintedOf (now (sheet .entry)) (now (stage .entry)))) × (r ≤ longestReport) ⌝ }
 {
     if LONGEST_SHEET < sheet.len() {
         return report::report_audit(Audited::SheetRefused(too_long()), out);

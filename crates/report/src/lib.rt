@@ -1,5 +1,5 @@
 // What the program prints for a reply of the quote and of the audit, as bytes in a lent buffer. Each call puts its lines at the start of the buffer and hands back
-// the length of them. Bytes that find no room are dropped, and a length above the buffer's says so; later bytes stay.
+// the length of them. Bytes that find no room are dropped, and a length above the buffer's says so; what stands behind the lines is left as it was.
 use parts::put_judged;
 use parts::put_refusal;
 use parts::put_result;
@@ -15,6 +15,11 @@ ghost use Rattle.report.specs.Lines.{longestReport, linesOf, auditLine};
 
 pub mod text; // numbers and bytes as text
 mod parts; // what the lines are made of
+
+// A stage has at most so many bytes, and the lines of a report at most so many.
+pub const LONGEST_STAGE: usize = 196;
+
+pub const LONGEST_REPORT: usize = 700;
 
 // The lines for a reply of the quote and the bytes that it wrote its stage to.
 pub fn report(q: Quoted, stage: &[u8], out: &mut [u8]) -> usize

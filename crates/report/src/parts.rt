@@ -1,5 +1,6 @@
 // The parts of which the program's lines are made, put into a lent buffer, each with the place after it.
 // Inner functions: the two reports meet what they require, bounds on places and lengths that are there for the sums alone.
+use crate::LONGEST_STAGE;
 use crate::text::put_byte;
 use crate::text::put_decimal;
 use crate::text::put_hex_pairs;
@@ -13,9 +14,6 @@ ghost use Rattle.quote.specs.Cases.{quoteReply};
 ghost use Rattle.report.specs.Put.{Put};
 ghost use Rattle.stage.specs.Bytes.{longestStage};
 ghost use Rattle.report.specs.Lines.{longestReport, named, countsOf, stageLine, resultLines, refusalLine, judgedLine};
-
-// A stage has at most so many bytes.
-const LONGEST_STAGE: usize = 196;
 
 // Puts a number after its name.
 fn put_named(out: &mut [u8], at: usize, name: &[u8], x: u64) -> usize
@@ -76,8 +74,10 @@ pub fn put_refusal(out: &mut [u8], whose: &[u8], refusal: Refusal) -> usize
     requires { ⌜ length (now whose) ≤ 10 ⌝ }
     ensures { λ r. ⌜ Put (now (out .entry)) 0 (refusalLine (now (whose .entry)) (refusal .number) (refusal .place)) (now (out .exit)) r × (r ≤ longestReport) ⌝ }
 {
+    let number = refusal.number as u64;
+    let place = refusal.place as u64;
     let start = put_text(out, 0, whose);
-    let middle = put_named(out, start, b"refused ", refusal.number as u64);
-    let end = put_named(out, middle, b" at ", refusal.place as u64);
+    let middle = put_named(out, start, b"refused ", number);
+    let end = put_named(out, middle, b" at ", place);
     put_byte(out, end, b'\n')
 }

@@ -34,12 +34,6 @@ same-length c = c .before .before .buffer .given .1 ∙ c .before .before .befor
 returns : tie.Need-returns Inv-loop μ-loop
 returns c = counts _ _ (omega (arith, c .before .before .buffer .given .1, c .before .before .before .before .before .before .loop .inv .1))
 
-same-length-2 : tie.Need-same-length-2 Inv-loop μ-loop
-same-length-2 c = c .before .before .before .buffer .given .1 ∙ c .before .before .before .before .before .before .before .loop .inv .0
-
-returns-2 : tie.Need-returns-2 Inv-loop μ-loop
-returns-2 c = counts _ _ (omega (arith, c .before .before .before .buffer .given .1, c .before .before .before .before .before .before .before .loop .inv .1))
-
 sub-count : tie.Need-sub-count Inv-loop μ-loop
 sub-count c = omega arith
 
@@ -63,14 +57,14 @@ loop-less c = omega arith
 
 loop-again : tie.Need-loop-again Inv-loop μ-loop
 loop-again c =
-    let e = c .before .before .before .before .before .before .buffer .given .1 in
-    (e ∙ c .before .before .before .before .before .before .before .before .before .before .loop .inv .0, omega (arith, e, c .before .before .before .before .before .before .before .before .before .before .loop .inv .1, c .count .ensures .0 .0))
+    let e = c .before .before .before .before .before .buffer .given .1 in
+    (e ∙ c .before .before .before .before .before .before .before .before .before .loop .inv .0, omega (arith, e, c .before .before .before .before .before .before .before .before .before .loop .inv .1, c .count .ensures .0 .0))
 
-same-length-3 : tie.Need-same-length-3 Inv-loop μ-loop
-same-length-3 c = c .before .loop .inv .0
+same-length-2 : tie.Need-same-length-2 Inv-loop μ-loop
+same-length-2 c = c .before .loop .inv .0
 
-returns-3 : tie.Need-returns-3 Inv-loop μ-loop
-returns-3 c = counts _ _ (c .before .loop .inv .1)
+returns-2 : tie.Need-returns-2 Inv-loop μ-loop
+returns-2 c = counts _ _ (c .before .loop .inv .1)
 
 pub read-all-spec : {M : Type 1} → statement M
 read-all-spec =
@@ -85,8 +79,6 @@ read-all-spec =
     read-requires
     same-length
     returns
-    same-length-2
-    returns-2
     sub-count
     part-count-start
     part-count-end
@@ -95,5 +87,5 @@ read-all-spec =
     add-counter
     loop-less
     loop-again
-    same-length-3
-    returns-3)
+    same-length-2
+    returns-2)

@@ -6,14 +6,14 @@ use borrow.Author.Needs.{needs}
 use Rattle.report.proofs.parts.put_refusal.Statement.{statement}
 use Rattle.report.proofs.parts.put_refusal.Tie as tie
 
+cast-number : tie.Need-cast-number
+cast-number c = search needs
+
 put-text-requires : tie.Need-put-text-requires
 put-text-requires c κs = search needs
 
 slice-aggregate-put-named : tie.Need-slice-aggregate-put-named
 slice-aggregate-put-named c = search needs
-
-cast-put-named : tie.Need-cast-put-named
-cast-put-named c = search needs
 
 put-named-requires : tie.Need-put-named-requires
 put-named-requires c κs = search needs
@@ -33,7 +33,7 @@ same-length c = search needs
 returns : tie.Need-returns
 unfolding refusalLine
 returns c =
-    let w = c .before .before .before .before .before .before .before .before .before .before .before .before .before .before .before .before .before .put-text .ensures in
+    let w = c .before .before .before .before .before .before .before .before .before .before .before .before .before .before .before .before .put-text .ensures in
     let x = c .before .before .before .before .before .before .before .before .before .before .before .put-named .ensures in
     let y = c .before .before .before .before .before .before .put-named2 .ensures in
     let z = c .before .before .put-byte .ensures in
@@ -43,9 +43,9 @@ pub put-refusal-spec : {M : Type 1} → statement M
 put-refusal-spec =
     tie.close
     (tie.spec
+    cast-number
     put-text-requires
     slice-aggregate-put-named
-    cast-put-named
     put-named-requires
     slice-aggregate-put-named-2
     put-named-requires-2

@@ -1,3 +1,4 @@
+-- `quote` meets its contract: what is printed is so many bytes of the buffer.
 use native.Mathlib.Omega.{arith}
 use mathlib.Core.Path.{_≡_, ap, _∙_}
 use lib.ListN.{length}
@@ -5,8 +6,8 @@ use lib.Seq.{length-sets}
 use Rattle.report.specs.Lines.{longestReport}
 use Rattle.dagmetzi.proofs.Counting.{counts}
 use borrow.Author.Needs.{needs}
-use Rattle.dagmetzi.proofs.quote.Statement.{statement}
-use Rattle.dagmetzi.proofs.quote.Tie as tie
+use Rattle.dagmetzi.proofs.words.quote.Statement.{statement}
+use Rattle.dagmetzi.proofs.words.quote.Tie as tie
 
 slice-aggregate-read-open : tie.Need-slice-aggregate-read-open
 slice-aggregate-read-open c = search needs

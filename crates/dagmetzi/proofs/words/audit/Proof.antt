@@ -1,30 +1,46 @@
-use native.Mathlib.Omega.{arith}
+-- `audit` meets its contract: what is printed is so many bytes of the buffer.
 use mathlib.Core.Path.{_≡_, ap, _∙_}
+use native.Mathlib.Omega.{arith}
 use lib.ListN.{length}
 use lib.Seq.{length-sets}
 use Rattle.report.specs.Lines.{longestReport}
 use Rattle.dagmetzi.proofs.Counting.{counts}
 use borrow.Author.Needs.{needs}
-use Rattle.dagmetzi.proofs.audit.Statement.{statement}
-use Rattle.dagmetzi.proofs.audit.Tie as tie
+use Rattle.dagmetzi.proofs.words.audit.Statement.{statement}
+use Rattle.dagmetzi.proofs.words.audit.Tie as tie
 
-slice-aggregate-read-argument : tie.Need-slice-aggregate-read-argument
-slice-aggregate-read-argument c = search needs
+slice-aggregate-advise : tie.Need-slice-aggregate-advise
+slice-aggregate-advise c = search needs
 
-read-argument-requires : tie.Need-read-argument-requires
-read-argument-requires c κs = search needs
+slice-aggregate-advise-2 : tie.Need-slice-aggregate-advise-2
+slice-aggregate-advise-2 c = search needs
+
+slice-aggregate-advise-3 : tie.Need-slice-aggregate-advise-3
+slice-aggregate-advise-3 c = search needs
+
+advise-requires : tie.Need-advise-requires
+advise-requires c κs = search needs
 
 returns : tie.Need-returns
 returns c = search needs
 
-slice-aggregate-read-argument-2 : tie.Need-slice-aggregate-read-argument-2
-slice-aggregate-read-argument-2 c = search needs
+slice-aggregate-read-named : tie.Need-slice-aggregate-read-named
+slice-aggregate-read-named c = search needs
 
-read-argument-requires-2 : tie.Need-read-argument-requires-2
-read-argument-requires-2 c κs = search needs
+read-named-requires : tie.Need-read-named-requires
+read-named-requires c κs = search needs
 
 returns-2 : tie.Need-returns-2
 returns-2 c = search needs
+
+slice-aggregate-read-named-2 : tie.Need-slice-aggregate-read-named-2
+slice-aggregate-read-named-2 c = search needs
+
+read-named-requires-2 : tie.Need-read-named-requires-2
+read-named-requires-2 c κs = search needs
+
+returns-3 : tie.Need-returns-3
+returns-3 c = search needs
 
 array-share-prefix-sheet : tie.Need-array-share-prefix-sheet
 array-share-prefix-sheet c = search needs
@@ -56,19 +72,24 @@ slice-aggregate-print c =
 print-requires : tie.Need-print-requires
 print-requires c κs = search needs
 
-returns-3 : tie.Need-returns-3
-returns-3 c = search needs
+returns-4 : tie.Need-returns-4
+returns-4 c = search needs
 
 pub audit-spec : {M : Type 1} → statement M
 audit-spec =
     tie.close
     (tie.spec
-    slice-aggregate-read-argument
-    read-argument-requires
+    slice-aggregate-advise
+    slice-aggregate-advise-2
+    slice-aggregate-advise-3
+    advise-requires
     returns
-    slice-aggregate-read-argument-2
-    read-argument-requires-2
+    slice-aggregate-read-named
+    read-named-requires
     returns-2
+    slice-aggregate-read-named-2
+    read-named-requires-2
+    returns-3
     array-share-prefix-sheet
     slice-aggregate-audit-reply
     array-share-prefix-stage
@@ -78,4 +99,4 @@ audit-spec =
     array-share-prefix-out
     slice-aggregate-print
     print-requires
-    returns-3)
+    returns-4)

@@ -1,0 +1,63 @@
+// The words of the program: a function for each, which takes the number of arguments after the word, reads the files that they name, and prints the reply.
+use crate::files::read_named;
+use crate::files::read_open;
+use crate::messages;
+use crate::replies;
+use crate::replies::LONGEST_SHEET;
+use libc::STDIN_FILENO;
+use libc::STDOUT_FILENO;
+use report::LONGEST_REPORT;
+
+// One byte more than the longest sheet is enough to tell one that is too long.
+const SHEET_ROOM: usize = LONGEST_SHEET + 1;
+
+// Of a stage's file the front is read. A stage has at most 196 bytes, and reading one looks at no byte past the 197th, so that the bytes left out change
+// nothing of the reply (`audit-front`).
+const STAGE_ROOM: usize = 4096;
+
+// Prints a reply.
+fn print(text: &[u8]) {
+    if !io::write_all(STDOUT_FILENO, text) {
+        messages::fail(b"cannot write ", b"the reply");
+    }
+}
+
+// No word: the quote of the sheet on standard input.
+pub fn quote() {
+    let mut sheet = [0u8; SHEET_ROOM];
+    let input = read_open(STDIN_FILENO, b"standard input", &mut sheet);
+    if !input.is_read {
+        return;
+    }
+    let length = input.length;
+    let mut out = [0u8; LONGEST_REPORT];
+    let printed = replies::quote_reply(&sheet[..length], &mut out);
+    print(&out[..printed]);
+}
+
+// audit SHEET STAGE: whether the stage keeps to the sheet, and its cells.
+pub fn audit(count: usize) {
+    if count != 2 {
+        messages::advise(
+            b"wrong number of names for ",
+            b"audit",
+            b": try audit SHEET STAGE",
+        );
+        return;
+    }
+    let mut sheet = [0u8; SHEET_ROOM];
+    let first = read_named(2, &mut sheet);
+    if !first.is_read {
+        return;
+    }
+    let mut stage = [0u8; STAGE_ROOM];
+    let second = read_named(3, &mut stage);
+    if !second.is_read {
+        return;
+    }
+    let sheet_length = first.length;
+    let stage_length = second.length;
+    let mut out = [0u8; LONGEST_REPORT];
+    let printed = replies::audit_reply(&sheet[..sheet_length], &stage[..stage_length], &mut out);
+    print(&out[..printed]);
+}
