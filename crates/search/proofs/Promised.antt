@@ -23,7 +23,9 @@ pub record Treated (b : Board) (R : Rel) (s t : State) : Type 0 where
   pub stays : T (s .stopped) → T (t .stopped)
   pub best : T (not (t .stopped)) → (X : Tables) → Stage (b .n) (b .m) X → Compatible (b .n) (b .m) R X → t .cells ≤ total b X
 
-module _ (b : Board) (fair : Fair b) (budget : ℕ) (Q : Rel) where
+-- The induction over the parts asks two things of the test that discards: what it discards holds nothing better, and what it keeps has a floor below the best cells.
+module _ (b : Board) (fair : Fair b) (budget : ℕ) (Q : Rel)
+    (prunes : (s : State) (f : ℕ) → T (discarded s f) → s .cells ≤ f) (spares : (s : State) (f : ℕ) → T (not (discarded s f)) → f < s .cells) where
   abbrev After : Rel → State → State → Type 0
   After R s t = Sound b budget Q t × Treated b R s t
 
@@ -105,8 +107,8 @@ module _ (b : Board) (fair : Fair b) (budget : ℕ) (Q : Rel) where
     unfolding treat
     treat-treats k s ih lk sd =
         cond-has (After R s) (discarded s (floor b R))
-        (λ h. (sd, record { down = le-refl (s .cells); stays = λ h. h; best = λ _ X sX cX. le-trans (leb→le (s .cells) (floor b R) h) (floor-le b R ne fair X sX cX) }))
-        (λ h. charge-treats k s ih lk sd (nleb→lt (s .cells) (floor b R) h))
+        (λ h. (sd, record { down = le-refl (s .cells); stays = λ h. h; best = λ _ X sX cX. le-trans (prunes s (floor b R) h) (floor-le b R ne fair X sX cX) }))
+        (λ h. charge-treats k s ih lk sd (spares s (floor b R) h))
 
   visit-treats : (k : ℕ) → Treats k (visit b budget k)
   unfolding visit
@@ -117,6 +119,6 @@ pub run-promise : (b : Board) → Fair b → (budget : ℕ) (R : Rel) → WellDe
 unfolding run searchPart start
 run-promise b fair budget R ne =
     let few = fair .few in
-    let r = visit-treats b fair budget R (suc (openPairs (b .n) (b .m) R)) R (start b R) (omega arith) ne (λ p v t. t)
+    let r = visit-treats b fair budget R (λ s f. leb→le (s .cells) f) (λ s f. nleb→lt (s .cells) f) (suc (openPairs (b .n) (b .m) R)) R (start b R) (omega arith) ne (λ p v t. t)
     (record { long = quick-long b R; stage = quick-stage b R ne few; answer = quick-compatible b R ne few; counted = refl; within = omega arith; spent = λ h. absurd h }) in
     record { sound = r .0; above = floor-le b R ne fair; best = r .1 .best }
