@@ -2,7 +2,7 @@
 use Prim.Native.Nat.{ℕ}
 use mathlib.Core.Path.{_≡_, refl}
 use mathlib.Core.List.{List, [], _∷_}
-use Rattle.base.specs.Cases.{Case, accepting, acceptedCase}
+use Rattle.base.specs.Cases.{accepting, acceptedCase}
 use Rattle.base.specs.Lowest.{lowest}
 use Rattle.base.specs.Refusals.{refusalAt, cutShort, outOfTurn, empty}
 use Rattle.table.specs.Bits.{bit, all, any, sum, ofBits, row}

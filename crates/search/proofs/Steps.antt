@@ -1,10 +1,9 @@
 -- The cases of a visit: each return of the code is the written treatment of the part.
-use Prim.Native.Nat.{ℕ, _^_, _<_, _≤_}
+use Prim.Native.Nat.{ℕ, _^_, _<_}
 use mathlib.Core.Path.{_≡_, sym, _∙_}
 use mathlib.Core.Bool.{not}
 use mathlib.Core.List.{List}
 use native.Mathlib.Omega.{arith}
-use borrow.Author.Tests.{le-leb, lt-leb}
 use lib.Dec.{T, leb, not-T, leb→le}
 use Rattle.base.proofs.Tests.{test-yes, test-no}
 use Rattle.relation.specs.Source.{Rel}
@@ -13,7 +12,7 @@ use Rattle.relation.specs.Masks.{narrowed}
 use Rattle.relation.proofs.Splits.{keep-closes}
 use Rattle.search.specs.declared.State.{State}
 use Rattle.search.specs.declared.Open.the-variants.{Pair, Closed}
-use Rattle.search.specs.Search.{picks, floor, discarded, halted, charged, improved, split, expand, charge, treat, searchPart}
+use Rattle.search.specs.Search.{picks, floor, discarded, usedUp, halted, charged, improved, split, expand, charge, treat, searchPart}
 use Rattle.search.specs.TreeBoard.{tree}
 use Rattle.search.specs.Kept.{Sized, Sets, openOf}
 use Rattle.search.proofs.Depth.{search-step}
@@ -36,14 +35,14 @@ module _ (n m budget : ℕ) (sz : Sized n m) (sets : List ℕ) (ok : Sets n m se
   discards h = sym (step ∙ rw (← ef, test-yes (discarded s f) h))
 
   module _ (more : T (not (discarded s f))) where
-    pub halts : budget ≤ s .visits → halted s ≡ searchPart (tree n m) budget (ofSets sets) s
+    pub halts : T (usedUp budget s) → halted s ≡ searchPart (tree n m) budget (ofSets sets) s
     unfolding treat charge
-    halts h = sym (step ∙ rw (← ef, test-no (discarded s f) more, le-leb budget (s .visits) h))
+    halts h = sym (step ∙ rw (← ef, test-no (discarded s f) more, test-yes (usedUp budget s) h))
 
-    module _ (left : s .visits < budget) {tables : List ℕ} (et : tables ≡ picks (tree n m) (ofSets sets)) where
+    module _ (left : T (not (usedUp budget s))) {tables : List ℕ} (et : tables ≡ picks (tree n m) (ofSets sets)) where
       expands : treat (tree n m) budget (searchPart (tree n m) budget) (ofSets sets) s ≡ expand (tree n m) budget (searchPart (tree n m) budget) (ofSets sets) s
       unfolding treat charge
-      expands = rw (← ef, test-no (discarded s f) more, lt-leb budget (s .visits) left)
+      expands = rw (← ef, test-no (discarded s f) more, test-no (usedUp budget s) left)
 
       pub improves : openOf n m (ofSets sets) (wires tables) ≡ Closed → improved tables f (charged s) ≡ searchPart (tree n m) budget (ofSets sets) s
       unfolding expand tree

@@ -250,7 +250,7 @@ visit-returns t c =
     let a = c .before .before .args in
     let q = c .before .before .pre .1 in
     let h = q .1 in
-    (refl, discards (a .n) (a .m) (a .budget) (h .sized) (a .sets .now) (h .sets) (stateOf (a .best .now) (a .tally .now)) (floor-is h (q .2)) (le→leb _ _ (c .if1 .taken)), q .5)
+    (refl, discards (a .n) (a .m) (a .budget) (h .sized) (a .sets .now) (h .sets) (stateOf (a .best .now) (a .tally .now)) (floor-is h (q .2)) (le→leb (getD (a .tally .now) 0 0) (a .floor) (omega (arith, c .if1 .taken))), q .5)
 
 visit-element-copy-out-if2 : (t : ℕ) → visit-lts.Need-element-copy-out-if2 (visit-claims t) (visit-at t) visit.Post
 visit-element-copy-out-if2 t c = search needs
@@ -263,7 +263,7 @@ visit-returns-2 t c =
     let a = c .before .before .before .before .args in
     let q = c .before .before .before .before .pre .1 in
     let h = q .1 in
-    (refl, halted-tally (a .best .now) (a .tally .now) (q .5) ∙ halts (a .n) (a .m) (a .budget) (h .sized) (a .sets .now) (h .sets) (stateOf (a .best .now) (a .tally .now)) (floor-is h (q .2)) (lt→nleb _ _ (c .before .before .if1 .left)) (c .if2 .taken), length-set (a .tally .now) 2 1 ∙ q .5)
+    (refl, halted-tally (a .best .now) (a .tally .now) (q .5) ∙ halts (a .n) (a .m) (a .budget) (h .sized) (a .sets .now) (h .sets) (stateOf (a .best .now) (a .tally .now)) (floor-is h (q .2)) (lt→nleb _ _ (c .before .before .if1 .left)) (le→leb (a .budget) (getD (a .tally .now) 1 0) (omega (arith, c .if2 .taken))), length-set (a .tally .now) 2 1 ∙ q .5)
 
 visit-element-copy-out-tally : (t : ℕ) → visit-lts.Need-element-copy-out-tally (visit-claims t) (visit-at t) visit.Post
 visit-element-copy-out-tally t c = search needs
@@ -315,7 +315,7 @@ visit-returns-3 t c =
     let e = c .before .before .before .before .tables-of .ensures in (
       refl,
       improved-tally (a .best .now) (c .before .before .before .before .tables-of .result) (a .tally .now) (a .floor) (q .5)
-          ∙ improves (a .n) (a .m) (a .budget) (h .sized) (a .sets .now) (h .sets) (stateOf (a .best .now) (a .tally .now)) (floor-is h (q .2)) (lt→nleb _ _ (c .before .before .before .before .before .before .before .before .if1 .left)) (c .before .before .before .before .before .before .if2 .left) (tables-are h e) (sym (c .before .before .first-open .ensures) ∙ c .enum-told .given .1),
+          ∙ improves (a .n) (a .m) (a .budget) (h .sized) (a .sets .now) (h .sets) (stateOf (a .best .now) (a .tally .now)) (floor-is h (q .2)) (lt→nleb _ _ (c .before .before .before .before .before .before .before .before .if1 .left)) (lt→nleb _ _ (c .before .before .before .before .before .before .if2 .left)) (tables-are h e) (sym (c .before .before .first-open .ensures) ∙ c .enum-told .given .1),
       length-set (set (a .tally .now) 1 _) 0 _ ∙ length-set (a .tally .now) 1 _ ∙ q .5,
     )
 
@@ -330,7 +330,7 @@ visit-returns-4 t c =
       c .split .ensures .0,
       c .split .ensures .1
           ∙ ap (splitOf (tree (a .n) (a .m)) (a .budget) (searchPart (tree (a .n) (a .m)) (a .budget)) (ofSets (a .sets .now)) p j) (charged-tally (a .best .now) (a .tally .now) (q .5))
-          ∙ splits (a .n) (a .m) (a .budget) (h .sized) (a .sets .now) (h .sets) (stateOf (a .best .now) (a .tally .now)) (floor-is h (q .2)) (lt→nleb _ _ (c .before .before .before .before .before .before .before .before .before .before .before .before .before .if1 .left)) (c .before .before .before .before .before .before .before .before .before .before .before .if2 .left) (tables-are h e) p j (sym (c .before .before .before .before .before .before .before .first-open .ensures) ∙ c .before .before .before .before .before .found .given .1),
+          ∙ splits (a .n) (a .m) (a .budget) (h .sized) (a .sets .now) (h .sets) (stateOf (a .best .now) (a .tally .now)) (floor-is h (q .2)) (lt→nleb _ _ (c .before .before .before .before .before .before .before .before .before .before .before .before .before .if1 .left)) (lt→nleb _ _ (c .before .before .before .before .before .before .before .before .before .before .before .if2 .left)) (tables-are h e) p j (sym (c .before .before .before .before .before .before .before .first-open .ensures) ∙ c .before .before .before .before .before .found .given .1),
       c .split .ensures .2,
     )
 
