@@ -13,7 +13,7 @@ use Rattle.relation.specs.declared.Relation.{Relation}
 use Rattle.relation.specs.Source.{value}
 use Rattle.relation.specs.Tests.{ofSets, keep, agree, occurs, fits, free, freeWire, compatible, conflict, emptyPattern, isOne, openPairs}
 use Rattle.relation.specs.Handed.{relationOf, widePattern, checkOf}
-use Rattle.search.specs.Cases.{best, stopped, SearchReply}
+use Rattle.search.specs.Cases.{bestOutcome, stoppedOutcome, SearchReply}
 use Rattle.search.specs.Search.{tablesOf, total, pick, picks, floor, left, quick, start, split, expand, charge, treat, visit, searchPart, run}
 use Rattle.search.specs.TreeBoard.{tree}
 use Rattle.search.specs.Reply.{markOf, answerOf, refusedWith, afterCheck, searchOf}
@@ -22,17 +22,17 @@ use Rattle.sheet.proofs.Rows.{sheetA}
 use Rattle.stage.specs.Bytes.{treeBytes, wireBytes, stageBytes}
 use Rattle.stage.specs.Written.{stageTrees, stageOf, firstOut, writtenOf, bufferAfter}
 use Rattle.unit.specs.Formed.{formedOf}
-use Rattle.unit.specs.Present.{presentTable, presentCells}
+use Rattle.unit.specs.Present.{presentTable, presentTables, presentCells}
 use Rattle.unit.proofs.Rows as UnitRows
 use Rattle.unit.proofs.Rows.{limitedA}
-use Rattle.quote.specs.Quote.{refusedQuote, withStage, searched, quotedFrom, quotedOf, bufferSearched, bufferFrom, bufferQuoted}
+use Rattle.quote.specs.Quote.{refusedQuote, withStage, searched, quotedOf, bufferSearched, bufferQuoted}
 use Rattle.report.specs.Text.{digits, decimal, hexDigit, hexPair, furtherPairs, hexPairs}
 use Rattle.report.specs.Lines.{newline, named, countsOf, stageLine, resultLines, refusalLine, linesOf}
 use Rattle.dagmetzi.specs.Printed.{budget, printedOf}
 
 -- all that a search, a stage, a quote and the printed lines compute by
 unfoldable opened : ℕ
-unfolding UnitRows.opened bit all any sum ofBits row low high cells reduced suits nearer least orZero leastOf value ofSets keep agree occurs fits free freeWire compatible conflict emptyPattern isOne openPairs lowest relationOf widePattern checkOf tablesOf total pick picks floor left quick start split expand charge treat visit searchPart run tree markOf answerOf refusedWith afterCheck searchOf treeBytes wireBytes stageBytes stageTrees stageOf firstOut writtenOf bufferAfter presentTable presentCells withStage searched quotedFrom quotedOf bufferSearched bufferFrom bufferQuoted digits decimal hexDigit hexPair furtherPairs hexPairs named countsOf stageLine resultLines refusalLine linesOf printedOf
+unfolding UnitRows.opened bit all any sum ofBits row low high cells reduced suits nearer least orZero leastOf value ofSets keep agree occurs fits free freeWire compatible conflict emptyPattern isOne openPairs lowest relationOf widePattern checkOf tablesOf total pick picks floor left quick start split expand charge treat visit searchPart run tree markOf answerOf refusedWith afterCheck searchOf treeBytes wireBytes stageBytes stageTrees stageOf firstOut writtenOf bufferAfter presentTable presentTables presentCells withStage searched quotedOf bufferSearched bufferQuoted digits decimal hexDigit hexPair furtherPairs hexPairs named countsOf stageLine resultLines refusalLine linesOf printedOf
 opened = 0
 
 -- A as it is printed: "cells 2 floor 2 visits 0 best" and "20 02 02 21 00 22 01 24 23 21 01 22 02 23 24 2F"
@@ -66,11 +66,11 @@ pub record Starred : Type 0 where
   -- the cells of the present stage, by the tables that its own 02 commands tell
   pub a-present : presentCells (readingOf sheetA) ≡ 4
   -- B with a budget of 1, and B0 with none
-  pub b : Says (searchOf relationB 1) 3 3 1 best
-  pub b0 : Says (searchOf relationB 0) 3 2 0 stopped
+  pub b : Says (searchOf relationB 1) 3 3 1 bestOutcome
+  pub b0 : Says (searchOf relationB 0) 3 2 0 stoppedOutcome
   -- C with a budget of 2, and C1 with 1
-  pub c : Says (searchOf relationC 2) 0 0 2 best
-  pub c1 : Says (searchOf relationC 1) 1 0 1 stopped
+  pub c : Says (searchOf relationC 2) 0 0 2 bestOutcome
+  pub c1 : Says (searchOf relationC 1) 1 0 1 stoppedOutcome
   -- Tables: the cells of five functions of three inputs
   pub tables : (cells 3 0x00 ≡ 0) × (cells 3 0xAA ≡ 1) × (cells 3 0xF0 ≡ 1) × (cells 3 0xE8 ≡ 5) × (cells 3 0x96 ≡ 7)
   -- the empty sheet and the lone 00, with any buffer

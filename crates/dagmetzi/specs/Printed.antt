@@ -20,8 +20,8 @@ abbrev pub budget : ℕ
 budget = 10000
 
 -- the buffer that the program lends to the quote: room for the longest stage
-abbrev pub room : List ℕ
-room = replicate longestStage 0
+abbrev pub lent : List ℕ
+lent = replicate longestStage 0
 
 -- Document 01, "Refusals", 14: the program's own, told from the length alone
 abbrev pub isTooLong : List ℕ → Bool
@@ -33,12 +33,12 @@ tooLongLine whose = refusalLine whose tooLong longestSheet
 
 -- the reply of the quote to a sheet, in the numbers of its cases
 abbrev pub quoted : List ℕ → QuoteReply
-quoted sheet = quotedOf sheet budget (length room)
+quoted sheet = quotedOf sheet budget (length lent)
 
 -- the lines for a sheet
 unfoldable pub printedOf : List ℕ → List ℕ
 printedOf sheet =
-    let lines = linesOf (quoted sheet) (bufferQuoted sheet budget room) in
+    let lines = linesOf (quoted sheet) (bufferQuoted sheet budget lent) in
     cond (isTooLong sheet) (tooLongLine []) lines
 
 -- the line for a sheet and a stage

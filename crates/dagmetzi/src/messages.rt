@@ -8,7 +8,7 @@ ghost use Rattle.io.specs.Counts.{Counts};
 const LONGEST_LINE: usize = 4200;
 
 // A byte as it is shown. What would end the line or steer a terminal becomes a question mark, so that a name cannot pass for another message.
-fn shown(b: u8) -> u8 {
+fn visible(b: u8) -> u8 {
     if b < 0x20 {
         return b'?';
     }
@@ -29,7 +29,7 @@ fn add(line: &mut [u8], at: usize, text: &[u8]) -> usize
         if line.len() <= next {
             return next;
         }
-        line[next] = shown(text[i]);
+        line[next] = visible(text[i]);
         next += 1;
         i += 1;
     }

@@ -2,8 +2,8 @@
 use base::Refusal;
 use quote::Audited;
 use quote::Quoted;
-use report::LONGEST_STAGE;
 use search::Mark;
+use stage::LONGEST_STAGE;
 ghost use mathlib.Core.Path.{_≡_};
 ghost use Prim.Native.Nat.{_≤_};
 ghost use lib.ListN.{length};

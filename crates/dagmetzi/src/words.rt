@@ -7,13 +7,14 @@ use crate::replies::LONGEST_SHEET;
 use libc::STDIN_FILENO;
 use libc::STDOUT_FILENO;
 use report::LONGEST_REPORT;
+use stage::LONGEST_STAGE;
 
-// One byte more than the longest sheet is enough to tell one that is too long.
+// One byte more than the longest sheet is enough to tell one that is too long (proofs/Printing, `quote-front`, `audit-front`).
 const SHEET_ROOM: usize = LONGEST_SHEET + 1;
 
-// Of a stage's file the front is read. A stage has at most 196 bytes, and reading one looks at no byte past the 197th, so that the bytes left out change
-// nothing of the reply (`audit-front`).
-const STAGE_ROOM: usize = 4096;
+// Of a stage's file the front is read. Reading a stage looks at no byte past the one after the longest stage, so that the bytes left out change nothing of the
+// reply (proofs/Printing, `stage-front`).
+const STAGE_ROOM: usize = LONGEST_STAGE + 1;
 
 // Prints a reply.
 fn print(text: &[u8]) {

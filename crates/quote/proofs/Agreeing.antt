@@ -29,7 +29,7 @@ use Rattle.unit.specs.Formed.{relationIn, turnedAway, formedOf}
 use Rattle.unit.specs.Rival.{valueOn}
 use Rattle.unit.proofs.Forming.{formed-refused, formed-empty, formed-whole}
 use Rattle.unit.proofs.Rivals.{byWire, commands-only, rival-told, no-rival}
-use Rattle.quote.specs.Cases.{fits, differs}
+use Rattle.quote.specs.Cases.{fitsOutcome, differsOutcome}
 use Rattle.quote.specs.Audit.{keepsTo, sizesApart, auditedStage, auditedFrom, auditedOf}
 use Rattle.quote.specs.Promised.{Accepted as Quotes, RivalStage}
 use Rattle.quote.specs.Quote.{quotedOf, bufferQuoted}
@@ -37,14 +37,14 @@ use Rattle.quote.proofs.Auditing.{ordered-at}
 use Rattle.quote.proofs.Demand.{promised}
 
 -- another outcome than yes
-never : {A : Type 0} {c : Case} {k : ℕ} → c ≡ accepting fits k → (c .outcome ≡ fits → ⊥) → A
+never : {A : Type 0} {c : Case} {k : ℕ} → c ≡ accepting fitsOutcome k → (c .outcome ≡ fitsOutcome → ⊥) → A
 never e h = absurd (h (ap (λ (x : Case). x .outcome) e))
 
 module _ (sheet stage : List ℕ) (c : ℕ) where
   -- no sheet, no yes
-  turned : (f : Refusal) → formedOf sheet ≡ turnedAway f → auditedOf sheet stage ≡ accepting fits c → ⊥
+  turned : (f : Refusal) → formedOf sheet ≡ turnedAway f → auditedOf sheet stage ≡ accepting fitsOutcome c → ⊥
   unfolding auditedOf auditedFrom
-  turned f e h = let z : refusing refusedOutcome f ≡ accepting fits c = rw e at h in never z (λ o. omega arith)
+  turned f e h = let z : refusing refusedOutcome f ≡ accepting fitsOutcome c = rw e at h in never z (λ o. omega arith)
 
   -- a sheet whose relation has no empty pattern
   module _ (cs : List Command) (e : readingOf sheet ≡ holds cs) (w : formedOf sheet ≡ record { relation = relationIn cs; answer = acceptedCase }) where
@@ -74,7 +74,7 @@ module _ (sheet stage : List ℕ) (c : ℕ) where
         all-intro (2 ^ inputsOf cs) (λ p. relationOf (relationIn cs) p (valueOn (inputsOf cs) trees p))
         (λ p l. subst (λ k. T (relationOf (relationIn cs) p (ofBits k (λ j. follow (inputsOf cs) p (byWire trees j))))) (sym el) (f .allowed p l))
 
-    yes-rival : (s : StageSheet) → readStage stage ≡ s → auditedStage (relationIn cs) s ≡ accepting fits c → RivalStage sheet stage c
+    yes-rival : (s : StageSheet) → readStage stage ≡ s → auditedStage (relationIn cs) s ≡ accepting fitsOutcome c → RivalStage sheet stage c
     unfolding auditedStage relationIn
     yes-rival (refused f) d h = never h (λ o. omega arith)
     yes-rival (got n m trees) d h =
@@ -88,7 +88,7 @@ module _ (sheet stage : List ℕ) (c : ℕ) where
         let f = kept-family m trees d′ em k in
         let r = rival-told sheet cs e trees .1 f in
         let ec = commands-only sheet (r .commands) cs (r .held) e in
-        let counted : accepting fits (size trees) ≡ accepting fits c =
+        let counted : accepting fitsOutcome (size trees) ≡ accepting fitsOutcome c =
         rw (test-yes (eqb n (inputsOf cs) && eqb m (wiresOf cs)) t, test-yes (keepsTo (relationIn cs) trees) k) at h in
         record {
           trees = trees;
@@ -97,12 +97,12 @@ module _ (sheet stage : List ℕ) (c : ℕ) where
           counted = ap (λ (x : Case). x .value) counted;
         })
         (λ k.
-        let z : accepting differs (size trees) ≡ accepting fits c = rw (test-yes (eqb n (inputsOf cs) && eqb m (wiresOf cs)) t, test-no (keepsTo (relationIn cs) trees) k) at h in never z (λ o. omega arith))
+        let z : accepting differsOutcome (size trees) ≡ accepting fitsOutcome c = rw (test-yes (eqb n (inputsOf cs) && eqb m (wiresOf cs)) t, test-no (keepsTo (relationIn cs) trees) k) at h in never z (λ o. omega arith))
         (decide (keepsTo (relationIn cs) trees)))
-        (λ t. let z : sizesApart ≡ accepting fits c = rw (test-no (eqb n (inputsOf cs) && eqb m (wiresOf cs)) t) at h in never z (λ o. omega arith))
+        (λ t. let z : sizesApart ≡ accepting fitsOutcome c = rw (test-no (eqb n (inputsOf cs) && eqb m (wiresOf cs)) t) at h in never z (λ o. omega arith))
         (decide (eqb n (inputsOf cs) && eqb m (wiresOf cs)))
 
-    rival-yes : RivalStage sheet stage c → auditedStage (relationIn cs) (readStage stage) ≡ accepting fits c
+    rival-yes : RivalStage sheet stage c → auditedStage (relationIn cs) (readStage stage) ≡ accepting fitsOutcome c
     unfolding auditedStage relationIn
     rival-yes y =
         let ec = commands-only sheet (y .rival .commands) cs (y .rival .held) e in
@@ -116,13 +116,13 @@ module _ (sheet stage : List ℕ) (c : ℕ) where
           y .counted,
         )
 
-  pub audit-yes : (auditedOf sheet stage ≡ accepting fits c) ↔ RivalStage sheet stage c
+  pub audit-yes : (auditedOf sheet stage ≡ accepting fitsOutcome c) ↔ RivalStage sheet stage c
   audit-yes = go (readingOf sheet) refl
     where
       unread-not : (f : Refusal) → readingOf sheet ≡ unread f → RivalStage sheet stage c → ⊥
       unread-not f e y = let d : holds (y .rival .commands) ≡ unread f = sym (y .rival .held) ∙ e in let z : _≡_ {A = ℕ} 0 1 = cc in omega arith
 
-      go : (x : Reading) → readingOf sheet ≡ x → (auditedOf sheet stage ≡ accepting fits c) ↔ RivalStage sheet stage c
+      go : (x : Reading) → readingOf sheet ≡ x → (auditedOf sheet stage ≡ accepting fitsOutcome c) ↔ RivalStage sheet stage c
       go (unread f) e = (λ h. absurd (turned f (formed-refused sheet f e) h), λ y. absurd (unread-not f e y))
       go (holds cs) e =
           let q = emptyPattern (inputsOf cs) (wiresOf cs) (unitRelation cs) in
@@ -141,7 +141,7 @@ module _ (sheet stage : List ℕ) (c : ℕ) where
 
 -- auditing a quote's own stage says yes with the cells quoted
 pub own-audit : (sheet : List ℕ) (budget : ℕ) (buffer : List ℕ) → Quotes (quotedOf sheet budget (length buffer))
-    → auditedOf sheet (take (quotedOf sheet budget (length buffer) .length) (bufferQuoted sheet budget buffer)) ≡ accepting fits (quotedOf sheet budget (length buffer) .cells)
+    → auditedOf sheet (take (quotedOf sheet budget (length buffer) .length) (bufferQuoted sheet budget buffer)) ≡ accepting fitsOutcome (quotedOf sheet budget (length buffer) .cells)
 own-audit sheet budget buffer a =
     audit-yes sheet (take (quotedOf sheet budget (length buffer) .length) (bufferQuoted sheet budget buffer)) (quotedOf sheet budget (length buffer) .cells) .1
     (promised sheet budget buffer .own a)

@@ -34,7 +34,7 @@ use Rattle.unit.specs.declared.Formed.{Formed}
 use Rattle.unit.specs.Cases.{formedReply}
 use Rattle.unit.specs.Formed.{formedOf}
 use Rattle.unit.specs.Rival.{valueOn}
-use Rattle.quote.specs.Cases.{fits, differs}
+use Rattle.quote.specs.Cases.{fitsOutcome, differsOutcome}
 use Rattle.quote.specs.Audit.{keepsTo, sizesApart, auditedStage, auditedFrom, auditedOf}
 use Rattle.unit.proofs.Rivals.{byWire}
 
@@ -104,14 +104,14 @@ module _ (r : Relation) (bytes : List ℕ) (rd : StageRead) (e : stageReply rd �
     few-inputs = accepted bytes (rd .n) (rd .m) (g .trees) (g .is) .sizes .n-most
 
     pub tested : rd .n ≡ r .n → rd .m ≡ r .m → (b : Bool) → b ≡ all (2 ^ rd .n) (λ p. ofSets (r .sets) p (value 4 (wires (rd .tables)) p))
-        → cond b (accepting fits (rd .cells)) (accepting differs (rd .cells)) ≡ auditedStage r (readStage bytes)
+        → cond b (accepting fitsOutcome (rd .cells)) (accepting differsOutcome (rd .cells)) ≡ auditedStage r (readStage bytes)
     unfolding auditedStage
     tested en em b eb =
         let is : readStage bytes ≡ got (r .n) (rd .m) (g .trees) = g .is ∙ ap (λ n. got n (rd .m) (g .trees)) en in
         let et : rd .tables ≡ tablesOf (r .n) (g .trees) = g .tables ∙ ap (λ n. tablesOf n (g .trees)) en in
         let k : b ≡ keepsTo r (g .trees) =
         eb ∙ ap₂ (λ n ts. all (2 ^ n) (λ p. ofSets (r .sets) p (value 4 (wires ts) p))) en et ∙ keeps-is r bytes (rd .m) (g .trees) is in
-        ap (λ c. cond b (accepting fits c) (accepting differs c)) (g .cells) ∙ rw (is, eq-eqb (r .n) (r .n) refl, eq-eqb (rd .m) (r .m) em, ← k)
+        ap (λ c. cond b (accepting fitsOutcome c) (accepting differsOutcome c)) (g .cells) ∙ rw (is, eq-eqb (r .n) (r .n) refl, eq-eqb (rd .m) (r .m) em, ← k)
 
 -- the whole audit, from what forming the relation gave
 module _ (sheet stage : List ℕ) (f : Formed) (ef : formedReply f ≡ formedOf sheet) where

@@ -4,3 +4,4 @@ pub mod Demand
 pub mod Quoting
 pub mod Auditing
 pub mod Agreeing
+pub mod Cases

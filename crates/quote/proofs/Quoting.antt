@@ -20,7 +20,7 @@ use Rattle.unit.specs.declared.Formed.{Formed}
 use Rattle.unit.specs.Cases.{formedReply}
 use Rattle.unit.specs.Formed.{formedOf}
 use Rattle.quote.specs.Cases.{QuoteReply}
-use Rattle.quote.specs.Quote.{refusedQuote, withStage, searched, bufferSearched, quotedFrom, quotedOf, bufferFrom, bufferQuoted}
+use Rattle.quote.specs.Quote.{refusedQuote, withStage, searched, bufferSearched, quotedOf, bufferQuoted}
 use Rattle.quote.specs.Promised.{Promised}
 use Rattle.quote.proofs.Demand.{promised}
 
@@ -58,9 +58,9 @@ module _ (sheet : List ℕ) (budget : ℕ) (buffer : List ℕ) (f : Formed) (ef 
 
   pub formed-quote : {q : QuoteReply} {b : List ℕ} → f .answer ≡ Accepted → q ≡ searched (f .relation) budget (length buffer)
       → b ≡ bufferSearched (f .relation) budget buffer → Kept q b
-  unfolding quotedOf quotedFrom bufferQuoted bufferFrom
+  unfolding quotedOf bufferQuoted
   formed-quote h eq eb = clauses (eq ∙ rw (← ef, h)) (eb ∙ rw (← ef, h))
 
   pub turned-quote : {q : QuoteReply} (g : Refusal) → f .answer ≡ SheetRefused g → q ≡ refusedQuote g → Kept q buffer
-  unfolding quotedOf quotedFrom bufferQuoted bufferFrom
+  unfolding quotedOf bufferQuoted
   turned-quote g h eq = clauses (eq ∙ rw (← ef, h)) (rw (← ef, h))

@@ -14,7 +14,7 @@ use Rattle.stage.specs.Read.{StageSheet, got, refused, readStage}
 use Rattle.unit.specs.Cases.{FormedReply}
 use Rattle.unit.specs.Formed.{formedOf}
 use Rattle.unit.specs.Rival.{valueOn}
-use Rattle.quote.specs.Cases.{fits, differs}
+use Rattle.quote.specs.Cases.{fitsOutcome, differsOutcome}
 
 -- the value that the trees reach is allowed on every pattern
 unfoldable pub keepsTo : Relation → List Tree → Bool
@@ -27,7 +27,7 @@ sizesApart = refusing secondRefusedOutcome (refusalAt sizesDiffer 0)
 unfoldable pub auditedStage : Relation → StageSheet → Case
 auditedStage r (refused f) = refusing secondRefusedOutcome f
 auditedStage r (got n m trees) =
-    cond (eqb n (r .n) && eqb m (r .m)) (cond (keepsTo r trees) (accepting fits (size trees)) (accepting differs (size trees))) sizesApart
+    cond (eqb n (r .n) && eqb m (r .m)) (cond (keepsTo r trees) (accepting fitsOutcome (size trees)) (accepting differsOutcome (size trees))) sizesApart
 
 unfoldable pub auditedFrom : FormedReply → List ℕ → Case
 auditedFrom f stage =

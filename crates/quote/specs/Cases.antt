@@ -7,16 +7,16 @@ use Rattle.quote.specs.declared.Audited.the-variants.{Fits, Differs, She
 use Rattle.quote.specs.declared.Quoted.{Quoted}
 
 -- the two outcomes of an audit that refuses nothing
-abbrev pub fits : ℕ
-fits = 0
+abbrev pub fitsOutcome : ℕ
+fitsOutcome = 0
 
-abbrev pub differs : ℕ
-differs = 1
+abbrev pub differsOutcome : ℕ
+differsOutcome = 1
 
 -- the value of a stage that was judged is its cells; the unit sheet is the first of the two handed in
 abbrev pub auditedCase : Audited → Case
-auditedCase (Fits c) = accepting fits c
-auditedCase (Differs c) = accepting differs c
+auditedCase (Fits c) = accepting fitsOutcome c
+auditedCase (Differs c) = accepting differsOutcome c
 auditedCase (SheetRefused f) = refusing refusedOutcome f
 auditedCase (StageRefused f) = refusing secondRefusedOutcome f
 

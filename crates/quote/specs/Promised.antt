@@ -7,7 +7,7 @@ use mathlib.Core.List.{List}
 use lib.ListN.{take}
 use Rattle.base.specs.Refusals.{empty}
 use Rattle.table.specs.Tree.{Tree}
-use Rattle.search.specs.Cases as Marks
+use Rattle.search.specs.Cases.{bestOutcome, stoppedOutcome}
 use Rattle.sheet.specs.declared.Command.{Command}
 use Rattle.sheet.specs.Commands.{inputsOf, wiresOf}
 use Rattle.sheet.specs.Reading.{holds, readingOf}
@@ -18,10 +18,10 @@ use Rattle.quote.specs.Cases.{QuoteReply}
 
 -- the quote is marked best, or stopped; it has a stage
 abbrev pub IsBest : QuoteReply → Type 0
-IsBest r = r .mark .outcome ≡ Marks.best
+IsBest r = r .mark .outcome ≡ bestOutcome
 
 abbrev pub IsStopped : QuoteReply → Type 0
-IsStopped r = r .mark .outcome ≡ Marks.stopped
+IsStopped r = r .mark .outcome ≡ stoppedOutcome
 
 abbrev pub Accepted : QuoteReply → Type 0
 Accepted r = IsBest r ⊎ IsStopped r

@@ -8,7 +8,6 @@ use Rattle.relation.specs.declared.Relation.{Relation}
 use Rattle.search.specs.Cases.{SearchReply}
 use Rattle.search.specs.Reply.{searchOf}
 use Rattle.stage.specs.Written.{writtenOf, bufferAfter}
-use Rattle.unit.specs.Cases.{FormedReply}
 use Rattle.unit.specs.Formed.{formedOf}
 use Rattle.quote.specs.Cases.{QuoteReply}
 
@@ -32,14 +31,12 @@ searched r budget room =
     let q = withStage a (writtenOf (r .n) (r .m) (a .tables) room) in
     cond (isRefused (a .mark)) (noQuote (a .mark)) q
 
-unfoldable pub quotedFrom : FormedReply → ℕ → ℕ → QuoteReply
-quotedFrom f budget room =
-    let q = searched (f .relation) budget room in
-    cond (isRefused (f .answer)) (noQuote (f .answer)) q
-
 -- the reply to the bytes of a sheet, a budget, and a buffer of so many bytes
 unfoldable pub quotedOf : List ℕ → ℕ → ℕ → QuoteReply
-quotedOf sheet budget room = quotedFrom (formedOf sheet) budget room
+quotedOf sheet budget room =
+    let f = formedOf sheet in
+    let q = searched (f .relation) budget room in
+    cond (isRefused (f .answer)) (noQuote (f .answer)) q
 
 -- the buffer after the search of a relation: a refusal leaves it as it was
 unfoldable pub bufferSearched : Relation → ℕ → List ℕ → List ℕ
@@ -48,11 +45,9 @@ bufferSearched r budget buffer =
     let after = bufferAfter (r .n) (r .m) (a .tables) buffer in
     cond (isRefused (a .mark)) buffer after
 
-unfoldable pub bufferFrom : FormedReply → ℕ → List ℕ → List ℕ
-bufferFrom f budget buffer =
-    let after = bufferSearched (f .relation) budget buffer in
-    cond (isRefused (f .answer)) buffer after
-
 -- what the lent buffer holds after the quote
 unfoldable pub bufferQuoted : List ℕ → ℕ → List ℕ → List ℕ
-bufferQuoted sheet budget buffer = bufferFrom (formedOf sheet) budget buffer
+bufferQuoted sheet budget buffer =
+    let f = formedOf sheet in
+    let after = bufferSearched (f .relation) budget buffer in
+    cond (isRefused (f .answer)) buffer after

@@ -4,8 +4,8 @@ use mathlib.Core.Path.{_≡_, refl}
 use mathlib.Core.List.{List, [], _∷_, _++_}
 use Rattle.base.specs.Cases.{accepting, refusing, refusedOutcome, secondRefusedOutcome, refusedCase}
 use Rattle.base.specs.Refusals.{refusalAt, empty, sizesDiffer, tooLong}
-use Rattle.search.specs.Cases.{stopped}
-use Rattle.quote.specs.Cases.{fits, differs}
+use Rattle.search.specs.Cases.{stoppedOutcome}
+use Rattle.quote.specs.Cases.{fitsOutcome, differsOutcome}
 use Rattle.report.specs.Text.{digits, decimal, hexDigit, hexPair, furtherPairs, hexPairs}
 use Rattle.report.specs.Lines.{newline, cellsText, fitsText, differsText, sheetText, stageText, refusedText, atText, named, countsOf, stageLine, resultLines, refusalLine, linesOf, judgedLine, auditLine}
 
@@ -32,7 +32,7 @@ unfolding printing
 decimal-most = refl
 
 -- "cells 2 floor 1 visits 0 stopped" and "20 2F": bytes of the buffer past the length are not shown
-pub stopped-lines : linesOf (record { cells = 2; floor = 1; visits = 0; length = 2; mark = accepting stopped 0 }) (0x20 ∷ 0x2F ∷ 0x7A ∷ [])
+pub stopped-lines : linesOf (record { cells = 2; floor = 1; visits = 0; length = 2; mark = accepting stoppedOutcome 0 }) (0x20 ∷ 0x2F ∷ 0x7A ∷ [])
     ≡ 0x63 ∷ 0x65 ∷ 0x6C ∷ 0x6C ∷ 0x73 ∷ 0x20 ∷ 0x32 ∷ 0x20 ∷ 0x66 ∷ 0x6C ∷ 0x6F ∷ 0x6F ∷ 0x72 ∷ 0x20 ∷ 0x31 ∷ 0x20 ∷ 0x76 ∷ 0x69 ∷ 0x73 ∷ 0x69 ∷ 0x74 ∷ 0x73 ∷ 0x20 ∷ 0x30 ∷ 0x20
     ∷ 0x73 ∷ 0x74 ∷ 0x6F ∷ 0x70 ∷ 0x70 ∷ 0x65 ∷ 0x64 ∷ newline ∷ 0x32 ∷ 0x30 ∷ 0x20 ∷ 0x32 ∷ 0x46 ∷ newline ∷ []
 unfolding printing
@@ -45,11 +45,11 @@ unfolding printing
 refused-10 stage = refl
 
 -- "fits cells 2", "differs cells 60"
-pub fits-2 : auditLine (accepting fits 2) ≡ fitsText ++ cellsText ++ 0x32 ∷ newline ∷ []
+pub fits-2 : auditLine (accepting fitsOutcome 2) ≡ fitsText ++ cellsText ++ 0x32 ∷ newline ∷ []
 unfolding printing
 fits-2 = refl
 
-pub differs-60 : auditLine (accepting differs 60) ≡ differsText ++ cellsText ++ 0x36 ∷ 0x30 ∷ newline ∷ []
+pub differs-60 : auditLine (accepting differsOutcome 60) ≡ differsText ++ cellsText ++ 0x36 ∷ 0x30 ∷ newline ∷ []
 unfolding printing
 differs-60 = refl
 

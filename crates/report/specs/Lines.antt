@@ -5,9 +5,9 @@ use mathlib.Core.List.{List, [], _∷_, _++_}
 use lib.Dec.{eqb}
 use lib.ListN.{take}
 use Rattle.base.specs.Cases.{Case, refusedOutcome, isRefused}
-use Rattle.search.specs.Cases.{best}
+use Rattle.search.specs.Cases.{bestOutcome}
 use Rattle.stage.specs.Bytes.{longestStage}
-use Rattle.quote.specs.Cases.{QuoteReply, fits}
+use Rattle.quote.specs.Cases.{QuoteReply, fitsOutcome}
 use Rattle.report.specs.Text.{decimal, hexPairs}
 
 -- the end of a line
@@ -79,7 +79,7 @@ refusalLine whose number place = whose ++ named refusedText number ++ named atTe
 -- what the program prints for a reply of the quote and the bytes of the buffer that was lent to it
 unfoldable pub linesOf : QuoteReply → List ℕ → List ℕ
 linesOf q stage =
-    let word = cond (eqb (q .mark .outcome) best) bestText stoppedText in
+    let word = cond (eqb (q .mark .outcome) bestOutcome) bestText stoppedText in
     cond (isRefused (q .mark)) (refusalLine [] (q .mark .number) (q .mark .place)) (resultLines word q stage)
 
 -- the line of a stage that was judged, with the word of the judgement
@@ -89,7 +89,7 @@ judgedLine word cells = word ++ named cellsText cells ++ newline ∷ []
 -- what the program prints for a reply of the audit: "fits cells C", "differs cells C", "sheet refused N at P" or "stage refused N at P"
 unfoldable pub auditLine : Case → List ℕ
 auditLine c =
-    let word = cond (eqb (c .outcome) fits) fitsText differsText in
+    let word = cond (eqb (c .outcome) fitsOutcome) fitsText differsText in
     let whose = cond (eqb (c .outcome) refusedOutcome) sheetText stageText in
     cond (isRefused c) (refusalLine whose (c .number) (c .place)) (judgedLine word (c .value))
 

@@ -16,9 +16,7 @@ ghost use Rattle.report.specs.Lines.{longestReport, linesOf, auditLine};
 pub mod text; // numbers and bytes as text
 mod parts; // what the lines are made of
 
-// A stage has at most so many bytes, and the lines of a report at most so many.
-pub const LONGEST_STAGE: usize = 196;
-
+// The lines of a report have at most so many bytes.
 pub const LONGEST_REPORT: usize = 700;
 
 // The lines for a reply of the quote and the bytes that it wrote its stage to.

@@ -1,12 +1,12 @@
 // The parts of which the program's lines are made, put into a lent buffer, each with the place after it.
 // Inner functions: the two reports meet what they require, bounds on places and lengths that are there for the sums alone.
-use crate::LONGEST_STAGE;
 use crate::text::put_byte;
 use crate::text::put_decimal;
 use crate::text::put_hex_pairs;
 use crate::text::put_text;
 use base::Refusal;
 use quote::Quoted;
+use stage::LONGEST_STAGE;
 ghost use mathlib.Core.Path.{_≡_};
 ghost use Prim.Native.Nat.{_+_, _≤_, min};
 ghost use lib.ListN.{length};
@@ -35,7 +35,7 @@ fn put_counts(out: &mut [u8], q: Quoted) -> usize
 
 // The number of bytes that are shown of a stage of `k` bytes.
 fn shown(k: usize) -> usize
-    ensures { λ r. ⌜ (r ≡ min longestStage k) × (r ≤ 196) ⌝ }
+    ensures { λ r. ⌜ (r ≡ min longestStage k) × (r ≤ longestStage) ⌝ }
 {
     if k < LONGEST_STAGE { k } else { LONGEST_STAGE }
 }

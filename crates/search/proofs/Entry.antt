@@ -14,7 +14,7 @@ use Rattle.relation.specs.Handed.{relationOf, checkOf}
 use Rattle.relation.proofs.Sets.{Fit, check-well-formed, cleared-takes, cleared-narrow}
 use Rattle.search.specs.declared.Part.{Part}
 use Rattle.search.specs.declared.State.{State}
-use Rattle.search.specs.Cases.{best, stopped, SearchReply}
+use Rattle.search.specs.Cases.{bestOutcome, stoppedOutcome, SearchReply}
 use Rattle.search.specs.Search.{floor, start, searchPart, run}
 use Rattle.search.specs.TreeBoard.{tree}
 use Rattle.search.specs.Reply.{markOf, answerOf, refusedWith, afterCheck, searchOf}
@@ -37,12 +37,12 @@ unfolding run
 ran n m budget R st s est e = e ∙ ap (searchPart (tree n m) budget R) (started n m R st est)
 
 pub stopped-answer : (n m : ℕ) (R : Rel) (s t : State) (f : ℕ) → s ≡ t → s .stopped ≡ true → f ≡ floor (tree n m) R
-    → _≡_ {A = SearchReply} (record { tables = s .tables; cells = s .cells; floor = f; visits = s .visits; mark = accepting stopped 0 }) (answerOf n m R t)
+    → _≡_ {A = SearchReply} (record { tables = s .tables; cells = s .cells; floor = f; visits = s .visits; mark = accepting stoppedOutcome 0 }) (answerOf n m R t)
 unfolding answerOf markOf
 stopped-answer n m R s t f e h ef = rw (← e, h, ef)
 
 pub best-answer : (n m : ℕ) (R : Rel) (s t : State) → s ≡ t → s .stopped ≡ false
-    → _≡_ {A = SearchReply} (record { tables = s .tables; cells = s .cells; floor = s .cells; visits = s .visits; mark = accepting best 0 }) (answerOf n m R t)
+    → _≡_ {A = SearchReply} (record { tables = s .tables; cells = s .cells; floor = s .cells; visits = s .visits; mark = accepting bestOutcome 0 }) (answerOf n m R t)
 unfolding answerOf markOf
 best-answer n m R s t e h = rw (← e, h)
 

@@ -11,3 +11,4 @@ pub mod Branching
 pub mod Changes
 pub mod FirstAnswer
 pub mod Entry
+pub mod Cases

@@ -7,16 +7,16 @@ use Rattle.search.specs.declared.Mark.the-variants.{Best, Stopped, Refus
 use Rattle.search.specs.declared.Answer.{Answer}
 
 -- the two outcomes of a search that refuses nothing
-abbrev pub best : ℕ
-best = 0
+abbrev pub bestOutcome : ℕ
+bestOutcome = 0
 
-abbrev pub stopped : ℕ
-stopped = 1
+abbrev pub stoppedOutcome : ℕ
+stoppedOutcome = 1
 
 -- the cells, the floor and the visits stand beside the mark
 abbrev pub markCase : Mark → Case
-markCase Best = accepting best 0
-markCase Stopped = accepting stopped 0
+markCase Best = accepting bestOutcome 0
+markCase Stopped = accepting stoppedOutcome 0
 markCase (Refused f) = refusedCase f
 
 pub record SearchReply : Type 0 where

@@ -8,14 +8,14 @@ use Rattle.relation.specs.declared.Relation.{Relation}
 use Rattle.relation.specs.Source.{Rel}
 use Rattle.relation.specs.Handed.{relationOf, checkOf}
 use Rattle.search.specs.declared.State.{State}
-use Rattle.search.specs.Cases.{best, stopped, SearchReply}
+use Rattle.search.specs.Cases.{bestOutcome, stoppedOutcome, SearchReply}
 use Rattle.search.specs.Search.{floor, run}
 use Rattle.search.specs.TreeBoard.{tree}
 
 -- a search that left a part is stopped, any other is best
 unfoldable pub markOf : Bool → Case
-markOf true = accepting stopped 0
-markOf false = accepting best 0
+markOf true = accepting stoppedOutcome 0
+markOf false = accepting bestOutcome 0
 
 -- the floor is the relation's own where the search was stopped; else it is the cells found
 unfoldable pub answerOf : ℕ → ℕ → Rel → State → SearchReply

@@ -19,3 +19,4 @@ pub mod Enough
 pub mod Rows
 pub mod Order
 pub mod Numbers
+pub mod Cases

@@ -11,7 +11,7 @@ use Rattle.sheet.specs.declared.Sheet.{Sheet}
 use Rattle.sheet.specs.Cases.{answerCase, SheetReply, sheetReply}
 use Rattle.sheet.specs.Gathered.{gathered}
 use Rattle.sheet.specs.Reading.{Reading, holds, refused, replyTold}
-use Rattle.sheet.specs.Turn.{replyOf}
+use Rattle.sheet.specs.Turn.{loopReply}
 
 -- an accepted sheet holds commands, and is what they say
 pub record Holding (x : Reading) (sheet : Sheet) : Type 0 where
@@ -20,8 +20,8 @@ pub record Holding (x : Reading) (sheet : Sheet) : Type 0 where
   pub sheet-is : sheet ≡ gathered commands
 
 -- the loop's reply is the written one
-pub reply-told : (x : Reading) → sheetReply (replyOf x) ≡ replyTold x
-unfolding replyOf replyTold
+pub reply-told : (x : Reading) → sheetReply (loopReply x) ≡ replyTold x
+unfolding loopReply replyTold
 reply-told (holds cs) = refl
 reply-told (refused f) = refl
 

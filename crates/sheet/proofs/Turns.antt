@@ -25,34 +25,34 @@ use Rattle.sheet.specs.Cases.{sheetReply}
 use Rattle.sheet.specs.Gathered.{gathered}
 use Rattle.sheet.specs.Reader.{readerAt, movedPast, nextOf}
 use Rattle.sheet.specs.Reading.{Reading, holds, refused, judged, ending, isEnd, Passage, over, on, onward, afterStep, oneCommand, continued, readingFrom, readingOf}
-use Rattle.sheet.specs.Turn.{doneWith, turnOf, replyOf}
+use Rattle.sheet.specs.Turn.{doneWith, turnOf, loopReply}
 use Rattle.sheet.proofs.Fields.{nothing}
 use Rattle.sheet.proofs.Replies.{reply-told, refused-reply}
 use Rattle.sheet.proofs.Steps.{twice, HandedBack, reader-moved, inputs-fit}
 use Rattle.sheet.proofs.Passages.{Grown, grown, JudgedTells, judged-tells, PassageTells, passage-tells}
 
 -- an accepted command is one more
-accepted-holds : (before : List Command) (c : Command) (x : Reading) → JudgedTells before c x → replyOf x .answer ≡ Accepted → x ≡ holds (before ++ c ∷ [])
-unfolding replyOf
+accepted-holds : (before : List Command) (c : Command) (x : Reading) → JudgedTells before c x → loopReply x .answer ≡ Accepted → x ≡ holds (before ++ c ∷ [])
+unfolding loopReply
 accepted-holds before c (holds cs) t e = ap holds (t .0)
 accepted-holds before c (refused f) t e = let z : _≡_ {A = ℕ} 0 1 = cc in absurd (omega arith)
 
 abbrev made : Sheet → State → Turn
 made sheet state = record { sheet = sheet; state = state }
 
-nothing-gathered : (f : Refusal) → made (replyOf (refused f) .sheet) (Done (Refused f)) ≡ turnOf (over (refused f))
-unfolding replyOf
+nothing-gathered : (f : Refusal) → made (loopReply (refused f) .sheet) (Done (Refused f)) ≡ turnOf (over (refused f))
+unfolding loopReply
 nothing-gathered f = refl
 
-module _ (before : List Command) (c : Command) (at : ℕ) (h : Reply) (e : h ≡ replyOf (judged before c at)) (s : List ℕ) where
+module _ (before : List Command) (c : Command) (at : ℕ) (h : Reply) (e : h ≡ loopReply (judged before c at)) (s : List ℕ) where
   pub accepted-is : h .answer ≡ Accepted → judged before c at ≡ holds (before ++ c ∷ [])
   accepted-is f = accepted-holds before c (judged before c at) (judged-tells before c at) (sym (ap (λ (x : Reply). x .answer) e) ∙ f)
 
   pub accepted-sheet : h .answer ≡ Accepted → h .sheet ≡ gathered (before ++ c ∷ [])
-  unfolding replyOf
-  accepted-sheet f = ap (λ (x : Reply). x .sheet) (e ∙ ap replyOf (accepted-is f))
+  unfolding loopReply
+  accepted-sheet f = ap (λ (x : Reply). x .sheet) (e ∙ ap loopReply (accepted-is f))
 
-  pub follow-end : (to : ℕ) → h .answer ≡ Accepted → isEnd c ≡ true → doneWith (replyOf (ending s to (before ++ c ∷ []))) ≡ turnOf (onward s c to (judged before c at))
+  pub follow-end : (to : ℕ) → h .answer ≡ Accepted → isEnd c ≡ true → doneWith (loopReply (ending s to (before ++ c ∷ []))) ≡ turnOf (onward s c to (judged before c at))
   follow-end to f g = rw (accepted-is f, g)
 
   pub follow-on : (t : Reader) → t ≡ readerAt (t .at) (before ++ c ∷ []) → h .answer ≡ Accepted → isEnd c ≡ false
@@ -127,10 +127,10 @@ module _ (s : List ℕ) (before : List Command) (at k : ℕ) (h : inputsOf befor
       on-same : {a b : Reader} → On a ≡ On b → a ≡ b
       on-same e = cc
 
-  stopped : (x : Passage) (a : Answer) → continued (readingFrom k s) x ≡ readingOf s → t ≡ turnOf x → t .state ≡ Done a → record { sheet = t .sheet; answer = a } ≡ replyOf (readingOf s)
+  stopped : (x : Passage) (a : Answer) → continued (readingFrom k s) x ≡ readingOf s → t ≡ turnOf x → t .state ≡ Done a → record { sheet = t .sheet; answer = a } ≡ loopReply (readingOf s)
   stopped (over y) a f e q =
-      let answered : a ≡ replyOf y .answer = done-same (sym q ∙ ap (λ (x : Turn). x .state) e) in
-      ap (λ (x : Sheet). reply x a) (ap (λ (x : Turn). x .sheet) e) ∙ ap (λ (x : Answer). reply (replyOf y .sheet) x) answered ∙ ap replyOf f
+      let answered : a ≡ loopReply y .answer = done-same (sym q ∙ ap (λ (x : Turn). x .state) e) in
+      ap (λ (x : Sheet). reply x a) (ap (λ (x : Turn). x .sheet) e) ∙ ap (λ (x : Answer). reply (loopReply y .sheet) x) answered ∙ ap loopReply f
     where
       done-same : {a b : Answer} → Done a ≡ Done b → a ≡ b
       done-same e = cc
@@ -156,10 +156,10 @@ module _ (s : List ℕ) (sheet : Sheet) (reader : Reader) (n i : ℕ) (g : Going
       (passage-tells s (reader .at) (g .before)) (unfolded l) e q
 
   pub stops : (t : Turn) (a : Answer) → i < n → t ≡ turnOf (oneCommand s (reader .at) (g .before)) → t .state ≡ Done a
-      → record { sheet = t .sheet; answer = a } ≡ replyOf (readingOf s)
+      → record { sheet = t .sheet; answer = a } ≡ loopReply (readingOf s)
   stops t a l e q =
       stopped s (g .before) (reader .at) (n - (i + 1)) small-before t (oneCommand s (reader .at) (g .before)) a (unfolded l) e q
 
-  pub ends : n ≤ i → replyOf (refused (refusalAt cutShort (reader .at))) ≡ replyOf (readingOf s)
+  pub ends : n ≤ i → loopReply (refused (refusalAt cutShort (reader .at))) ≡ loopReply (readingOf s)
   unfolding readingFrom
-  ends l = let k : n - i ≡ 0 = omega arith in ap replyOf (rw k at (g .rest))
+  ends l = let k : n - i ≡ 0 = omega arith in ap loopReply (rw k at (g .rest))

@@ -28,18 +28,18 @@ patternOf (Output s) = 0
 patternOf (Limit p w) = p
 
 -- a reading as the loop ends with it
-abbrev pub accepted : Sheet → Reply
-accepted sheet = record { sheet = sheet; answer = Accepted }
+abbrev pub acceptedReply : Sheet → Reply
+acceptedReply sheet = record { sheet = sheet; answer = Accepted }
 
-unfoldable pub replyOf : Reading → Reply
-replyOf (holds cs) = accepted (gathered cs)
-replyOf (refused f) = record { sheet = gathered []; answer = Refused f }
+unfoldable pub loopReply : Reading → Reply
+loopReply (holds cs) = acceptedReply (gathered cs)
+loopReply (refused f) = record { sheet = gathered []; answer = Refused f }
 
 abbrev pub doneWith : Reply → Turn
 doneWith r = record { sheet = r .sheet; state = Done (r .answer) }
 
 abbrev pub turnOf : Passage → Turn
-turnOf (over x) = doneWith (replyOf x)
+turnOf (over x) = doneWith (loopReply x)
 turnOf (on cs to) = record { sheet = gathered cs; state = On (readerAt to cs) }
 
 -- a command is gathered
@@ -48,21 +48,21 @@ Takes sheet c r = (before : List Command) → sheet ≡ gathered before → r �
 
 -- a command at a place is judged: 6, 7, 8, or gathered
 abbrev pub Judges : Sheet → Command → ℕ → Reply → Type 0
-Judges sheet c at r = (before : List Command) → sheet ≡ gathered before → r ≡ replyOf (judged before c at)
+Judges sheet c at r = (before : List Command) → sheet ≡ gathered before → r ≡ loopReply (judged before c at)
 
 -- the same for every command in its turn
 abbrev pub Adds : Sheet → Command → ℕ → Reply → Type 0
-Adds sheet c at r = (before : List Command) → sheet ≡ gathered before → isSizes c ≡ isEmpty before → r ≡ replyOf (judged before c at)
+Adds sheet c at r = (before : List Command) → sheet ≡ gathered before → isSizes c ≡ isEmpty before → r ≡ loopReply (judged before c at)
 
 -- the end is judged: 4, 9, or the sheet stands
 abbrev pub Ends : Sheet → ℕ → ℕ → Reply → Type 0
 Ends sheet to len r =
-    (before : List Command) (s : List ℕ) → sheet ≡ gathered before → inputsOf before ≤ maxInputs → len ≡ length s → r ≡ replyOf (ending s to before)
+    (before : List Command) (s : List ℕ) → sheet ≡ gathered before → inputsOf before ≤ maxInputs → len ≡ length s → r ≡ loopReply (ending s to before)
 
 -- where a command that was judged leads
 abbrev pub Follows : Reply → Command → Reader → ℕ → Turn → Type 0
 Follows reply c next len r =
-    (before : List Command) (s : List ℕ) (at : ℕ) → reply ≡ replyOf (judged before c at) → next ≡ readerAt (next .at) (before ++ c ∷ [])
+    (before : List Command) (s : List ℕ) (at : ℕ) → reply ≡ loopReply (judged before c at) → next ≡ readerAt (next .at) (before ++ c ∷ [])
     → next .n ≤ maxInputs → len ≡ length s → r ≡ turnOf (onward s c (next .at) (judged before c at))
 
 -- where the next command leads

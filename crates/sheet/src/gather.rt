@@ -12,7 +12,7 @@ ghost use lib.ListN.{getD};
 ghost use lib.Dec.{leb, eqb};
 ghost use Rattle.base.specs.Lowest.{lowest};
 ghost use Rattle.sheet.specs.Gathered.{gathered, maxPatterns, allValues, noMark};
-ghost use Rattle.sheet.specs.Turn.{accepted, patternOf, Takes, Judges, Adds, Ends};
+ghost use Rattle.sheet.specs.Turn.{acceptedReply, patternOf, Takes, Judges, Adds, Ends};
 
 // The set of all values of m wires.
 fn all_values(m: u8) -> u16
@@ -113,7 +113,7 @@ impl Sheet {
     }
 
     fn accept(self) -> Reply
-        ensures { λ r. ⌜ r ≡ accepted self ⌝ }
+        ensures { λ r. ⌜ r ≡ acceptedReply self ⌝ }
     {
         Reply {
             sheet: self,

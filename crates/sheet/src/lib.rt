@@ -5,7 +5,7 @@ ghost use Prim.Native.Nat.{_≤_};
 ghost use Rattle.base.specs.Sizes.{maxInputs};
 ghost use Rattle.sheet.specs.Cases.{sheetReply};
 ghost use Rattle.sheet.specs.Reading.{refused, readingOf, replyTold, isEnd};
-ghost use Rattle.sheet.specs.Turn.{replyOf, doneWith, Follows, Turns};
+ghost use Rattle.sheet.specs.Turn.{loopReply, doneWith, Follows, Turns};
 
 mod commands; // commands.rt: one command at a place, and the reader behind it
 mod gather; // gather.rt: the sheet with one command more
@@ -93,7 +93,7 @@ fn is_end(c: Command) -> bool
 impl Reply {
     // A refusal writes nothing: what was gathered is dropped.
     fn refusal(f: Refusal) -> Reply
-        ensures { λ r. ⌜ r ≡ replyOf (refused f) ⌝ }
+        ensures { λ r. ⌜ r ≡ loopReply (refused f) ⌝ }
     {
         let sheet = Sheet::fresh(0, 0);
         Reply {

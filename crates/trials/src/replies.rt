@@ -20,6 +20,7 @@ use report::text::put_byte;
 use report::text::put_hex_pairs;
 use report::text::put_text;
 use search::Mark;
+use stage::LONGEST_STAGE;
 use stage::reader::Answer;
 use stage::reader::StageRead;
 use stage::reader::read_stage;
@@ -28,13 +29,14 @@ use stage::writer::write_stage;
 ghost use mathlib.Core.Path.{_≡_};
 ghost use Prim.Native.Nat.{_+_, _≤_};
 ghost use lib.ListN.{length};
+ghost use Rattle.stage.specs.Bytes.{longestStage};
 ghost use Rattle.trials.specs.Records.{numbersAt};
 
 // The number of bytes that are shown of a stage: no more than the longest has.
 fn shown(k: usize) -> usize
-    ensures { λ r. ⌜ r ≤ 196 ⌝ }
+    ensures { λ r. ⌜ r ≤ longestStage ⌝ }
 {
-    if k < 196 { k } else { 196 }
+    if k < LONGEST_STAGE { k } else { LONGEST_STAGE }
 }
 
 // A stage at the start of a buffer, as pairs, and the end of its line.

@@ -1,6 +1,7 @@
 -- Document 01, "Unit sheet" and "Cells": the present first stage, as the sheet's own 02 commands tell it.
 use Prim.Native.Nat.{ℕ, zero, _^_}
 use mathlib.Core.List.{List}
+use lib.ListN.{getD}
 use Rattle.base.specs.Sizes.{maxWires}
 use Rattle.table.specs.Bits.{bit, sum, ofBits, row}
 use Rattle.table.specs.Cells.{cells}
@@ -17,7 +18,7 @@ unfoldable pub presentTables : Reading → List ℕ
 presentTables (holds cs) = row maxWires (presentTable cs)
 presentTables (refused f) = row maxWires (λ _. zero)
 
--- the cells of the stage, wire by wire
+-- the cells of these tables, wire by wire
 unfoldable pub presentCells : Reading → ℕ
-presentCells (holds cs) = sum (wiresOf cs) (λ j. cells (inputsOf cs) (presentTable cs j))
+presentCells (holds cs) = sum (wiresOf cs) (λ j. cells (inputsOf cs) (getD (presentTables (holds cs)) j 0))
 presentCells (refused f) = zero

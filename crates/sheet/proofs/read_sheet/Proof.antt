@@ -5,7 +5,7 @@ use borrow.Author.Needs.{needs}
 use lib.ListN.{length}
 use Rattle.sheet.specs.Cases.{sheetReply}
 use Rattle.sheet.specs.Reading.{refused}
-use Rattle.sheet.specs.Turn.{replyOf}
+use Rattle.sheet.specs.Turn.{loopReply}
 use Rattle.sheet.proofs.Replies.{reply-told}
 use Rattle.sheet.proofs.Turns.{Going, going-first, goes-on, stops, ends}
 use Rattle.sheet.proofs.read_sheet.Statement.{statement}
@@ -69,7 +69,7 @@ refusal-requires c κs = search needs
 returns-2 : tie.Need-returns-2 Inv-loop μ-loop
 returns-2 c =
     let l = c .before .before .before .loop in
-    ap sheetReply (c .refusal .ensures ∙ ap (λ f. replyOf (refused f)) (c .before .at .ensures) ∙ ends _ (l .sheet) (l .reader) _ _ (l .inv .2) (omega arith))
+    ap sheetReply (c .refusal .ensures ∙ ap (λ f. loopReply (refused f)) (c .before .at .ensures) ∙ ends _ (l .sheet) (l .reader) _ _ (l .inv .2) (omega arith))
     ∙ reply-told _
 
 pub read-sheet-spec : {M : Type 1} → statement M

@@ -22,11 +22,11 @@ same-length c = c .before .before .loop .inv .0
 returns : tie.Need-returns Inv-loop μ-loop
 returns c = counts _ _ (c .before .before .loop .inv .1)
 
-shared-slice-read-shown : tie.Need-shared-slice-read-shown Inv-loop μ-loop
-shared-slice-read-shown c = omega arith
+shared-slice-read-visible : tie.Need-shared-slice-read-visible Inv-loop μ-loop
+shared-slice-read-visible c = omega arith
 
-shown-requires : tie.Need-shown-requires Inv-loop μ-loop
-shown-requires c κs = tt
+visible-requires : tie.Need-visible-requires Inv-loop μ-loop
+visible-requires c κs = tt
 
 slice-write-line : tie.Need-slice-write-line Inv-loop μ-loop
 slice-write-line c = omega arith
@@ -43,7 +43,7 @@ loop-less c = omega arith
 loop-again : tie.Need-loop-again Inv-loop μ-loop
 loop-again c =
     let p = c .before .before .before .before .loop in
-    let e = length-set (p .line) (p .next) (c .shown .result) in
+    let e = length-set (p .line) (p .next) (c .visible .result) in
     (e ∙ p .inv .0, omega (arith, e))
 
 same-length-2 : tie.Need-same-length-2 Inv-loop μ-loop
@@ -61,8 +61,8 @@ add-spec =
     loop-holds
     same-length
     returns
-    shared-slice-read-shown
-    shown-requires
+    shared-slice-read-visible
+    visible-requires
     slice-write-line
     add-next
     add-i

@@ -4,7 +4,7 @@ use Rattle.sheet.specs.declared.Command.{Command}
 use Rattle.sheet.specs.Commands.{isSizes, isEmpty}
 use Rattle.sheet.specs.Reading.{judged}
 use Rattle.sheet.specs.Gathered.{maxPatterns}
-use Rattle.sheet.specs.Turn.{patternOf, accepted, replyOf}
+use Rattle.sheet.specs.Turn.{patternOf, acceptedReply, loopReply}
 use Rattle.sheet.proofs.Judging.{sizes-taken, end-taken}
 use borrow.Author.Needs.{needs}
 use Rattle.sheet.proofs.Sheet.add.Statement.{statement}
@@ -68,7 +68,7 @@ returns-2 c before e f =
     let a = c .before .before .before .before .before .args in
     let g = c .before .before .before .c .given .1 in
     let z = sym (subst (λ (x : Command). isSizes x ≡ isEmpty before) g f) in
-    rw g (c .accept2 .ensures ∙ ap accepted (c .before .fresh .ensures) ∙ sizes-taken before (a .at) _ _ z)
+    rw g (c .accept2 .ensures ∙ ap acceptedReply (c .before .fresh .ensures) ∙ sizes-taken before (a .at) _ _ z)
 
 returns-3 : tie.Need-returns-3
 returns-3 c before e f = rw (c .before .before .c2 .given .1) (c .row .ensures before e)
@@ -83,8 +83,8 @@ returns-6 : tie.Need-returns-6
 returns-6 c before e f = rw (c .before .before .c5 .given .1) (c .output .ensures before e)
 
 returns-7 : tie.Need-returns-7
-unfolding judged replyOf
-returns-7 c before e f = rw (c .before .before .before .c6 .given .1) (c .accept3 .ensures ∙ ap accepted (c .before .limit .ensures before e))
+unfolding judged loopReply
+returns-7 c before e f = rw (c .before .before .before .c6 .given .1) (c .accept3 .ensures ∙ ap acceptedReply (c .before .limit .ensures before e))
 
 pub add-spec : {M : Type 1} → statement M
 add-spec =

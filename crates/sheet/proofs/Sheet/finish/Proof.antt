@@ -1,6 +1,6 @@
 use mathlib.Core.Path.{ap, _∙_}
 use Rattle.sheet.specs.Reading.{refused}
-use Rattle.sheet.specs.Turn.{replyOf}
+use Rattle.sheet.specs.Turn.{loopReply}
 use Rattle.sheet.proofs.Judging.{end-trailing, end-missing, end-accepted}
 use borrow.Author.Needs.{needs}
 use Rattle.sheet.proofs.Sheet.finish.Statement.{statement}
@@ -15,7 +15,7 @@ refusal-requires c κs = search needs
 returns : tie.Need-returns
 returns c before s e n l =
     let a = c .before .before .before .args in
-    c .refusal .ensures ∙ ap (λ f. replyOf (refused f)) (c .before .at .ensures)
+    c .refusal .ensures ∙ ap (λ f. loopReply (refused f)) (c .before .at .ensures)
     ∙ end-trailing before (a .self) e n s (a .to) (rw l at (c .before .before .if1 .taken))
 
 patterns-requires : tie.Need-patterns-requires
@@ -33,7 +33,7 @@ refusal-requires-2 c κs = search needs
 returns-2 : tie.Need-returns-2
 returns-2 c before s e n l =
     let a = c .before .before .before .before .before .before .before .args in
-    c .refusal2 .ensures ∙ ap (λ f. replyOf (refused f)) (c .before .at2 .ensures)
+    c .refusal2 .ensures ∙ ap (λ f. loopReply (refused f)) (c .before .at2 .ensures)
     ∙ end-missing before (a .self) e n s (a .to) (rw l at (c .before .before .before .before .before .before .if1 .left)) _ _ (c .before .before .before .before .patterns .ensures) (c .before .before .before .missing .ensures) (c .before .before .if2 .taken)
 
 accept-requires : tie.Need-accept-requires
