@@ -1,7 +1,7 @@
 /* Dagmetzi: the smallest first stage of a two-stage converter.
  *
- * Each call returns 0, or the number of its refusal (document 01, "Refusals"), and leaves DAGMETZI_NUMBERS numbers in
- * `reply`. A refused call changes nothing that is lent but `reply`: `buffer` and `tables` are as they were, and `reply`
+ * Each call returns 0, or the number of its refusal (below; docs/FORMATS.md has them with their order), and leaves
+ * DAGMETZI_NUMBERS numbers in `reply`. A refused call changes nothing that is lent but `reply`: `buffer` and `tables` are as they were, and `reply`
  * has the outcome, the place, and 0 for the cells, the floor, the visits and the length.
  *
  * What a caller owes: no pointer is null, not even beside a length of 0, and each is aligned for what it points to. All
@@ -42,12 +42,12 @@ enum {
     DAGMETZI_STAGE_REFUSED = 3 /* audit: the stage is refused */
 };
 
-/* The refusals. Unless said, the place is the first byte of the command. */
+/* The refusals. Where no place is named below, it is where the command at fault begins. */
 enum {
     DAGMETZI_CUT_SHORT = 1,      /* the bytes end inside a command, or where one is due */
     DAGMETZI_UNKNOWN = 2,        /* no command begins with this byte */
     DAGMETZI_OUT_OF_RANGE = 3,   /* an operand; of a relation: its sizes (place 0), or a set (place: the pattern) */
-    DAGMETZI_TRAILING = 4,       /* bytes after the end; place: the first of them */
+    DAGMETZI_TRAILING = 4,       /* something stands behind the end; place: there */
     DAGMETZI_OUT_OF_TURN = 5,    /* a command, or a stage's wire, where another is due */
     DAGMETZI_NO_SIGNAL = 6,      /* a signal that is not made yet */
     DAGMETZI_REPEATED = 7,       /* the pattern has a value already, or is impossible already */
@@ -71,7 +71,7 @@ enum {
 uint32_t dagmetzi_quote(const uint8_t *sheet, size_t sheet_length, uint32_t budget, uint8_t *buffer,
                         size_t buffer_length, uint64_t reply[DAGMETZI_NUMBERS]);
 
-/* Whether a stage keeps to a unit sheet, and its cells. The sheet is judged before the stage. */
+/* Whether a stage keeps to a unit sheet, and its cells. Where both are at fault, the unit sheet is told. */
 uint32_t dagmetzi_audit(const uint8_t *sheet, size_t sheet_length, const uint8_t *stage, size_t stage_length,
                         uint64_t reply[DAGMETZI_NUMBERS]);
 

@@ -12,7 +12,7 @@ pub struct Quote {
     pub length: usize,
 }
 
-/// Reads, searches, and writes the stage at the start of the buffer.
+/// The whole way from the bytes of a sheet to the bytes of its stage.
 pub fn quote(sheet: &[u8], budget: u32, buffer: &mut [u8], picker: &mut Picker) -> Result<Quote, Refusal> {
     let unit = sheet::read(sheet)?;
     let r = relation::of_unit(&unit)?;

@@ -38,8 +38,8 @@ pub fn search(r: &Relation, budget: u32, picker: &mut Picker) -> Answer {
     }
 }
 
-/// For wires 0 to m-1 in turn: the pick in what is left, then drop the values
-/// that disagree.
+/// The first answer: each wire, the lowest first, is given its pick, and only
+/// the values that have it so are kept for the next wire.
 pub fn first_answer(r: &Relation, picker: &mut Picker) -> [u16; 4] {
     let mut left = *r;
     let mut tables = [0; 4];

@@ -11,8 +11,7 @@ pub enum Tree {
 }
 
 impl Tree {
-    /// Follows the tree on pattern p to a constant. Input 1 is the highest of
-    /// the n bits of p.
+    /// The wire on pattern p, whose highest bit is the first input.
     pub fn follow(&self, n: u32, p: usize) -> bool {
         match self {
             Tree::Constant(bit) => *bit,

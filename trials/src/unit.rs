@@ -15,9 +15,9 @@ pub fn gate(kind: u8, a: bool, b: bool) -> bool {
     }
 }
 
-/// G(v): the list of outputs for wire value v.
+/// What the unit puts out where its wires have value v.
 pub fn answer(unit: &Unit, v: usize) -> Vec<bool> {
-    // Wire j is bit j of v; gates are numbered from m upward.
+    // The wires first, the lowest bit in front; then each gate behind them.
     let mut signals: Vec<bool> = (0..unit.m).map(|j| v >> j & 1 == 1).collect();
     for g in &unit.gates {
         let (a, b) = (signals[usize::from(g.a)], signals[usize::from(g.b)]);

@@ -44,7 +44,7 @@ fn refused_stage(answer: Answer) -> Audited
     }
 }
 
-// The audit of a stage sheet against a relation. A stage sheet that is refused ends it there.
+// The audit of a stage sheet against a relation. Sizes and values are looked at only where the stage sheet can be read.
 pub fn audit_stage(relation: Relation, s: &[u8]) -> Audited
     ensures { λ r. ⌜ auditedCase r ≡ auditedStage relation (readStage (now (s .entry))) ⌝ }
 {

@@ -22,7 +22,7 @@ pub struct Quoted {
     pub mark: Mark,
 }
 
-// The reply of an audit: whether the stage's value lies in R(p) for every p, with the stage's cells; or which of the two sheets is refused.
+// The reply of an audit: the stage keeps to the sheet or not, with its cells; or the unit sheet or the stage sheet is refused.
 pub enum Audited {
     Fits(u32),
     Differs(u32),
@@ -45,7 +45,7 @@ pub fn quote(sheet: &[u8], budget: u32, buffer: &mut [u8]) -> Quoted
     }
 }
 
-// Whether a stage keeps to a unit sheet, and its cells. The sheet is judged before the stage.
+// Whether a stage keeps to a unit sheet, and its cells. Where both sheets are at fault, the unit sheet's refusal is told.
 pub fn audit(sheet: &[u8], stage: &[u8]) -> Audited
     ensures { λ r. ⌜ auditedCase r ≡ auditedOf (now (sheet .entry)) (now (stage .entry)) ⌝ }
 {

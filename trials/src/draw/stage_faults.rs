@@ -44,7 +44,7 @@ fn unknown(rng: &mut Random, all: &mut Commands) {
     }
 }
 
-/// 3: sizes, a wire from m up, a selector input outside 1 to n.
+/// Refusal 3, in one of its three places: the sizes, a wire, a selector.
 fn range(rng: &mut Random, all: &mut Commands, n: u8, m: u8) {
     let of = |first: u8, all: &Commands| -> Vec<usize> { (0..all.len()).filter(|&i| all[i][0] == first).collect() };
     let selectors = of(0x22, all);
