@@ -8,13 +8,13 @@ use borrow.Author.Tests.{lt-ltb, le-ltb}
 use lib.ListN.{length, take}
 use lib.Dec.{ltb, ltb→lt, nltb→le}
 use lib.Seq.{sets, take-all, length-take-le}
-use Rattle.base.specs.Cases.{Case, refusing, refusedOutcome, refusedCase}
+use Rattle.base.specs.Cases.{Case, refusing, refusedOutcome}
 use Rattle.base.specs.Refusals.{refusalAt, tooLong}
 use Rattle.base.proofs.Tests.{decide}
 use Rattle.stage.specs.Bytes.{longestStage}
 use Rattle.stage.proofs.Prefix.{front-tells}
 use Rattle.quote.specs.Cases.{QuoteReply}
-use Rattle.quote.specs.Quote.{bufferQuoted}
+use Rattle.quote.specs.Quote.{refusedQuote, bufferQuoted}
 use Rattle.quote.specs.Audit.{auditedFrom, auditedOf}
 use Rattle.report.specs.Lines.{sheetText, linesOf, auditLine, longestReport}
 use Rattle.dagmetzi.specs.Printed.{longestSheet, budget, lent, tooLongLine, quoted, printedOf, auditPrintedOf}
@@ -27,7 +27,7 @@ pub printed : {text other : List ℕ} (before after : List ℕ) (r : ℕ) → te
 printed before after r e p = (p .0 ∙ ap length e, p .1 ∙ ap (sets before 0) e, p .2)
 
 module _ (sheet : List ℕ) where
-  pub quote-too-long : (q : QuoteReply) (stage : List ℕ) → q .mark ≡ refusedCase (refusalAt tooLong longestSheet) → longestSheet < length sheet
+  pub quote-too-long : (q : QuoteReply) (stage : List ℕ) → q ≡ refusedQuote (refusalAt tooLong longestSheet) → longestSheet < length sheet
       → linesOf q stage ≡ printedOf sheet
   unfolding linesOf printedOf
   quote-too-long q stage e l = rw (e, lt-ltb longestSheet (length sheet) l)

@@ -9,9 +9,9 @@ ghost use Prim.Native.Nat.{_≤_};
 ghost use lib.ListN.{length};
 ghost use lib.Seq.{sets};
 ghost use Rattle.base.specs.Refusals.{refusalAt, tooLong};
-ghost use Rattle.search.specs.Cases.{markCase};
+ghost use Rattle.quote.specs.Cases.{quoteReply};
+ghost use Rattle.quote.specs.Quote.{refusedQuote};
 ghost use Rattle.report.specs.Lines.{longestReport};
-ghost use Rattle.base.specs.Cases.{refusedCase};
 ghost use Rattle.dagmetzi.specs.Printed.{longestSheet, printedOf, auditPrintedOf};
 
 // The longest sheet that is taken, and the budget of a quote.
@@ -28,7 +28,7 @@ fn too_long() -> Refusal
 
 // The same as a quote's reply.
 fn too_long_quote() -> Quoted
-    ensures { λ r. ⌜ markCase (r .mark) ≡ refusedCase (refusalAt tooLong longestSheet) ⌝ }
+    ensures { λ r. ⌜ quoteReply r ≡ refusedQuote (refusalAt tooLong longestSheet) ⌝ }
 {
     Quoted {
         cells: 0,

@@ -1,8 +1,7 @@
--- Document 01, "Bench sheets": the rows that forming the relation answers, computed from the meaning.
+-- What forming a relation computes by, and rows computed so. The starred rows of document 01, "Bench sheets", stand together in the program's crate.
 use mathlib.Core.Path.{_≡_, refl}
 use mathlib.Core.List.{List, [], _∷_}
 use Prim.Native.Nat.{ℕ}
-use Rattle.base.specs.Refusals.{refusalAt, empty}
 use Rattle.base.specs.Cases.{acceptedCase}
 use Rattle.base.specs.Lowest.{lowest}
 use Rattle.table.specs.Bits.{bit, any, sum, ofBits, row}
@@ -10,29 +9,18 @@ use Rattle.relation.specs.Tests.{isOne, emptyPattern}
 use Rattle.sheet.specs.Commands.{collect}
 use Rattle.sheet.specs.Reader.{nextOf}
 use Rattle.sheet.specs.Reading.{judged, ending, oneCommand, readingFrom, readingOf}
-use Rattle.sheet.proofs.Rows.{sheetA}
 use Rattle.unit.specs.Gates.{gateBit, withGates, signalsOn, outputsFor}
 use Rattle.unit.specs.Relation.{permits, sameList, alike, unitRelation}
-use Rattle.unit.specs.Formed.{setOn, relationIn, turnedAway, formedFrom, formedOf}
+use Rattle.unit.specs.Formed.{setOn, relationIn, formedFrom, formedOf}
 
 -- all that forming a relation computes by
 unfoldable pub opened : ℕ
 unfolding formedOf formedFrom relationIn setOn unitRelation permits alike sameList outputsFor signalsOn withGates gateBit emptyPattern isOne bit any sum ofBits row readingOf readingFrom oneCommand nextOf judged ending collect lowest
 opened = 0
 
--- sheet A: {1}, {0,3}, {0,3}, {2}; bit v of a set is value v
-pub sheet-a : formedOf sheetA
-    ≡ record { relation = record { n = 2; m = 2; sets = 2 ∷ 9 ∷ 9 ∷ 4 ∷ 0 ∷ 0 ∷ 0 ∷ 0 ∷ 0 ∷ 0 ∷ 0 ∷ 0 ∷ 0 ∷ 0 ∷ 0 ∷ 0 ∷ [] }; answer = acceptedCase }
-unfolding opened
-sheet-a = refl
-
 -- sheet A limited on pattern 2 to the value 1, which answers otherwise
 abbrev pub limitedA : List ℕ
 limitedA = 1 ∷ 2 ∷ 2 ∷ 2 ∷ 0 ∷ 1 ∷ 2 ∷ 1 ∷ 0 ∷ 2 ∷ 2 ∷ 0 ∷ 2 ∷ 3 ∷ 2 ∷ 4 ∷ 2 ∷ 0 ∷ 1 ∷ 4 ∷ 0 ∷ 2 ∷ 1 ∷ 5 ∷ 2 ∷ 5 ∷ 3 ∷ 6 ∷ 2 ∷ 2 ∷ 0 ∷ 0 ∷ []
-
-pub limited-a : formedOf limitedA ≡ turnedAway (refusalAt empty 2)
-unfolding opened
-limited-a = refl
 
 -- limits alone: two on pattern 0 leave 1, though 0 is the present value; pattern 1 is impossible and keeps its limit to 0; there is no output
 abbrev pub limitsOnly : List ℕ
