@@ -17,6 +17,6 @@ pub mod Sound
 pub mod Limits
 pub mod Enough
 pub mod Rows
-pub mod Order
+pub mod FirstRefusals
 pub mod Numbers
 pub mod Cases

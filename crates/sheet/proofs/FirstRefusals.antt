@@ -1,4 +1,4 @@
--- The order of the refusals, computed from the meaning at sheets that call for two of them at once.
+-- Which refusal comes first, computed from the meaning at sheets that call for two of them at once.
 use mathlib.Core.Path.{_≡_, refl}
 use mathlib.Core.List.{List, [], _∷_}
 use Prim.Native.Nat.{ℕ, zero, suc}
