@@ -1,6 +1,6 @@
--- Laws of cases: they tell an acceptance from a refusal, and one refusal from another.
+-- Laws of cases: they tell an acceptance from a refusal, one refusal from another, and with a way back from its cases an answer from every other.
 use Prim.Native.Nat.{ℕ}
-use mathlib.Core.Path.{_≡_, ap, ap₂}
+use mathlib.Core.Path.{_≡_, sym, ap, ap₂, _∙_}
 use native.Mathlib.Omega.{arith}
 use Rattle.base.specs.declared.Refusal.{Refusal}
 use Rattle.base.specs.Refusals.{refusalAt}
@@ -14,3 +14,7 @@ refused-accepted f e = absurd (omega (arith, ap (λ (c : Case). c .outcome) e))
 
 pub same-refusal : (o : ℕ) (f g : Refusal) → refusing o f ≡ refusing o g → f ≡ g
 same-refusal o f g e = ap₂ refusalAt (ap (λ (c : Case). c .number) e) (ap (λ (c : Case). c .place) e)
+
+-- answers that can be had back from their cases are the same where their cases are
+pub case-one : {A : Type 0} (case : A → Case) (back : Case → A) → ((a : A) → back (case a) ≡ a) → (a b : A) → case a ≡ case b → a ≡ b
+case-one case back undo a b e = sym (undo a) ∙ ap back e ∙ undo b

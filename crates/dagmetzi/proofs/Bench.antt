@@ -35,7 +35,8 @@ unfoldable opened : ℕ
 unfolding UnitRows.opened bit all any sum ofBits row low high cells reduced suits nearer least orZero leastOf value ofSets keep agree occurs fits free freeWire compatible conflict emptyPattern isOne openPairs lowest relationOf widePattern checkOf tablesOf total pick picks floor left quick start split expand charge treat visit searchPart run tree markOf answerOf refusedWith afterCheck searchOf treeBytes wireBytes stageBytes stageTrees stageOf firstOut writtenOf bufferAfter presentTable presentTables presentCells withStage searched quotedOf bufferSearched bufferQuoted digits decimal hexDigit hexPair furtherPairs hexPairs named countsOf stageLine resultLines refusalLine linesOf printedOf
 opened = 0
 
--- A as it is printed: "cells 2 floor 2 visits 0 best" and "20 02 02 21 00 22 01 24 23 21 01 22 02 23 24 2F"
+-- sheet A as it is printed. Its first line is "cells 2 floor 2 visits 0 best";
+-- its second, "20 02 02 21 00 22 01 24 23 21 01 22 02 23 24 2F"
 abbrev linesA : List ℕ
 linesA =
     0x63 ∷ 0x65 ∷ 0x6C ∷ 0x6C ∷ 0x73 ∷ 0x20 ∷ 0x32 ∷ 0x20 ∷ 0x66 ∷ 0x6C ∷ 0x6F ∷ 0x6F ∷ 0x72 ∷ 0x20 ∷ 0x32 ∷ 0x20 ∷ 0x76 ∷ 0x69 ∷ 0x73 ∷ 0x69 ∷ 0x74 ∷ 0x73 ∷ 0x20 ∷ 0x30
@@ -76,7 +77,7 @@ pub record Starred : Type 0 where
   -- the empty sheet and the lone 00, with any buffer
   pub empty-sheet : (room : ℕ) → quotedOf [] budget room ≡ refusedQuote (refusalAt cutShort 0)
   pub lone-end : (room : ℕ) → quotedOf (0 ∷ []) budget room ≡ refusedQuote (refusalAt outOfTurn 0)
-  -- A with 06 02 02 00 before its end
+  -- sheet A limited on pattern 2, as `limitedA` has it
   pub a-limited : (room : ℕ) → quotedOf limitedA budget room ≡ refusedQuote (refusalAt empty 2)
 
 pub starred : Starred

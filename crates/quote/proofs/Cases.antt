@@ -1,31 +1,25 @@
 -- The case of an audit tells the audit.
-use Prim.Native.Nat.{ℕ}
-use mathlib.Core.Path.{_≡_, ap}
-use native.Mathlib.Omega.{arith}
-use Rattle.base.specs.Cases.{Case, refusedOutcome, secondRefusedOutcome}
-use Rattle.base.proofs.Cases.{same-refusal}
+use mathlib.Core.Path.{_≡_, refl}
+use mathlib.Core.Bool.{cond}
+use lib.Dec.{eqb}
+use Rattle.base.specs.Cases.{Case, isRefused, refusedOutcome}
+use Rattle.base.specs.Refusals.{refusalAt}
+use Rattle.base.proofs.Cases.{case-one}
 use Rattle.quote.specs.declared.Audited.{Audited}
 use Rattle.quote.specs.declared.Audited.the-variants.{Fits, Differs, SheetRefused, StageRefused}
-use Rattle.quote.specs.Cases.{auditedCase}
+use Rattle.quote.specs.Cases.{fitsOutcome, auditedCase}
 
--- cases of two outcomes are not one
-apart : {A : Type 0} {c d : Case} → c ≡ d → (c .outcome ≡ d .outcome → ⊥) → A
-apart e h = absurd (h (ap (λ (c : Case). c .outcome) e))
+abbrev back : Case → Audited
+back c =
+    let refusal = refusalAt (c .number) (c .place) in
+    cond (isRefused c) (cond (eqb (c .outcome) refusedOutcome) (SheetRefused refusal) (StageRefused refusal))
+    (cond (eqb (c .outcome) fitsOutcome) (Fits (c .value)) (Differs (c .value)))
+
+undo : (a : Audited) → back (auditedCase a) ≡ a
+undo (Fits c) = refl
+undo (Differs c) = refl
+undo (SheetRefused f) = refl
+undo (StageRefused f) = refl
 
 pub audited-one : (a b : Audited) → auditedCase a ≡ auditedCase b → a ≡ b
-audited-one (Fits x) (Fits y) e = ap Fits (ap (λ (c : Case). c .value) e)
-audited-one (Fits x) (Differs y) e = apart e (λ h. omega arith)
-audited-one (Fits x) (SheetRefused g) e = apart e (λ h. omega arith)
-audited-one (Fits x) (StageRefused g) e = apart e (λ h. omega arith)
-audited-one (Differs x) (Fits y) e = apart e (λ h. omega arith)
-audited-one (Differs x) (Differs y) e = ap Differs (ap (λ (c : Case). c .value) e)
-audited-one (Differs x) (SheetRefused g) e = apart e (λ h. omega arith)
-audited-one (Differs x) (StageRefused g) e = apart e (λ h. omega arith)
-audited-one (SheetRefused f) (Fits y) e = apart e (λ h. omega arith)
-audited-one (SheetRefused f) (Differs y) e = apart e (λ h. omega arith)
-audited-one (SheetRefused f) (SheetRefused g) e = ap SheetRefused (same-refusal refusedOutcome f g e)
-audited-one (SheetRefused f) (StageRefused g) e = apart e (λ h. omega arith)
-audited-one (StageRefused f) (Fits y) e = apart e (λ h. omega arith)
-audited-one (StageRefused f) (Differs y) e = apart e (λ h. omega arith)
-audited-one (StageRefused f) (SheetRefused g) e = apart e (λ h. omega arith)
-audited-one (StageRefused f) (StageRefused g) e = ap StageRefused (same-refusal secondRefusedOutcome f g e)
+audited-one = case-one auditedCase back undo

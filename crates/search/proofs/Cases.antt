@@ -1,20 +1,21 @@
 -- The case of a mark tells the mark.
-use mathlib.Core.Path.{_≡_, refl, ap}
-use native.Mathlib.Omega.{arith}
-use Rattle.base.specs.Cases.{Case, refusedOutcome}
-use Rattle.base.proofs.Cases.{same-refusal}
+use mathlib.Core.Path.{_≡_, refl}
+use mathlib.Core.Bool.{cond}
+use lib.Dec.{eqb}
+use Rattle.base.specs.Cases.{Case, isRefused}
+use Rattle.base.specs.Refusals.{refusalAt}
+use Rattle.base.proofs.Cases.{case-one}
 use Rattle.search.specs.declared.Mark.{Mark}
 use Rattle.search.specs.declared.Mark.the-variants.{Best, Stopped, Refused}
-use Rattle.search.specs.Cases.{markCase}
+use Rattle.search.specs.Cases.{bestOutcome, markCase}
 
--- cases of two outcomes are not one
+abbrev back : Case → Mark
+back c = cond (isRefused c) (Refused (refusalAt (c .number) (c .place))) (cond (eqb (c .outcome) bestOutcome) Best Stopped)
+
+undo : (a : Mark) → back (markCase a) ≡ a
+undo Best = refl
+undo Stopped = refl
+undo (Refused f) = refl
+
 pub mark-one : (a b : Mark) → markCase a ≡ markCase b → a ≡ b
-mark-one Best Best e = refl
-mark-one Best Stopped e = absurd (omega (arith, ap (λ (c : Case). c .outcome) e))
-mark-one Best (Refused g) e = absurd (omega (arith, ap (λ (c : Case). c .outcome) e))
-mark-one Stopped Best e = absurd (omega (arith, ap (λ (c : Case). c .outcome) e))
-mark-one Stopped Stopped e = refl
-mark-one Stopped (Refused g) e = absurd (omega (arith, ap (λ (c : Case). c .outcome) e))
-mark-one (Refused f) Best e = absurd (omega (arith, ap (λ (c : Case). c .outcome) e))
-mark-one (Refused f) Stopped e = absurd (omega (arith, ap (λ (c : Case). c .outcome) e))
-mark-one (Refused f) (Refused g) e = ap Refused (same-refusal refusedOutcome f g e)
+mark-one = case-one markCase back undo

@@ -1,22 +1,31 @@
 -- The case of an answer, and of what the writer answers, tells it.
-use mathlib.Core.Path.{_≡_, refl, ap}
-use native.Mathlib.Omega.{arith}
-use Rattle.base.specs.Cases.{Case, refusedOutcome}
-use Rattle.base.proofs.Cases.{accepted-refused, refused-accepted, same-refusal}
+use mathlib.Core.Path.{_≡_, refl}
+use mathlib.Core.Bool.{cond}
+use Rattle.base.specs.Cases.{Case, isRefused}
+use Rattle.base.specs.Refusals.{refusalAt}
+use Rattle.base.proofs.Cases.{case-one}
 use Rattle.stage.specs.Cases.{answerCase, writtenCase}
 use Rattle.stage.specs.declared.reader.Answer.{Answer}
 use Rattle.stage.specs.declared.reader.Answer.the-variants.{Accepted, Refused}
 use Rattle.stage.specs.declared.writer.Written.{Written}
 use Rattle.stage.specs.declared.writer.Written.the-variants.{Length, Refused as NotWritten}
 
+abbrev answer-back : Case → Answer
+answer-back c = cond (isRefused c) (Refused (refusalAt (c .number) (c .place))) Accepted
+
+answer-undo : (a : Answer) → answer-back (answerCase a) ≡ a
+answer-undo Accepted = refl
+answer-undo (Refused f) = refl
+
 pub answer-one : (a b : Answer) → answerCase a ≡ answerCase b → a ≡ b
-answer-one Accepted Accepted e = refl
-answer-one Accepted (Refused g) e = accepted-refused g e
-answer-one (Refused f) Accepted e = refused-accepted f e
-answer-one (Refused f) (Refused g) e = ap Refused (same-refusal refusedOutcome f g e)
+answer-one = case-one answerCase answer-back answer-undo
+
+abbrev written-back : Case → Written
+written-back c = cond (isRefused c) (NotWritten (refusalAt (c .number) (c .place))) (Length (c .value))
+
+written-undo : (a : Written) → written-back (writtenCase a) ≡ a
+written-undo (Length k) = refl
+written-undo (NotWritten f) = refl
 
 pub written-one : (a b : Written) → writtenCase a ≡ writtenCase b → a ≡ b
-written-one (Length j) (Length k) e = ap Length (ap (λ (c : Case). c .value) e)
-written-one (Length j) (NotWritten g) e = absurd (omega (arith, ap (λ (c : Case). c .outcome) e))
-written-one (NotWritten f) (Length k) e = absurd (omega (arith, ap (λ (c : Case). c .outcome) e))
-written-one (NotWritten f) (NotWritten g) e = ap NotWritten (same-refusal refusedOutcome f g e)
+written-one = case-one writtenCase written-back written-undo
