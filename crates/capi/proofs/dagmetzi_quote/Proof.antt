@@ -2,10 +2,12 @@
 use Prim.Native.Nat.{ℕ}
 use mathlib.Core.Path.{_≡_, ap, _∙_}
 use mathlib.Core.List.{List, [], _∷_}
-use Rattle.quote.specs.Cases.{QuoteReply}
+use Rattle.search.specs.Cases.{markCase}
+use Rattle.quote.specs.declared.Quoted.{Quoted}
+use Rattle.quote.specs.Cases.{QuoteReply, quoteReply}
 use Rattle.quote.specs.Promised.{Promised}
 use Rattle.capi.specs.declared.told.Told.{Told}
-use Rattle.capi.specs.Told.{quoteNumbers}
+use Rattle.capi.specs.Told.{told, quoteNumbers}
 use borrow.Author.Needs.{needs}
 use Rattle.capi.proofs.dagmetzi_quote.Statement.{statement}
 use Rattle.capi.proofs.dagmetzi_quote.Tie as tie
@@ -31,6 +33,11 @@ same-length c = search needs
 kept : {sheet buffer : List ℕ} {budget : ℕ} {q r : QuoteReply} → q ≡ r → Promised sheet budget q buffer → Promised sheet budget r buffer
 kept e p = rw (← e) p
 
+-- the six numbers, from the quote and from what is told of its mark
+numbers : (q : Quoted) (t : Told) {x : QuoteReply} → t ≡ told (markCase (q .mark)) → quoteReply q ≡ x
+    → _≡_ {A = List ℕ} (t .outcome ∷ q .cells ∷ q .floor ∷ q .visits ∷ q .length ∷ t .place ∷ []) (quoteNumbers x)
+numbers q t et e = ap (λ (x : Told). x .outcome ∷ q .cells ∷ q .floor ∷ q .visits ∷ q .length ∷ x .place ∷ []) et ∙ ap quoteNumbers e
+
 returns : tie.Need-returns
 returns c =
     let q = c .before .before .before .before .before .before .before .quote in
@@ -39,7 +46,7 @@ returns c =
     let e = q .ensures in (
       ap (λ (x : Told). x .number) t ∙ ap (λ (x : QuoteReply). x .mark .number) (e .0),
       (
-        ap (λ (x : Told). x .outcome ∷ r .cells ∷ r .floor ∷ r .visits ∷ r .length ∷ x .place ∷ []) t ∙ ap quoteNumbers (e .0),
+        numbers r (c .before .before .before .before .mark-told .result) t (e .0),
         (e .1 .0, kept (e .0) (e .1 .1)),
       ),
     )
