@@ -10,11 +10,12 @@ use lib.Pow.{pow-mono}
 use lib.Seq.{getD-set-other, set-set}
 use Rattle.sheet.specs.Limits.{maxWires}
 use Rattle.table.specs.Bits.{bit, ofBits}
-use Rattle.table.specs.Pick.{tableSpace}
+use Rattle.table.specs.Inner.Ranks.{tableSpace}
 use Rattle.table.proofs.Bits.{tabulate-at, sum-cong}
 use Rattle.relation.specs.Source.{Rel, value}
-use Rattle.relation.specs.Tests.{ofSets, wires, keep, free, openPairs}
-use Rattle.relation.specs.Masks.{member, withBit, narrowed}
+use Rattle.relation.specs.Tests.{ofSets, keep, free, openPairs}
+use Rattle.table.specs.Cells.{wires}
+use Rattle.relation.specs.Inner.Masks.{member, withBit, narrowed}
 use Rattle.relation.proofs.Sets.{member-sets}
 use Rattle.search.specs.declared.State.{State}
 use Rattle.search.specs.Search.{split, searchPart, discarded, halted, charged, improved, floor, picks}

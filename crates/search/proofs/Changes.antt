@@ -14,7 +14,7 @@ use Rattle.sheet.specs.Limits.{maxWires}
 use Rattle.base.proofs.Tests.{decide, eq-test}
 use Rattle.base.proofs.Lowest.{lowest-at, lowest-none}
 use Rattle.table.specs.Bits.{bit}
-use Rattle.table.specs.Pick.{tableSpace}
+use Rattle.table.specs.Inner.Ranks.{tableSpace}
 use Rattle.table.proofs.Bits.{any-at, any-intro, bit-mod, bit-div}
 use Rattle.search.specs.Kept.{AlikeBelow, changedOn, firstChange}
 

@@ -7,8 +7,9 @@ use native.Mathlib.Omega.{arith}
 use lib.Dec.{T, leb, not-T, leb→le}
 use Rattle.base.proofs.Tests.{test-yes, test-no}
 use Rattle.relation.specs.Source.{Rel}
-use Rattle.relation.specs.Tests.{ofSets, wires, free, compatible, openPairs}
-use Rattle.relation.specs.Masks.{narrowed}
+use Rattle.relation.specs.Tests.{ofSets, free, compatible, openPairs}
+use Rattle.table.specs.Cells.{wires}
+use Rattle.relation.specs.Inner.Masks.{narrowed}
 use Rattle.relation.proofs.Splits.{keep-closes}
 use Rattle.search.specs.declared.State.{State}
 use Rattle.search.specs.declared.Open.the-variants.{Pair, Closed}

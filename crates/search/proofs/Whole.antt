@@ -5,8 +5,8 @@ use mathlib.Core.List.{List}
 use native.Mathlib.Omega.{arith}
 use lib.ListN.{getD}
 use Rattle.sheet.specs.Limits.{maxWires}
-use Rattle.table.specs.Pick.{pickOf, rank}
-use Rattle.table.specs.Pairs.{zerosIn, onesIn}
+use Rattle.table.specs.Inner.Ranks.{pickOf, rank}
+use Rattle.table.specs.Inner.Pairs.{zerosIn, onesIn}
 use Rattle.table.proofs.Bits.{tabulate-at, tabulate-cong}
 use Rattle.search.specs.Kept.{rankOf, ranksOf, ranksBetween, pairOf, pairsOf}
 use Rattle.search.proofs.Keeping.{rank-between}

@@ -7,13 +7,14 @@ use mathlib.Core.List.{List}
 use lib.ListN.{length, getD}
 use Rattle.sheet.specs.Limits.{maxInputs, maxWires}
 use Rattle.base.specs.Lowest.{lowest}
-use Rattle.table.specs.Bits.{bit, any, sum, tabulate}
-use Rattle.table.specs.Pick.{pickOf, rank, tableSpace}
-use Rattle.table.specs.Blocks.{Covered}
-use Rattle.table.specs.Pairs.{zerosIn, onesIn, paired}
+use Rattle.table.specs.Bits.{bit, any, sum, tabulate, isOne}
+use Rattle.table.specs.Inner.Ranks.{pickOf, rank, tableSpace}
+use Rattle.table.specs.Inner.Blocks.{Covered}
+use Rattle.table.specs.Inner.Pairs.{zerosIn, onesIn, paired}
 use Rattle.relation.specs.Source.{Rel, Tables, WellDefined, value}
-use Rattle.relation.specs.Tests.{ofSets, wires, isOne, occurs, compatible, conflict, freeWire}
-use Rattle.relation.specs.Masks.{member, maskOf, cut, NonePast}
+use Rattle.relation.specs.Tests.{ofSets, occurs, compatible, conflict, freeWire}
+use Rattle.table.specs.Cells.{wires}
+use Rattle.relation.specs.Inner.Masks.{member, maskOf, cut, NonePast}
 use Rattle.search.specs.declared.Part.{Part}
 use Rattle.search.specs.declared.State.{State}
 use Rattle.search.specs.declared.Open.{Open}

@@ -1,7 +1,7 @@
 // A pick as one number, its rank: cells * 65536 + table. What knows this form stands here and in the crate `table`.
 ghost use mathlib.Core.Path.{_≡_};
 ghost use Prim.Native.Nat.{_/_, _%_, _<_, _≤_};
-ghost use Rattle.table.specs.Pick.{tableSpace};
+ghost use Rattle.table.specs.Inner.Ranks.{tableSpace};
 ghost use Rattle.search.specs.Kept.{tablesIn, cellsIn, AlikeBelow, firstChange};
 
 pub fn table_of(rank: u32) -> u16

@@ -2,12 +2,14 @@
 // Both masks come in one number, the pair: a byte for each four patterns, `zeros` in its upper half and `ones` in its lower.
 // A result is one number, its rank: cells, then the table. Blocks of two inputs are looked up in a table that the caller lends, since a constant is
 // copied by every function that names it. Each byte of the pair is the place of a block in that table, so no place has to be made.
+use sheet::Sheet;
 ghost use mathlib.Core.Path.{_≡_};
 ghost use Prim.Native.Nat.{_<_, _≤_, _^_, _+_, _*_, _/_, _%_, min};
 ghost use Rattle.table.specs.Cells.{cells};
-ghost use Rattle.table.specs.Pick.{leastOf, masked, pickOf, rank};
-ghost use Rattle.table.specs.Blocks.{blockOf, Blocks, Shown, Covered};
-ghost use Rattle.table.specs.Pairs.{zerosIn, onesIn};
+ghost use Rattle.table.specs.Pick.{leastOf};
+ghost use Rattle.table.specs.Inner.Ranks.{masked, pickOf, rank};
+ghost use Rattle.table.specs.Inner.Blocks.{blockOf, Blocks, Shown, Covered};
+ghost use Rattle.table.specs.Inner.Pairs.{zerosIn, onesIn};
 
 // The pick of each pair of masks of two inputs, at zeros * 16 + ones: cells * 256 + table * 17, the table twice side by side.
 // Where some pattern is in no mask there is none: 64 cells.
@@ -269,6 +271,9 @@ const BLOCKS: [u16; 256] = [
     0x0000,
     0x0000,
 ];
+
+// Above every table: tables have at most so many bits as there are patterns.
+pub const TABLE_SPACE: u32 = 1 << Sheet::MAX_PATTERNS;
 
 // The table of blocks, to be lent to the functions below.
 pub fn blocks() -> [u16; 256]

@@ -6,7 +6,8 @@ use borrow.Author.Needs.{needs}
 use lib.Dec.{le→leb}
 use lib.ListN.{length, getD, set, length-set}
 use lib.Seq.{set-getD}
-use Rattle.relation.specs.Tests.{ofSets, wires, openPairs}
+use Rattle.relation.specs.Tests.{ofSets, openPairs}
+use Rattle.table.specs.Cells.{wires}
 use Rattle.search.specs.Search.{split as splitOf, searchPart}
 use Rattle.search.specs.TreeBoard.{tree}
 use Rattle.search.specs.Kept.{Settled, stateOf}

@@ -1,4 +1,4 @@
-use Rattle.relation.specs.Tests.{isOne}
+use Rattle.table.specs.Bits.{isOne}
 use Rattle.search.proofs.pairs.one.Statement.{statement}
 use Rattle.search.proofs.pairs.one.Tie as tie
 

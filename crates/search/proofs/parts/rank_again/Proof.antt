@@ -2,9 +2,9 @@ use Prim.Native.Nat.{_%_}
 use mathlib.Core.Path.{_≡_, ap, sym, _∙_}
 use native.Mathlib.Nat.{mod-eq-of-lt}
 use Rattle.table.specs.Bits.{bit}
-use Rattle.table.specs.Pick.{tableSpace}
+use Rattle.table.specs.Inner.Ranks.{tableSpace}
 use Rattle.relation.specs.Tests.{occurs}
-use Rattle.relation.specs.Masks.{member}
+use Rattle.relation.specs.Inner.Masks.{member}
 use Rattle.search.specs.Kept.{rankAgain}
 use borrow.Author.Needs.{needs}
 use Rattle.search.proofs.parts.rank_again.Statement.{statement}

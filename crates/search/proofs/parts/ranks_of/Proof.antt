@@ -1,7 +1,7 @@
 use native.Mathlib.Omega.{arith}
 use lib.ListN.{getD}
-use Rattle.table.specs.Pick.{pickOf, rank}
-use Rattle.table.specs.Pairs.{zerosIn, onesIn}
+use Rattle.table.specs.Inner.Ranks.{pickOf, rank}
+use Rattle.table.specs.Inner.Pairs.{zerosIn, onesIn}
 use Rattle.table.proofs.Bits.{tabulate-four}
 use Rattle.search.specs.Kept.{ranksBetween}
 use borrow.Author.Needs.{needs}

@@ -1,6 +1,6 @@
 use mathlib.Core.Path.{ap, _∙_}
-use Rattle.table.specs.Pick.{pickOf, rank}
-use Rattle.table.specs.Pairs.{zerosIn, onesIn}
+use Rattle.table.specs.Inner.Ranks.{pickOf, rank}
+use Rattle.table.specs.Inner.Pairs.{zerosIn, onesIn}
 use Rattle.search.specs.Kept.{Covers}
 use Rattle.search.proofs.Keeping.{pair-covers, rank-between}
 use Rattle.search.proofs.parts.wire_rank.Statement.{statement}

@@ -1,6 +1,6 @@
 use Prim.Native.Nat.{_%_}
 use lib.ListN.{getD}
-use Rattle.table.specs.Pick.{tableSpace}
+use Rattle.table.specs.Inner.Ranks.{tableSpace}
 use Rattle.table.proofs.Bits.{tabulate-four}
 use Rattle.search.specs.Kept.{tablesIn}
 use borrow.Author.Needs.{needs}
