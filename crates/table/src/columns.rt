@@ -21,4 +21,3 @@ pub fn column(j: u8, b: u8) -> u16
         _ => 0xff00,
     }
 }
-

@@ -1,4 +1,4 @@
--- Sets of values and of patterns as numbers, which the code computes with. 
+-- Sets of values and of patterns as numbers, which the code computes with.
 use Prim.Native.Nat.{ℕ, _+_, _*_, _-_, _^_, _≤_}
 use mathlib.Core.Path.{_≡_}
 use mathlib.Core.Bool.{Bool, true, false, cond}
