@@ -20,12 +20,12 @@ use Rattle.relation.specs.Families as Families
 use Rattle.relation.specs.Families.{Family}
 use Rattle.relation.specs.Handed.{relationOf, checkOf}
 use Rattle.relation.proofs.Sets.{Fit, check-well-formed}
-use Rattle.search.specs.declared.State.{State}
-use Rattle.search.specs.Search.{floor, run}
-use Rattle.search.specs.TreeBoard.{tree, Smallest}
-use Rattle.search.specs.Promise.{Promise}
-use Rattle.search.proofs.Families.{fair, smallest}
-use Rattle.search.proofs.Promised.{run-promise}
+use Rattle.branch_bound.specs.declared.State.{State}
+use Rattle.branch_bound.specs.Search.{floor, run}
+use Rattle.branch_bound.specs.TreeBoard.{tree, Smallest}
+use Rattle.branch_bound.specs.Promise.{Promise}
+use Rattle.branch_bound.proofs.Families.{fair, smallest}
+use Rattle.branch_bound.proofs.Treating.{run-promise}
 use Rattle.stage.specs.Bytes.{size}
 use Rattle.stage.specs.Written.{stageTrees, stageOf, firstOut, tableOut, writtenOf}
 use Rattle.stage.specs.Read.{got, readStage}
@@ -75,11 +75,11 @@ module _ (r : Relation) (passes : checkOf r ≡ acceptedCase) (budget : ℕ) whe
   kept = run-promise (tree (r .n) (r .m)) (fair (r .n) (r .m) (fit .few-wires)) budget (relationOf r) (fit .well-defined)
 
   long : r .m ≤ length (found .tables)
-  long = omega (arith, kept .sound .long, fit .few-wires)
+  long = omega (arith, kept .so-far .long, fit .few-wires)
 
   in-range : (j : ℕ) → j < r .m → getD (found .tables) j 0 < 2 ^ (2 ^ r .n)
   unfolding tree
-  in-range j l = kept .sound .stage j l
+  in-range j l = kept .so-far .stage j l
 
   abbrev pub trees : List Tree
   trees = stageTrees (r .n) (r .m) (found .tables)

@@ -16,9 +16,9 @@ use Rattle.relation.specs.Source.{Rel, value}
 use Rattle.relation.specs.Tests.{ofSets, wires, keep, free, openPairs}
 use Rattle.relation.specs.Masks.{member, withBit, narrowed}
 use Rattle.relation.proofs.Sets.{member-sets}
-use Rattle.search.specs.declared.State.{State}
-use Rattle.search.specs.Search.{split, searchPart, discarded, halted, charged, improved, floor, picks}
-use Rattle.search.specs.TreeBoard.{tree}
+use Rattle.branch_bound.specs.declared.State.{State}
+use Rattle.branch_bound.specs.Search.{split, searchPart, discarded, halted, charged, improved, floor, picks}
+use Rattle.branch_bound.specs.TreeBoard.{tree}
 use Rattle.search.specs.Kept.{Sized, Sets, Held, Settled, AlikeBelow, stateOf, pairsOf, ranksOf, tablesIn, cellsIn, cutPairs, ranksAgain, PairsCover}
 use Rattle.search.proofs.Keeping.{kept-tables, kept-floor, pairs-cover, with-keep, with-sets, with-pairs, with-ranks}
 use Rattle.search.proofs.Steps.{discards, fewer-open}

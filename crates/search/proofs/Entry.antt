@@ -13,11 +13,10 @@ use Rattle.relation.specs.Masks.{cleared}
 use Rattle.relation.specs.Handed.{relationOf, checkOf}
 use Rattle.relation.proofs.Sets.{Fit, check-well-formed, cleared-takes, cleared-narrow}
 use Rattle.search.specs.declared.Part.{Part}
-use Rattle.search.specs.declared.State.{State}
-use Rattle.search.specs.Cases.{bestOutcome, stoppedOutcome, SearchReply}
-use Rattle.search.specs.Search.{floor, start, searchPart, run}
-use Rattle.search.specs.TreeBoard.{tree}
-use Rattle.search.specs.Reply.{markOf, answerOf, refusedWith, afterCheck, searchOf}
+use Rattle.branch_bound.specs.declared.State.{State}
+use Rattle.branch_bound.specs.Reply.{bestOutcome, stoppedOutcome, SearchReply, markOf, answerOf, refusedWith, searchTested, searchOf}
+use Rattle.branch_bound.specs.Search.{floor, start, searchPart, run}
+use Rattle.branch_bound.specs.TreeBoard.{tree}
 use Rattle.search.specs.Kept.{Sized, Sets, Held, Kept, stateOf}
 
 -- the whole relation as the search holds it
@@ -67,9 +66,9 @@ module _ (r : Relation) (long : length (r .sets) ≡ 16) (passes : checkOf r ≡
       record { long = w .long; small = w .small; past = w .past; defined = rw as-held (fit .well-defined) }
 
   pub answered : (budget : ℕ) → searchOf r budget ≡ answerOf (r .n) (r .m) (relationOf r) (run (tree (r .n) (r .m)) budget (relationOf r))
-  unfolding searchOf afterCheck
+  unfolding searchOf searchTested
   answered budget = rw passes
 
 pub turned-away : (r : Relation) (budget : ℕ) (f : Refusal) → checkOf r ≡ refusedCase f → searchOf r budget ≡ refusedWith (refusedCase f)
-unfolding searchOf afterCheck
+unfolding searchOf searchTested
 turned-away r budget f e = rw e

@@ -24,11 +24,11 @@ use Rattle.relation.specs.Masks.{maskOf, agreed}
 use Rattle.relation.proofs.Splits.{agree-well-defined}
 use Rattle.relation.proofs.Sets.{agreed-agree, agreed-narrow}
 use Rattle.base.proofs.Rows.{filled-row}
-use Rattle.search.specs.declared.State.{State}
-use Rattle.search.specs.Search.{tablesOf, total, pick, left, quick, start}
-use Rattle.search.specs.TreeBoard.{tree}
+use Rattle.branch_bound.specs.declared.State.{State}
+use Rattle.branch_bound.specs.Search.{replyTables, total, pick, left, quick, start}
+use Rattle.branch_bound.specs.TreeBoard.{tree}
 use Rattle.search.specs.Kept.{Sized, Sets}
-use Rattle.search.proofs.Picks.{wires-tables, pick-fits}
+use Rattle.branch_bound.proofs.Picks.{wires-tables, pick-fits}
 use Rattle.search.proofs.Keeping.{narrow, kept-pick, least, rank-parts}
 
 -- the table chosen for wire i
@@ -40,17 +40,17 @@ pub record Taken (n m : ℕ) (sets : List ℕ) (j : ℕ) (rest tables : List ℕ
   pub reached : j ≤ m
   pub kept : Sets n m rest
   pub is-left : ofSets rest ≡ left (tree n m) (ofSets sets) j
-  pub are-chosen : tables ≡ tablesOf j (chosen n m sets)
+  pub are-chosen : tables ≡ replyTables j (chosen n m sets)
   pub counted : sums ≡ sum j (λ i. cells n (chosen n m sets i))
   pub few : sums ≤ j * tableSpace
 
 pub none-taken : (n m : ℕ) (sets : List ℕ) → Sets n m sets → Taken n m sets 0 sets (0 ∷ 0 ∷ 0 ∷ 0 ∷ []) 0
-unfolding left tablesOf row sum
+unfolding left replyTables row sum
 none-taken n m sets ok = record { reached = omega arith; kept = ok; is-left = refl; are-chosen = refl; counted = refl; few = omega arith }
 
 -- one table more in a row of tables
-more-tables : (j : ℕ) (X : Tables) (tables : List ℕ) → j < maxWires → tables ≡ tablesOf j X → set tables j (X j) ≡ tablesOf (j + 1) X
-unfolding tablesOf
+more-tables : (j : ℕ) (X : Tables) (tables : List ℕ) → j < maxWires → tables ≡ replyTables j X → set tables j (X j) ≡ replyTables (j + 1) X
+unfolding replyTables
 more-tables j X tables lj e =
     let f : ℕ → ℕ = λ i. cond (ltb i j) (X i) 0 in
     let g : ℕ → ℕ = λ i. cond (ltb i (j + 1)) (X i) 0 in
@@ -114,9 +114,9 @@ pub all-taken : (n m : ℕ) (sz : Sized n m) (sets rest tables : List ℕ) (sums
     → _≡_ {A = State} (record { tables = tables; cells = sums; visits = 0; stopped = false }) (start (tree n m) (ofSets sets))
 unfolding start quick total tree
 all-taken n m sz sets rest tables sums j e tk =
-    let et : tables ≡ tablesOf m (chosen n m sets) = tk .are-chosen ∙ ap (λ k. tablesOf k (chosen n m sets)) e in
-    let ec : sums ≡ sum m (λ i. cells n (wires (tablesOf m (chosen n m sets)) i)) =
+    let et : tables ≡ replyTables m (chosen n m sets) = tk .are-chosen ∙ ap (λ k. replyTables k (chosen n m sets)) e in
+    let ec : sums ≡ sum m (λ i. cells n (wires (replyTables m (chosen n m sets)) i)) =
     tk .counted ∙ ap (λ k. sum k (λ i. cells n (chosen n m sets i))) e
-    ∙ sum-cong m (λ i. cells n (chosen n m sets i)) (λ i. cells n (wires (tablesOf m (chosen n m sets)) i))
+    ∙ sum-cong m (λ i. cells n (chosen n m sets i)) (λ i. cells n (wires (replyTables m (chosen n m sets)) i))
     (λ i l. ap (cells n) (sym (wires-tables n m (sz .wires) (chosen n m sets) i l))) in
     rw (et, ec)

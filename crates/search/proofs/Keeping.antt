@@ -30,10 +30,10 @@ use Rattle.relation.proofs.Decide.{free-both, occurs-intro}
 use Rattle.relation.proofs.Splits.{keep-part, keep-well-defined, occurs-part}
 use Rattle.table.proofs.Bits.{zero-bit}
 use Rattle.relation.proofs.Sets.{Narrow, member-sets, narrow-keep, narrowed-narrow, occurs-four, mask-lt, mask-projection, mask-covers}
-use Rattle.search.specs.Search.{tablesOf, total, pick, picks, floor}
-use Rattle.search.specs.TreeBoard.{tree}
+use Rattle.branch_bound.specs.Search.{replyTables, total, pick, picks, floor}
+use Rattle.branch_bound.specs.TreeBoard.{tree}
 use Rattle.search.specs.Kept.{Sized, Sets, rankOf, ranksOf, pairOf, pairsOf, tablesIn, cellsIn, cutPair, cutPairs, rankAgain, ranksAgain, Covers, PairsCover}
-use Rattle.search.proofs.Picks.{pick-least}
+use Rattle.branch_bound.proofs.Picks.{pick-least}
 use Rattle.search.proofs.MaskPairs.{pair-zeros, pair-ones, pair-cut}
 
 -- a table of n inputs stands whole in a rank
@@ -83,7 +83,7 @@ module _ (n m : ℕ) (sz : Sized n m) (sets : List ℕ) (ok : Sets n m sets) whe
 
   -- the ranks' tables are the picks, and their cells the floor
   pub kept-tables : tablesIn (ranksOf n sets) ≡ picks (tree n m) (ofSets sets)
-  unfolding tablesIn picks tablesOf tree
+  unfolding tablesIn picks replyTables tree
   kept-tables =
       row-cong maxWires (λ j. getD (ranksOf n sets) j 0 % tableSpace) (λ j. cond (ltb j m) (pick (tree n m) (ofSets sets) j) 0)
       (λ j l.

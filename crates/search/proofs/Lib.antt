@@ -1,7 +1,3 @@
-pub mod Picks
-pub mod Promised
-pub mod Depth
-pub mod Families
 pub mod MaskPairs
 pub mod Keeping
 pub mod Whole

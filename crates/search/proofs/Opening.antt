@@ -20,14 +20,14 @@ use Rattle.relation.proofs.Decide.{compatible-at, compatible-test, conflict-is,
 use Rattle.relation.proofs.Sets.{member-sets, free-four, value-four}
 use Rattle.relation.proofs.Side.{side-value}
 use Rattle.search.specs.declared.Open.the-variants.{Pair, Closed}
-use Rattle.search.specs.Search.{tablesOf, pick, picks}
-use Rattle.search.specs.TreeBoard.{tree}
+use Rattle.branch_bound.specs.Search.{replyTables, pick, picks}
+use Rattle.branch_bound.specs.TreeBoard.{tree}
 use Rattle.search.specs.Kept.{Sized, Sets, Settled, openOf}
-use Rattle.search.proofs.Picks.{wires-tables, pick-fits}
+use Rattle.branch_bound.proofs.Picks.{wires-tables, pick-fits}
 
 -- a reply's tables past the last wire are 0
-pub tables-past : (m : ℕ) (X : Tables) (j : ℕ) → m ≤ j → wires (tablesOf m X) j ≡ 0
-unfolding tablesOf
+pub tables-past : (m : ℕ) (X : Tables) (j : ℕ) → m ≤ j → wires (replyTables m X) j ≡ 0
+unfolding replyTables
 tables-past m X j l =
     let f : ℕ → ℕ = λ i. cond (ltb i m) (X i) 0 in
     ⊎-elim

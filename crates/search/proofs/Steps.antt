@@ -10,12 +10,12 @@ use Rattle.relation.specs.Source.{Rel}
 use Rattle.relation.specs.Tests.{ofSets, wires, free, compatible, openPairs}
 use Rattle.relation.specs.Masks.{narrowed}
 use Rattle.relation.proofs.Splits.{keep-closes}
-use Rattle.search.specs.declared.State.{State}
+use Rattle.branch_bound.specs.declared.State.{State}
 use Rattle.search.specs.declared.Open.the-variants.{Pair, Closed}
-use Rattle.search.specs.Search.{picks, floor, discarded, usedUp, halted, charged, improved, split, expand, charge, treat, searchPart}
-use Rattle.search.specs.TreeBoard.{tree}
+use Rattle.branch_bound.specs.Search.{picks, floor, discarded, usedUp, halted, charged, improved, split, expand, charge, treat, searchPart}
+use Rattle.branch_bound.specs.TreeBoard.{tree}
 use Rattle.search.specs.Kept.{Sized, Sets, openOf}
-use Rattle.search.proofs.Depth.{search-step}
+use Rattle.branch_bound.proofs.Depth.{search-step}
 use Rattle.search.proofs.Opening.{found-closed, pair-told}
 use Rattle.search.proofs.Keeping.{with-keep}
 

@@ -15,7 +15,7 @@ use Rattle.relation.specs.Source.{Rel, Tables, WellDefined, value}
 use Rattle.relation.specs.Tests.{ofSets, wires, isOne, occurs, compatible, conflict, freeWire}
 use Rattle.relation.specs.Masks.{member, maskOf, cut, NonePast}
 use Rattle.search.specs.declared.Part.{Part}
-use Rattle.search.specs.declared.State.{State}
+use Rattle.branch_bound.specs.declared.State.{State}
 use Rattle.search.specs.declared.Open.{Open}
 use Rattle.search.specs.declared.Open.the-variants.{Pair, Closed}
 

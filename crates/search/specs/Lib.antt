@@ -1,7 +1,3 @@
--- The search of document 01, over the count of cells and the order of picks as parameters, and its promise.
-pub mod Search
-pub mod Promise
-pub mod TreeBoard
-pub mod Reply
+-- The reply of a search told by document 01's numbers.
 pub mod Kept
 pub mod Cases

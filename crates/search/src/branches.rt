@@ -16,8 +16,8 @@ ghost use lib.Dec.{T};
 ghost use lib.ListN.{length};
 ghost use Rattle.table.specs.Blocks.{Blocks};
 ghost use Rattle.relation.specs.Tests.{ofSets, free};
-ghost use Rattle.search.specs.Search.{split as splitOf, searchPart};
-ghost use Rattle.search.specs.TreeBoard.{tree};
+ghost use Rattle.branch_bound.specs.Search.{split as splitOf, searchPart};
+ghost use Rattle.branch_bound.specs.TreeBoard.{tree};
 ghost use Rattle.search.specs.Kept.{Held, Settled, cellsIn, tablesIn, stateOf};
 
 // Steps 1 to 4 of the search for one part. Its picks are allowed on the patterns below `from`.

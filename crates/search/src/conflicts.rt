@@ -9,8 +9,8 @@ use relation::values::is_open;
 ghost use mathlib.Core.Path.{_≡_};
 ghost use Prim.Native.Nat.{_<_, _≤_, _^_};
 ghost use Rattle.relation.specs.Tests.{ofSets, wires};
-ghost use Rattle.search.specs.Search.{picks};
-ghost use Rattle.search.specs.TreeBoard.{tree};
+ghost use Rattle.branch_bound.specs.Search.{picks};
+ghost use Rattle.branch_bound.specs.TreeBoard.{tree};
 ghost use Rattle.search.specs.Kept.{Sized, Sets, Settled, openOf};
 
 // The lowest pattern on which the picks' value is not allowed, and the lowest wire open there. A pattern in conflict has an open wire, since every pick

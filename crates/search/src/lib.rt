@@ -6,10 +6,10 @@ use relation::patterns::clear_past;
 use table::picks::blocks;
 ghost use mathlib.Core.Path.{_≡_};
 ghost use Rattle.relation.specs.Tests.{ofSets};
-ghost use Rattle.search.specs.Search.{run};
-ghost use Rattle.search.specs.TreeBoard.{tree};
+ghost use Rattle.branch_bound.specs.Search.{run};
+ghost use Rattle.branch_bound.specs.TreeBoard.{tree};
 ghost use Rattle.search.specs.Cases.{searchReply};
-ghost use Rattle.search.specs.Reply.{answerOf, searchOf};
+ghost use Rattle.branch_bound.specs.Reply.{answerOf, searchOf};
 ghost use Rattle.search.specs.Kept.{Sized, Sets};
 
 mod ranks; // a pick as one number
@@ -27,14 +27,6 @@ struct Part {
     sets: [u16; 16],
     pairs: [u32; 4],
     ranks: [u32; 4],
-}
-
-// The best so far (incumbent), the visits charged (nodes expanded), and whether a part was left.
-pub struct State {
-    pub tables: [u16; 4],
-    pub cells: u32,
-    pub visits: u32,
-    pub stopped: bool,
 }
 
 // A pattern in conflict with its lowest open wire, or no conflict.

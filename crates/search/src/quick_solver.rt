@@ -1,16 +1,16 @@
 // The first answer, one wire after the other (QuickSolver of source 001, section 6.2).
 // Inner functions: `search_sets` and `quick` meet what they require.
-use crate::State;
 use crate::parts::wire_rank;
 use crate::ranks::cells_of;
 use crate::ranks::table_of;
+use branch_bound::State;
 use relation::patterns::agreeing;
 ghost use mathlib.Core.Path.{_≡_};
 ghost use Prim.Native.Nat.{_<_};
 ghost use Rattle.table.specs.Blocks.{Blocks};
 ghost use Rattle.relation.specs.Tests.{ofSets};
-ghost use Rattle.search.specs.Search.{start};
-ghost use Rattle.search.specs.TreeBoard.{tree};
+ghost use Rattle.branch_bound.specs.Search.{start};
+ghost use Rattle.branch_bound.specs.TreeBoard.{tree};
 ghost use Rattle.search.specs.Kept.{Sized, Sets, rankOf};
 
 // The rank of wire j's pick once the wires before it are chosen. Before the first wire nothing is: its pick is the whole relation's, which the caller has.

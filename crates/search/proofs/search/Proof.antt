@@ -3,9 +3,9 @@ use mathlib.Core.Path.{_≡_, ap, sym, subst, _∙_}
 use lib.ListN.{length}
 use Rattle.relation.specs.Cases.{checkedCase}
 use Rattle.relation.specs.Tests.{ofSets}
-use Rattle.search.specs.Search.{run}
-use Rattle.search.specs.TreeBoard.{tree}
-use Rattle.search.specs.Reply.{answerOf, refusedWith}
+use Rattle.branch_bound.specs.Search.{run}
+use Rattle.branch_bound.specs.TreeBoard.{tree}
+use Rattle.branch_bound.specs.Reply.{answerOf, refusedWith}
 use Rattle.search.specs.Kept.{Sets}
 use Rattle.search.proofs.Entry.{inputs, sized, as-held, held, answered, turned-away}
 use borrow.Author.Needs.{needs}

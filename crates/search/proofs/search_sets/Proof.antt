@@ -2,8 +2,8 @@ use mathlib.Core.Path.{_≡_, refl}
 use native.Mathlib.Omega.{arith}
 use borrow.Author.Tests.{eq-eqb, ne-eqb}
 use Rattle.relation.specs.Tests.{ofSets}
-use Rattle.search.specs.Search.{run}
-use Rattle.search.specs.TreeBoard.{tree}
+use Rattle.branch_bound.specs.Search.{run}
+use Rattle.branch_bound.specs.TreeBoard.{tree}
 use Rattle.search.specs.Kept.{stateOf}
 use Rattle.search.proofs.Branching.{floor-is}
 use Rattle.search.proofs.Whole.{rank-first}

@@ -7,8 +7,8 @@ use lib.Dec.{le→leb}
 use lib.ListN.{length, getD, set, length-set}
 use lib.Seq.{set-getD}
 use Rattle.relation.specs.Tests.{ofSets, wires, openPairs}
-use Rattle.search.specs.Search.{split as splitOf, searchPart}
-use Rattle.search.specs.TreeBoard.{tree}
+use Rattle.branch_bound.specs.Search.{split as splitOf, searchPart}
+use Rattle.branch_bound.specs.TreeBoard.{tree}
 use Rattle.search.specs.Kept.{Settled, stateOf}
 use Rattle.search.proofs.Opening.{found-open, found-below}
 use Rattle.search.proofs.Steps.{lt→nleb, discards, halts, improves, splits}

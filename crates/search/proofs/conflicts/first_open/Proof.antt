@@ -1,7 +1,7 @@
 use Rattle.base.proofs.Tests.{told-yes, told-no, denied, granted}
 use Rattle.search.specs.declared.Open.the-variants.{Pair}
-use Rattle.search.specs.Search.{picks}
-use Rattle.search.specs.TreeBoard.{tree}
+use Rattle.branch_bound.specs.Search.{picks}
+use Rattle.branch_bound.specs.TreeBoard.{tree}
 use Rattle.search.specs.Kept.{Settled, openOf}
 use borrow.Author.Needs.{needs}
 use mir.Val.{Fits}

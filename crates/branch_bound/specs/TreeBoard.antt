@@ -8,8 +8,8 @@ use Rattle.table.specs.Tree.{Tree, reduced}
 use Rattle.relation.specs.Source.{Rel}
 use Rattle.relation.specs.Tests.{wires}
 use Rattle.relation.specs.Families.{Family, size}
-use Rattle.search.specs.declared.State.{State}
-use Rattle.search.specs.Search.{Board, floor}
+use Rattle.branch_bound.specs.declared.State.{State}
+use Rattle.branch_bound.specs.Search.{Board, floor}
 
 unfoldable pub tree : ℕ → ℕ → Board
 tree n m = record { n = n; m = m; count = cells n; key = cells n }

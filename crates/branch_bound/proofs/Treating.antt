@@ -12,10 +12,10 @@ use Rattle.relation.specs.Source.{Rel, Tables, Part, Stage, WellDefined, Compat
 use Rattle.relation.specs.Tests.{wires, keep, free, freeWire, compatible, conflict, openPairs}
 use Rattle.relation.proofs.Decide.{free-both, compatible-at, conflict-is, freeWire-is}
 use Rattle.relation.proofs.Splits.{keep-part, keep-well-defined, keep-compatible, keep-closes}
-use Rattle.search.specs.declared.State.{State}
-use Rattle.search.specs.Search.{Board, total, pick, picks, floor, start, split, expand, charge, treat, visit, searchPart, run, charged, discarded, usedUp}
-use Rattle.search.specs.Promise.{Fair, Sound, Promise}
-use Rattle.search.proofs.Picks.{wires-tables, tables-long, quick-long, tables-stage, floor-picks, pick-stage, pick-fits, floor-le, quick-compatible, quick-stage}
+use Rattle.branch_bound.specs.declared.State.{State}
+use Rattle.branch_bound.specs.Search.{Board, total, pick, picks, floor, start, split, expand, charge, treat, visit, searchPart, run, charged, discarded, usedUp}
+use Rattle.branch_bound.specs.Promise.{Fair, AnswerSoFar, Promise}
+use Rattle.branch_bound.proofs.Picks.{wires-tables, tables-long, quick-long, tables-stage, floor-picks, pick-stage, pick-fits, floor-le, quick-compatible, quick-stage}
 
 -- What treating the part R does to a state s that becomes t: never more cells, a stop stays, and with no stop no answer of R has fewer cells.
 pub record Treated (b : Board) (R : Rel) (s t : State) : Type 0 where
@@ -27,15 +27,15 @@ pub record Treated (b : Board) (R : Rel) (s t : State) : Type 0 where
 module _ (b : Board) (fair : Fair b) (budget : ℕ) (Q : Rel)
     (prunes : (s : State) (f : ℕ) → T (discarded s f) → s .cells ≤ f) (spares : (s : State) (f : ℕ) → T (not (discarded s f)) → f < s .cells) where
   abbrev After : Rel → State → State → Type 0
-  After R s t = Sound b budget Q t × Treated b R s t
+  After R s t = AnswerSoFar b budget Q t × Treated b R s t
 
   -- the induction's hypothesis for the parts of a part
   abbrev Treats : ℕ → (Rel → State → State) → Type 0
-  Treats k on = (R : Rel) (s : State) → openPairs (b .n) (b .m) R < k → WellDefined (b .n) (b .m) R → Part R Q → Sound b budget Q s → After R s (on R s)
+  Treats k on = (R : Rel) (s : State) → openPairs (b .n) (b .m) R < k → WellDefined (b .n) (b .m) R → Part R Q → AnswerSoFar b budget Q s → After R s (on R s)
 
   module _ (on : Rel → State → State) (R : Rel) (ne : WellDefined (b .n) (b .m) R) (part : Part R Q) where
     split-treats : (k p j : ℕ) (s : State) → Treats k on → openPairs (b .n) (b .m) R < suc k → p < 2 ^ b .n → j < b .m → T (free (b .m) (R p) j)
-        → Sound b budget Q s → After R s (split b budget on R p j s)
+        → AnswerSoFar b budget Q s → After R s (split b budget on R p j s)
     unfolding split
     split-treats k p j s ih lk lp lj f sd =
         let both = free-both (b .m) (R p) j f in
@@ -63,7 +63,7 @@ module _ (b : Board) (fair : Fair b) (budget : ℕ) (Q : Rel)
           },
         )
 
-    expand-treats : (k : ℕ) (s : State) → Treats k on → openPairs (b .n) (b .m) R < suc k → Sound b budget Q s → floor b R < s .cells → s .visits < budget
+    expand-treats : (k : ℕ) (s : State) → Treats k on → openPairs (b .n) (b .m) R < suc k → AnswerSoFar b budget Q s → floor b R < s .cells → s .visits < budget
         → After R s (expand b budget on R s)
     unfolding expand picks
     expand-treats k s ih lk sd lf lv =
@@ -92,7 +92,7 @@ module _ (b : Board) (fair : Fair b) (budget : ℕ) (Q : Rel)
         (record { long = sd .long; stage = sd .stage; answer = sd .answer; counted = sd .counted; within = omega arith; spent = go }) in
         (r .0, record { down = r .1 .down; stays = r .1 .stays; best = r .1 .best }))
 
-    charge-treats : (k : ℕ) (s : State) → Treats k on → openPairs (b .n) (b .m) R < suc k → Sound b budget Q s → floor b R < s .cells
+    charge-treats : (k : ℕ) (s : State) → Treats k on → openPairs (b .n) (b .m) R < suc k → AnswerSoFar b budget Q s → floor b R < s .cells
         → After R s (charge b budget on R s)
     unfolding charge
     charge-treats k s ih lk sd lf =
@@ -103,7 +103,7 @@ module _ (b : Board) (fair : Fair b) (budget : ℕ) (Q : Rel)
         ))
         (λ h. expand-treats k s ih lk sd lf (nleb→lt budget (s .visits) h))
 
-    treat-treats : (k : ℕ) (s : State) → Treats k on → openPairs (b .n) (b .m) R < suc k → Sound b budget Q s → After R s (treat b budget on R s)
+    treat-treats : (k : ℕ) (s : State) → Treats k on → openPairs (b .n) (b .m) R < suc k → AnswerSoFar b budget Q s → After R s (treat b budget on R s)
     unfolding treat
     treat-treats k s ih lk sd =
         cond-has (After R s) (discarded s (floor b R))
@@ -121,4 +121,4 @@ run-promise b fair budget R ne =
     let few = fair .few in
     let r = visit-treats b fair budget R (λ s f. leb→le (s .cells) f) (λ s f. nleb→lt (s .cells) f) (suc (openPairs (b .n) (b .m) R)) R (start b R) (omega arith) ne (λ p v t. t)
     (record { long = quick-long b R; stage = quick-stage b R ne few; answer = quick-compatible b R ne few; counted = refl; within = omega arith; spent = λ h. absurd h }) in
-    record { sound = r .0; above = floor-le b R ne fair; best = r .1 .best }
+    record { so-far = r .0; above = floor-le b R ne fair; best = r .1 .best }

@@ -8,7 +8,7 @@ use Rattle.table.specs.Bits.{sum, row}
 use Rattle.table.specs.Pick.{orZero, leastOf}
 use Rattle.relation.specs.Source.{Rel, Tables}
 use Rattle.relation.specs.Tests.{wires, keep, agree, projection, freeWire, compatible, conflict, openPairs}
-use Rattle.search.specs.declared.State.{State}
+use Rattle.branch_bound.specs.declared.State.{State}
 
 -- What a search is over: n inputs, m wires, the cells of a table, and the number whose least decides a pick before the table's own.
 pub record Board : Type 0 where
@@ -18,8 +18,8 @@ pub record Board : Type 0 where
   pub key : ℕ → ℕ
 
 -- the tables of m wires as the reply has them: a zero for each wire that there is not
-unfoldable pub tablesOf : ℕ → Tables → List ℕ
-tablesOf m X = row maxWires (λ j. cond (ltb j m) (X j) 0)
+unfoldable pub replyTables : ℕ → Tables → List ℕ
+replyTables m X = row maxWires (λ j. cond (ltb j m) (X j) 0)
 
 -- step 2: a part is left, which the mark will say
 abbrev pub halted : State → State
@@ -51,7 +51,7 @@ module _ (b : Board) where
   pick R j = orZero (leastOf (b .key) (b .n) (projection (b .m) R j))
 
   unfoldable pub picks : Rel → List ℕ
-  picks R = tablesOf (b .m) (pick R)
+  picks R = replyTables (b .m) (pick R)
 
   -- the first answer chooses wire after wire (source 001's QuickSolver): what is left of R when wires 0 to j - 1 have their picks
   unfoldable pub left : Rel → ℕ → Rel
@@ -59,7 +59,7 @@ module _ (b : Board) where
   left R (suc j) = let L = left R j in agree L j (pick L j)
 
   unfoldable pub quick : Rel → List ℕ
-  quick R = tablesOf (b .m) (λ j. pick (left R j) j)
+  quick R = replyTables (b .m) (λ j. pick (left R j) j)
 
   -- the lower bound for every stage of R: the cells of its picks
   unfoldable pub floor : Rel → ℕ

@@ -7,8 +7,8 @@ use lib.ListN.{length}
 use Rattle.base.specs.Sizes.{maxWires}
 use Rattle.relation.specs.Source.{Rel, Tables, Stage, Compatible}
 use Rattle.relation.specs.Tests.{wires}
-use Rattle.search.specs.declared.State.{State}
-use Rattle.search.specs.Search.{Board, total, floor}
+use Rattle.branch_bound.specs.declared.State.{State}
+use Rattle.branch_bound.specs.Search.{Board, total, floor}
 
 -- a pick of least key has the fewest cells, and the wires are as many as the reply has tables for
 pub record Fair (b : Board) : Type 0 where
@@ -17,7 +17,7 @@ pub record Fair (b : Board) : Type 0 where
 
 -- What holds of every state of a search of Q: the four tables are an answer, the cells are theirs, no more visits than the budget allows,
 -- and a stopped search has used the budget up.
-pub record Sound (b : Board) (budget : ℕ) (Q : Rel) (s : State) : Type 0 where
+pub record AnswerSoFar (b : Board) (budget : ℕ) (Q : Rel) (s : State) : Type 0 where
   pub long : length (s .tables) ≡ maxWires
   pub stage : Stage (b .n) (b .m) (wires (s .tables))
   pub answer : Compatible (b .n) (b .m) Q (wires (s .tables))
@@ -27,6 +27,6 @@ pub record Sound (b : Board) (budget : ℕ) (Q : Rel) (s : State) : Type 0 where
 
 -- The promise of a search of R: what it answers, that no compatible stage is below the floor, and that none is below the answer unless it was stopped.
 pub record Promise (b : Board) (budget : ℕ) (R : Rel) (s : State) : Type 0 where
-  pub sound : Sound b budget R s
+  pub so-far : AnswerSoFar b budget R s
   pub above : (X : Tables) → Stage (b .n) (b .m) X → Compatible (b .n) (b .m) R X → floor b R ≤ total b X
   pub best : T (not (s .stopped)) → (X : Tables) → Stage (b .n) (b .m) X → Compatible (b .n) (b .m) R X → s .cells ≤ total b X

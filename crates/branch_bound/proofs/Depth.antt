@@ -10,9 +10,9 @@ use Rattle.relation.specs.Source.{Rel, WellDefined}
 use Rattle.relation.specs.Tests.{wires, keep, free, freeWire, compatible, conflict, openPairs}
 use Rattle.relation.proofs.Decide.{free-both, conflict-is, freeWire-is}
 use Rattle.relation.proofs.Splits.{keep-well-defined, keep-closes}
-use Rattle.search.specs.declared.State.{State}
-use Rattle.search.specs.Search.{Board, pick, picks, floor, split, expand, charge, treat, visit, searchPart, charged, discarded, usedUp}
-use Rattle.search.proofs.Picks.{wires-tables, pick-fits}
+use Rattle.branch_bound.specs.declared.State.{State}
+use Rattle.branch_bound.specs.Search.{Board, pick, picks, floor, split, expand, charge, treat, visit, searchPart, charged, discarded, usedUp}
+use Rattle.branch_bound.proofs.Picks.{wires-tables, pick-fits}
 
 -- More depth than open pairs changes nothing.
 module _ (b : Board) (few : b .m ≤ maxWires) (budget : ℕ) where

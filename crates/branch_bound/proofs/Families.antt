@@ -10,11 +10,11 @@ use Rattle.table.proofs.Bits.{sum-cong, sum-le, ofBits-lt, bit-ofBits}
 use Rattle.table.proofs.Trees.{follow-lt, least-tree, reduced-selectors, reduced-ordered, reduced-follow}
 use Rattle.relation.specs.Source.{Rel, Tables, Stage, WellDefined, Compatible, value}
 use Rattle.relation.specs.Tests.{wires}
-use Rattle.search.specs.Search.{total, run}
-use Rattle.search.specs.Promise.{Fair}
+use Rattle.branch_bound.specs.Search.{total, run}
+use Rattle.branch_bound.specs.Promise.{Fair}
 use Rattle.relation.specs.Families.{Family, size}
-use Rattle.search.specs.TreeBoard.{tree, Smallest}
-use Rattle.search.proofs.Promised.{run-promise}
+use Rattle.branch_bound.specs.TreeBoard.{tree, Smallest}
+use Rattle.branch_bound.proofs.Treating.{run-promise}
 
 pub fair : (n m : ℕ) → m ≤ maxWires → Fair (tree n m)
 unfolding tree
@@ -71,10 +71,10 @@ smallest n m budget R few ne =
     let r = run-promise (tree n m) (fair n m few) budget R ne in
     let X = wires (run (tree n m) budget R .tables) in
     record {
-      own = own-family n m R X (r .sound .stage) (r .sound .answer);
-      counted = own-size n m R X (r .sound .stage) ∙ sym (r .sound .counted);
+      own = own-family n m R X (r .so-far .stage) (r .so-far .answer);
+      counted = own-size n m R X (r .so-far .stage) ∙ sym (r .so-far .counted);
       best = λ h x v. le-trans (r .best h (tables n m R x v) (family-stage n m R x v) (family-compatible n m R x v)) (family-total n m R x v);
       above = λ x v. le-trans (r .above (tables n m R x v) (family-stage n m R x v) (family-compatible n m R x v)) (family-total n m R x v);
-      within = r .sound .within;
-      spent = r .sound .spent;
+      within = r .so-far .within;
+      spent = r .so-far .spent;
     }

@@ -19,16 +19,16 @@ use Rattle.relation.specs.Tests.{wires, projection, fits}
 use Rattle.relation.proofs.Decide.{value-cong, value-is, compatible-fits, some-fits}
 use Rattle.relation.proofs.Splits.{agree-part, agree-bit, agree-well-defined}
 use borrow.Author.Tests.{lt-ltb}
-use Rattle.search.specs.Search.{Board, tablesOf, total, pick, picks, floor, left, quick}
-use Rattle.search.specs.Promise.{Fair}
+use Rattle.branch_bound.specs.Search.{Board, replyTables, total, pick, picks, floor, left, quick}
+use Rattle.branch_bound.specs.Promise.{Fair}
 
 pub total-cong : (b : Board) (X Y : Tables) → ((j : ℕ) → j < b .m → X j ≡ Y j) → total b X ≡ total b Y
 unfolding total
 total-cong b X Y h = sum-cong (b .m) (λ j. b .count (X j)) (λ j. b .count (Y j)) (λ j l. ap (b .count) (h j l))
 
 -- a reply has four tables
-pub tables-long : (m : ℕ) (X : Tables) → length (tablesOf m X) ≡ maxWires
-unfolding tablesOf
+pub tables-long : (m : ℕ) (X : Tables) → length (replyTables m X) ≡ maxWires
+unfolding replyTables
 tables-long m X = row-length maxWires (λ j. cond (ltb j m) (X j) 0)
 
 pub quick-long : (b : Board) (R : Rel) → length (quick b R) ≡ maxWires
@@ -37,20 +37,20 @@ quick-long b R = tables-long (b .m) (λ j. pick b (left b R j) j)
 
 -- the wires of a row of tables
 module _ (n m : ℕ) (few : m ≤ maxWires) (X : Tables) where
-  pub wires-tables : (j : ℕ) → j < m → wires (tablesOf m X) j ≡ X j
-  unfolding tablesOf
+  pub wires-tables : (j : ℕ) → j < m → wires (replyTables m X) j ≡ X j
+  unfolding replyTables
   wires-tables j l = row-at maxWires (λ j. cond (ltb j m) (X j) 0) j (omega arith) ∙ rw (lt-ltb j m l)
 
-  pub tables-stage : Stage n m X → Stage n m (wires (tablesOf m X))
+  pub tables-stage : Stage n m X → Stage n m (wires (replyTables m X))
   tables-stage h j l = rw (wires-tables j l) (h j l)
 
-  pub tables-compatible : (R : Rel) → Compatible n m R X → Compatible n m R (wires (tablesOf m X))
-  tables-compatible R h p l = rw (value-cong m (wires (tablesOf m X)) X p wires-tables) (h p l)
+  pub tables-compatible : (R : Rel) → Compatible n m R X → Compatible n m R (wires (replyTables m X))
+  tables-compatible R h p l = rw (value-cong m (wires (replyTables m X)) X p wires-tables) (h p l)
 
 -- the floor is the cells of the picks
 pub floor-picks : (b : Board) → b .m ≤ maxWires → (R : Rel) → floor b R ≡ total b (wires (picks b R))
 unfolding floor picks
-floor-picks b few R = total-cong b (pick b R) (wires (tablesOf (b .m) (pick b R))) (λ j l. sym (wires-tables (b .n) (b .m) few (pick b R) j l))
+floor-picks b few R = total-cong b (pick b R) (wires (replyTables (b .m) (pick b R))) (λ j l. sym (wires-tables (b .n) (b .m) few (pick b R) j l))
 
 module _ (b : Board) (R : Rel) (ne : WellDefined (b .n) (b .m) R) where
   pub pick-least : (j : ℕ) → Least (b .key) (fits (b .n) (b .m) R j) (2 ^ (2 ^ b .n)) (some (pick b R j))
