@@ -1,5 +1,5 @@
 -- The two parts of a split as the code makes them: the set of one pattern is narrowed in place, masks and ranks follow it.
-use Prim.Native.Nat.{ℕ, zero, suc, _+_, _*_, _%_, _^_, _<_, _≤_}
+use Prim.Native.Nat.{ℕ, zero, suc, _+_, _*_, _^_, _<_, _≤_}
 use mathlib.Core.Path.{_≡_, refl, sym, ap, ap₂, _∙_}
 use mathlib.Core.List.{List, [], _∷_}
 use native.Mathlib.Omega.{arith}
@@ -10,8 +10,7 @@ use lib.Pow.{pow-mono}
 use lib.Seq.{getD-set-other, set-set}
 use Rattle.base.specs.Sizes.{maxWires}
 use Rattle.table.specs.Bits.{bit, ofBits}
-use Rattle.table.specs.Pick.{tableSpace}
-use Rattle.table.proofs.Bits.{row-at, sum-cong}
+use Rattle.table.proofs.Bits.{sum-cong}
 use Rattle.relation.specs.Source.{Rel, value}
 use Rattle.relation.specs.Tests.{ofSets, wires, keep, free, openPairs}
 use Rattle.relation.specs.Masks.{member, withBit, narrowed}
@@ -19,7 +18,13 @@ use Rattle.relation.proofs.Sets.{member-sets}
 use Rattle.branch_bound.specs.declared.State.{State}
 use Rattle.branch_bound.specs.Search.{split, searchPart, discarded, halted, charged, improved, floor, picks}
 use Rattle.branch_bound.specs.TreeBoard.{tree}
-use Rattle.search.specs.Kept.{Sized, Sets, Held, Settled, AlikeBelow, stateOf, pairsOf, ranksOf, tablesIn, cellsIn, cutPairs, ranksAgain, PairsCover}
+use Rattle.search.specs.Inner.Ranks.{tablesIn, floorIn}
+use Rattle.search.specs.Inner.Changes.{AlikeBelow}
+use Rattle.search.specs.Inner.Pairs.{pairsOf, cutPairs, PairsCover}
+use Rattle.search.specs.Inner.Parts.{InLimits, PartSets, ranksOf, ranksAgain, Carried}
+use Rattle.search.specs.Inner.Conflicts.{Settled}
+use Rattle.search.specs.Inner.Tally.{stateOf}
+use Rattle.search.proofs.Packing.{tables-at}
 use Rattle.search.proofs.Keeping.{kept-tables, kept-floor, pairs-cover, with-keep, with-sets, with-pairs, with-ranks}
 use Rattle.search.proofs.Steps.{discards, fewer-open}
 
@@ -33,16 +38,16 @@ unfolding treated split
 treated-both n m budget R p j s = refl
 
 -- the floor and the tables of a part's ranks
-pub floor-is : {n m : ℕ} {S ws rs : List ℕ} → Held n m S ws rs → {f : ℕ} → f ≡ cellsIn rs → f ≡ floor (tree n m) (ofSets S)
-floor-is {n} {m} {S} h e = e ∙ ap cellsIn (h .ranks) ∙ kept-floor n m (h .sized) S (h .sets)
+pub floor-is : {n m : ℕ} {S ws rs : List ℕ} → Carried n m S ws rs → {f : ℕ} → f ≡ floorIn rs → f ≡ floor (tree n m) (ofSets S)
+floor-is {n} {m} {S} h e = e ∙ ap floorIn (h .ranks) ∙ kept-floor n m (h .sized) S (h .sets)
 
-pub tables-are : {n m : ℕ} {S ws rs : List ℕ} → Held n m S ws rs → {t : List ℕ} → t ≡ tablesIn rs → t ≡ picks (tree n m) (ofSets S)
+pub tables-are : {n m : ℕ} {S ws rs : List ℕ} → Carried n m S ws rs → {t : List ℕ} → t ≡ tablesIn rs → t ≡ picks (tree n m) (ofSets S)
 tables-are {n} {m} {S} h e = e ∙ ap tablesIn (h .ranks) ∙ kept-tables n m (h .sized) S (h .sets)
 
-pub pattern-lt : {n m p : ℕ} → Sized n m → p < 2 ^ n → p < 16
+pub pattern-lt : {n m p : ℕ} → InLimits n m → p < 2 ^ n → p < 16
 pattern-lt {n} sz l = lt-of-lt-of-le l (pow-mono {i = n} {j = 4} (sz .inputs))
 
-module _ (n m : ℕ) (S ws rs : List ℕ) (h : Held n m S ws rs) (p j : ℕ) (lp : p < 2 ^ n) (lj : j < m) (open-there : T (free m (ofSets S p) j)) (b : ℕ) (lb : b < 2)
+module _ (n m : ℕ) (S ws rs : List ℕ) (h : Carried n m S ws rs) (p j : ℕ) (lp : p < 2 ^ n) (lj : j < m) (open-there : T (free m (ofSets S p) j)) (b : ℕ) (lb : b < 2)
     (w : ℕ) (ew : w ≡ withBit (getD S p 0) j b) (N : List ℕ) (eN : N ≡ set S p w) where
   is-narrowed : N ≡ narrowed S p j b
   unfolding narrowed
@@ -54,7 +59,7 @@ module _ (n m : ℕ) (S ws rs : List ℕ) (h : Held n m S ws rs) (p j : ℕ) (lp
   pub next-keep : ofSets N ≡ keep (ofSets S) p j b
   next-keep = ap ofSets is-narrowed ∙ with-keep n m (h .sized) S (h .sets) p j b lp lj open-there lb
 
-  next-sets : Sets n m N
+  next-sets : PartSets n m N
   next-sets = rw is-narrowed (with-sets n m (h .sized) S (h .sets) p j b lp lj open-there lb)
 
   module _ {x : List ℕ} (ex : x ≡ cutPairs ws p w) where
@@ -67,7 +72,7 @@ module _ (n m : ℕ) (S ws rs : List ℕ) (h : Held n m S ws rs) (p j : ℕ) (lp
     again : {r r′ y y′ : List ℕ} {v v′ : ℕ} → r ≡ r′ → v ≡ v′ → y ≡ y′ → ranksAgain n r p v y ≡ ranksAgain n r′ p v′ y′
     again er ev ey = cc
 
-    pub next-held : {r : List ℕ} → r ≡ ranksAgain n rs p w x → Held n m N x r
+    pub next-held : {r : List ℕ} → r ≡ ranksAgain n rs p w x → Carried n m N x r
     next-held er =
         record {
           sized = h .sized;
@@ -78,17 +83,16 @@ module _ (n m : ℕ) (S ws rs : List ℕ) (h : Held n m S ws rs) (p j : ℕ) (lp
 
   -- below p and below the first change of a pick, the patterns are as they were
   pub next-settled : Settled m S (tablesIn rs) p → (r : List ℕ) (f : ℕ) → f ≤ p → AlikeBelow rs r f → Settled m N (tablesIn r) f
-  unfolding tablesIn value ofBits
+  unfolding value ofBits
   next-settled settled r f lf alike q l =
       let ne : q ≡ p → ⊥ = λ d. absurd (omega arith) in
       let there : getD N q 0 ≡ getD S q 0 = ap (λ l. getD l q 0) eN ∙ getD-set-other S p q w 0 ne in
       let at : ofSets N q ≡ ofSets S q = member-sets N q ∙ ap member there ∙ sym (member-sets S q) in
-      let bits : (x : List ℕ) (i : ℕ) → i < maxWires → getD (tablesIn x) i 0 ≡ getD x i 0 % tableSpace = λ x i li. row-at maxWires (λ j. getD x j 0 % tableSpace) i li in
       let same : value m (wires (tablesIn rs)) q ≡ value m (wires (tablesIn r)) q =
       sum-cong m (λ i. bit (wires (tablesIn rs) i) q * 2 ^ i) (λ i. bit (wires (tablesIn r) i) q * 2 ^ i)
       (λ i li.
       let l4 : i < maxWires = omega (arith, h .sized .wires) in
-      ap (λ b. b * 2 ^ i) (ap (λ x. bit x q) (bits rs i l4) ∙ alike i q l4 l ∙ ap (λ x. bit x q) (sym (bits r i l4)))) in
+      ap (λ b. b * 2 ^ i) (ap (λ x. bit x q) (tables-at rs i l4) ∙ alike i q l4 l ∙ ap (λ x. bit x q) (sym (tables-at r i l4)))) in
       rw (at, ← same) (settled q (omega arith))
 
   pub next-same : {L : List ℕ} → L ≡ N → (x : ℕ) → set L p x ≡ set S p x
@@ -103,7 +107,7 @@ module _ (n m : ℕ) (S ws rs : List ℕ) (h : Held n m S ws rs) (p j : ℕ) (lp
       ∙ ap (treated n m budget (ofSets S) p j s₀) (sym e)
 
   -- a part that is not visited would be discarded
-  pub next-discards : (budget : ℕ) {x r : List ℕ} → Held n m N x r → {f : ℕ} → f ≡ cellsIn r → (s : State) → T (discarded s f)
+  pub next-discards : (budget : ℕ) {x r : List ℕ} → Carried n m N x r → {f : ℕ} → f ≡ floorIn r → (s : State) → T (discarded s f)
       → s ≡ searchPart (tree n m) budget (ofSets N) s
   next-discards budget held ef s h = discards n m budget (held .sized) N (held .sets) s (floor-is held ef) h
 

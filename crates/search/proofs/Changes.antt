@@ -14,9 +14,9 @@ use Rattle.base.specs.Sizes.{maxWires}
 use Rattle.base.proofs.Tests.{decide, eq-test}
 use Rattle.base.proofs.Lowest.{lowest-at, lowest-none}
 use Rattle.table.specs.Bits.{bit}
-use Rattle.table.specs.Pick.{tableSpace}
-use Rattle.table.proofs.Bits.{any-at, any-intro, bit-mod, bit-div}
-use Rattle.search.specs.Kept.{AlikeBelow, changedOn, firstChange}
+use Rattle.table.proofs.Bits.{any-at, any-intro, bit-div}
+use Rattle.search.specs.Inner.Changes.{bitIn, AlikeBelow, changedOn, firstChange}
+use Rattle.search.proofs.Packing.{table-bit}
 
 low-zero : (n : ℕ) → n % 2 ≡ 0 → bit n 0 ≡ 0
 unfolding bit
@@ -110,16 +110,16 @@ module _ (before ranks : List ℕ) where
       each (suc (suc (suc zero))) l = three .1
       each (suc (suc (suc (suc i)))) l = absurd (omega arith)
 
-      table : bit (differs j) q ≡ 0 → bit (getD before j 0 % tableSpace) q ≡ bit (getD ranks j 0 % tableSpace) q
+      table : bit (differs j) q ≡ 0 → bitIn before j q ≡ bitIn ranks j q
       table e =
           let lt : q < 16 = omega arith in
-          bit-mod (getD before j 0) {j = q} {k = 16} lt ∙ xor-none (getD before j 0) (getD ranks j 0) q e ∙ sym (bit-mod (getD ranks j 0) {j = q} {k = 16} lt)
+          table-bit (getD before j 0) q lt ∙ xor-none (getD before j 0) (getD ranks j 0) q e ∙ sym (table-bit (getD ranks j 0) q lt)
 
   unchanged : (k : ℕ) → AlikeBelow before ranks k → (q : ℕ) → q < k → T (not (changedOn before ranks q))
   unchanged k h q l =
       not-T (changedOn before ranks q) λ t.
-      let r = any-at maxWires (λ j. not (eqb (bit (getD before j 0 % tableSpace) q) (bit (getD ranks j 0 % tableSpace) q))) t in
-      T-not (eqb (bit (getD before (r .0) 0 % tableSpace) q) (bit (getD ranks (r .0) 0 % tableSpace) q)) (r .2) (eq-test (h (r .0) q (r .1) l))
+      let r = any-at maxWires (λ j. not (eqb (bitIn before j q) (bitIn ranks j q))) t in
+      T-not (eqb (bitIn before (r .0) q) (bitIn ranks (r .0) q)) (r .2) (eq-test (h (r .0) q (r .1) l))
 
   none-set : (q : ℕ) → ((j : ℕ) → j < maxWires → bit (getD before j 0) q ≡ bit (getD ranks j 0) q) → bit changed q ≡ 0
   none-set q h =
@@ -136,11 +136,11 @@ module _ (before ranks : List ℕ) where
     where
       same : T (not (changedOn before ranks q)) → (j : ℕ) → j < maxWires → bit (getD before j 0) q ≡ bit (getD ranks j 0) q
       same u j lj =
-          let x = bit (getD before j 0 % tableSpace) q in
-          let y = bit (getD ranks j 0 % tableSpace) q in
-          let test : ℕ → Bool = λ i. not (eqb (bit (getD before i 0 % tableSpace) q) (bit (getD ranks i 0 % tableSpace) q)) in
+          let x = bitIn before j q in
+          let y = bitIn ranks j q in
+          let test : ℕ → Bool = λ i. not (eqb (bitIn before i q) (bitIn ranks i q)) in
           let e : x ≡ y = eqb→eq x y (⊎-elim (λ t. t) (λ n. absurd (T-not (changedOn before ranks q) u (any-intro maxWires test j lj n))) (decide (eqb x y))) in
-          sym (bit-mod (getD before j 0) {j = q} {k = 16} l) ∙ e ∙ bit-mod (getD ranks j 0) {j = q} {k = 16} l
+          sym (table-bit (getD before j 0) q l) ∙ e ∙ table-bit (getD ranks j 0) q l
 
   -- the trailing zeros of what changed, below p, are the lowest pattern that changed; else none did
   pub change-found : (p : ℕ) → p < 16 → trailingZeros 32 changed < p → trailingZeros 32 changed ≡ firstChange before ranks p

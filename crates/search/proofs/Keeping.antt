@@ -1,5 +1,5 @@
 -- What is kept of a part: the masks tell the projections, the ranks the picks, and a split changes them as the code does.
-use Prim.Native.Nat.{ℕ, zero, suc, _^_, _/_, _%_, _<_, _≤_}
+use Prim.Native.Nat.{ℕ, zero, suc, _^_, _<_, _≤_}
 use mathlib.Core.Path.{_≡_, refl, sym, ap, ap₂, subst, _∙_}
 use mathlib.Core.Logic.{inl, ⊎-elim}
 use mathlib.Core.Bool.{cond}
@@ -7,7 +7,6 @@ use mathlib.Core.List.{List}
 use mathlib.Core.Option.{some}
 use native.Mathlib.Omega.{arith}
 use native.Mathlib.Nat.{lt-of-lt-of-le}
-use lib.Arith.{digits-div, digits-mod}
 use lib.Dec.{T, T-not, eqb, ltb, eqb→eq, nltb→le}
 use lib.ListN.{getD}
 use lib.Pow.{pow-pos, pow-mono}
@@ -16,7 +15,7 @@ use Rattle.base.specs.Sizes.{maxInputs, maxWires}
 use Rattle.base.proofs.Tests.{cond-has, decide, eq-test}
 use Rattle.table.specs.Bits.{bit}
 use Rattle.table.specs.Cells.{cells}
-use Rattle.table.specs.Pick.{suits, leastOf, orZero, masked, pickOf, rank, tableSpace}
+use Rattle.table.specs.Pick.{suits, leastOf, orZero, masked, pickOf, rank}
 use Rattle.table.specs.Blocks.{Covered}
 use Rattle.table.specs.Pairs.{zerosIn, onesIn}
 use Rattle.table.proofs.Bits.{bit-lt, bit-past, all-at, all-intro, row-at, row-cong, sum-cong, sum-short}
@@ -32,18 +31,14 @@ use Rattle.table.proofs.Bits.{zero-bit}
 use Rattle.relation.proofs.Sets.{Narrow, member-sets, narrow-keep, narrowed-narrow, occurs-four, mask-lt, mask-projection, mask-covers}
 use Rattle.branch_bound.specs.Search.{replyTables, total, pick, picks, floor}
 use Rattle.branch_bound.specs.TreeBoard.{tree}
-use Rattle.search.specs.Kept.{Sized, Sets, rankOf, ranksOf, pairOf, pairsOf, tablesIn, cellsIn, cutPair, cutPairs, rankAgain, ranksAgain, Covers, PairsCover}
+use Rattle.search.specs.Inner.Ranks.{tableIn, cellsIn, tablesIn, floorIn}
+use Rattle.search.specs.Inner.Pairs.{pairOf, pairsOf, cutPair, cutPairs, Covers, PairsCover}
+use Rattle.search.specs.Inner.Parts.{InLimits, PartSets, rankOf, ranksOf, rankBetween, rankAgain, ranksAgain}
 use Rattle.branch_bound.proofs.Picks.{pick-least}
+use Rattle.search.proofs.Packing.{rank-table, rank-cells}
 use Rattle.search.proofs.MaskPairs.{pair-zeros, pair-ones, pair-cut}
 
--- a table of n inputs stands whole in a rank
-pub rank-parts : (n t : ℕ) → n ≤ maxInputs → t < 2 ^ (2 ^ n) → (rank n t % tableSpace ≡ t) × (rank n t / tableSpace ≡ cells n t)
-unfolding rank
-rank-parts n t h l =
-    let k : t < 65536 = lt-of-lt-of-le l (pow-mono {i = 2 ^ n} {j = 2 ^ 4} (pow-mono {i = n} {j = 4} h)) in
-    (digits-mod (cells n t) k, digits-div (cells n t) k)
-
-module _ (n m : ℕ) (sz : Sized n m) (sets : List ℕ) (ok : Sets n m sets) where
+module _ (n m : ℕ) (sz : InLimits n m) (sets : List ℕ) (ok : PartSets n m sets) where
   pub narrow : Narrow n m sets
   narrow = record { long = ok .long; small = ok .small; past = ok .past }
 
@@ -85,18 +80,18 @@ module _ (n m : ℕ) (sz : Sized n m) (sets : List ℕ) (ok : Sets n m sets) whe
   pub kept-tables : tablesIn (ranksOf n sets) ≡ picks (tree n m) (ofSets sets)
   unfolding tablesIn picks replyTables tree
   kept-tables =
-      row-cong maxWires (λ j. getD (ranksOf n sets) j 0 % tableSpace) (λ j. cond (ltb j m) (pick (tree n m) (ofSets sets) j) 0)
+      row-cong maxWires (λ j. tableIn (getD (ranksOf n sets) j 0)) (λ j. cond (ltb j m) (pick (tree n m) (ofSets sets) j) 0)
       (λ j l.
       let t = pick (tree n m) (ofSets sets) j in
-      ap (λ r. r % tableSpace) (rank-at j l) ∙ rank-parts n t (sz .inputs) (least j .0) .0
+      ap tableIn (rank-at j l) ∙ rank-table n t (sz .inputs) (least j .0)
       ∙ cond-has (λ x. t ≡ x) (ltb j m) (λ _. refl) (λ h. pick-past j (nltb→le j m h)))
 
-  pub kept-floor : cellsIn (ranksOf n sets) ≡ floor (tree n m) (ofSets sets)
-  unfolding cellsIn floor total tree
+  pub kept-floor : floorIn (ranksOf n sets) ≡ floor (tree n m) (ofSets sets)
+  unfolding floorIn floor total tree
   kept-floor =
       let f : ℕ → ℕ = λ j. cells n (pick (tree n m) (ofSets sets) j) in
-      sum-cong maxWires (λ j. getD (ranksOf n sets) j 0 / tableSpace) f
-      (λ j l. ap (λ r. r / tableSpace) (rank-at j l) ∙ rank-parts n (pick (tree n m) (ofSets sets) j) (sz .inputs) (least j .0) .1)
+      sum-cong maxWires (λ j. cellsIn (getD (ranksOf n sets) j 0)) f
+      (λ j l. ap cellsIn (rank-at j l) ∙ rank-cells n (pick (tree n m) (ofSets sets) j) (sz .inputs) (least j .0))
       ∙ sum-short f m maxWires (sz .wires) (λ j l. ap (cells n) (pick-past j l) ∙ constant-cells n 0 (inl refl))
 
   -- the masks of a part are fit for a pick
@@ -113,11 +108,11 @@ module _ (n m : ℕ) (sz : Sized n m) (sets : List ℕ) (ok : Sets n m sets) whe
   pairs-cover j l = rw (row-at maxWires (pairOf sets) j l) (pair-covers j)
 
 -- the pick between the masks of a pair is the pick of the wire
-pub rank-between : (n : ℕ) (sets : List ℕ) (j : ℕ) → rank n (pickOf n (zerosIn (pairOf sets j)) (onesIn (pairOf sets j))) ≡ rankOf n sets j
+pub rank-between : (n : ℕ) (sets : List ℕ) (j : ℕ) → rankBetween n (pairOf sets j) ≡ rankOf n sets j
 rank-between n sets j = ap₂ (λ z o. rank n (pickOf n z o)) (pair-zeros sets j) (pair-ones sets j)
 
 -- one part of a split at an open pair
-module _ (n m : ℕ) (sz : Sized n m) (sets : List ℕ) (ok : Sets n m sets) (p j b : ℕ) (lp : p < 2 ^ n) (lj : j < m) (free-there : T (free m (ofSets sets p) j)) (lb : b < 2) where
+module _ (n m : ℕ) (sz : InLimits n m) (sets : List ℕ) (ok : PartSets n m sets) (p j b : ℕ) (lp : p < 2 ^ n) (lj : j < m) (free-there : T (free m (ofSets sets p) j)) (lb : b < 2) where
   sixteen : p < 16
   sixteen = lt-of-lt-of-le lp (pow-mono {i = n} {j = 4} (sz .inputs))
 
@@ -135,7 +130,7 @@ module _ (n m : ℕ) (sz : Sized n m) (sets : List ℕ) (ok : Sets n m sets) (p 
       go (suc zero) h = free-both m (ofSets sets p) j free-there .1
       go (suc (suc c)) h = absurd (omega arith)
 
-  pub with-sets : Sets n m (narrowed sets p j b)
+  pub with-sets : PartSets n m (narrowed sets p j b)
   with-sets =
       let w = narrowed-narrow n m sets p j b (narrow n m sz sets ok) sixteen in
       record {
@@ -217,6 +212,6 @@ module _ (n m : ℕ) (sz : Sized n m) (sets : List ℕ) (ok : Sets n m sets) (p 
       let lt : t < 2 ^ (2 ^ n) = rw (kept-pick n m sz sets ok i) (least n m sz sets ok i .0) in
       let er = row-at maxWires (rankOf n sets) i l in
       let ep = row-at maxWires (pairOf W) i l in
-      let et = rank-parts n t (sz .inputs) lt .0 in
+      let et = rank-table n t (sz .inputs) lt in
       rw (er, ep, et)
       (cond-has (λ x. x ≡ rankOf n W i) (occurs 4 (member w) i (bit t p)) (λ h. ap (rank n) (sym (still-pick i h))) (λ _. rank-between n W i)))

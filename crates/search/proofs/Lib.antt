@@ -1,3 +1,4 @@
+pub mod Packing
 pub mod MaskPairs
 pub mod Keeping
 pub mod Whole

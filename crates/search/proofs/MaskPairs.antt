@@ -21,7 +21,7 @@ use Rattle.relation.specs.Tests.{isOne, occurs}
 use Rattle.relation.specs.Masks.{member, withBit, narrowed, maskOf, cut, NonePast}
 use Rattle.relation.proofs.Columns.{isOne-lt-two, found-lt}
 use Rattle.relation.proofs.Sets.{member-sets, none-occurs, mask-bit, mask-narrowed}
-use Rattle.search.specs.Kept.{sidesOf, pairOf, pairsOf, cutPair}
+use Rattle.search.specs.Inner.Pairs.{pairOf, pairsOf, sidesOf, cutPair}
 
 -- two masks, one bit after the other as they stand in the number
 mixed : (ℕ → ℕ) → (ℕ → ℕ) → ℕ → ℕ

@@ -11,10 +11,11 @@ use Rattle.relation.specs.Tests.{ofSets, wires, free, compatible, openPairs}
 use Rattle.relation.specs.Masks.{narrowed}
 use Rattle.relation.proofs.Splits.{keep-closes}
 use Rattle.branch_bound.specs.declared.State.{State}
-use Rattle.search.specs.declared.Open.the-variants.{Pair, Closed}
+use Rattle.search.specs.declared.SplitPlace.the-variants.{Pair, Nowhere}
 use Rattle.branch_bound.specs.Search.{picks, floor, discarded, usedUp, halted, charged, improved, split, expand, charge, treat, searchPart}
 use Rattle.branch_bound.specs.TreeBoard.{tree}
-use Rattle.search.specs.Kept.{Sized, Sets, openOf}
+use Rattle.search.specs.Inner.Parts.{InLimits, PartSets}
+use Rattle.search.specs.Inner.Conflicts.{splitPlace}
 use Rattle.branch_bound.proofs.Depth.{search-step}
 use Rattle.search.proofs.Opening.{found-closed, pair-told}
 use Rattle.search.proofs.Keeping.{with-keep}
@@ -22,7 +23,7 @@ use Rattle.search.proofs.Keeping.{with-keep}
 pub lt→nleb : (x y : ℕ) → y < x → T (not (leb x y))
 lt→nleb x y l = not-T (leb x y) (λ t. omega (arith, leb→le x y t))
 
-module _ (n m budget : ℕ) (sz : Sized n m) (sets : List ℕ) (ok : Sets n m sets) (s : State) {f : ℕ} (ef : f ≡ floor (tree n m) (ofSets sets)) where
+module _ (n m budget : ℕ) (sz : InLimits n m) (sets : List ℕ) (ok : PartSets n m sets) (s : State) {f : ℕ} (ef : f ≡ floor (tree n m) (ofSets sets)) where
   on : Rel → State → State
   on = searchPart (tree n m) budget
 
@@ -44,13 +45,13 @@ module _ (n m budget : ℕ) (sz : Sized n m) (sets : List ℕ) (ok : Sets n m se
       unfolding treat charge
       expands = rw (← ef, test-no (discarded s f) more, test-no (usedUp budget s) left)
 
-      pub improves : openOf n m (ofSets sets) (wires tables) ≡ Closed → improved tables f (charged s) ≡ searchPart (tree n m) budget (ofSets sets) s
+      pub improves : splitPlace n m (ofSets sets) (wires tables) ≡ Nowhere → improved tables f (charged s) ≡ searchPart (tree n m) budget (ofSets sets) s
       unfolding expand tree
       improves e =
           let t = test-yes (compatible n m (ofSets sets) (wires tables)) (found-closed n m sz sets ok tables et e) in
           sym (step ∙ expands ∙ rw (← et, t, ← ef))
 
-      pub splits : (p j : ℕ) → openOf n m (ofSets sets) (wires tables) ≡ Pair p j
+      pub splits : (p j : ℕ) → splitPlace n m (ofSets sets) (wires tables) ≡ Pair p j
           → split (tree n m) budget (searchPart (tree n m) budget) (ofSets sets) p j (charged s) ≡ searchPart (tree n m) budget (ofSets sets) s
       unfolding expand tree
       splits p j e =
@@ -59,7 +60,7 @@ module _ (n m budget : ℕ) (sz : Sized n m) (sets : List ℕ) (ok : Sets n m se
           sym (step ∙ expands ∙ rw (← et, t, told .1, told .2))
 
 -- a split closes an open pair
-pub fewer-open : (n m : ℕ) (sz : Sized n m) (sets : List ℕ) (ok : Sets n m sets) (p j b : ℕ) → p < 2 ^ n → j < m → T (free m (ofSets sets p) j) → b < 2
+pub fewer-open : (n m : ℕ) (sz : InLimits n m) (sets : List ℕ) (ok : PartSets n m sets) (p j b : ℕ) → p < 2 ^ n → j < m → T (free m (ofSets sets p) j) → b < 2
     → openPairs n m (ofSets (narrowed sets p j b)) < openPairs n m (ofSets sets)
 fewer-open n m sz sets ok p j b lp lj t lb =
     rw (with-keep n m sz sets ok p j b lp lj t lb) (keep-closes n m (ofSets sets) p j b lp lj t)

@@ -5,18 +5,17 @@ use mathlib.Core.List.{List}
 use native.Mathlib.Omega.{arith}
 use lib.ListN.{getD}
 use Rattle.base.specs.Sizes.{maxWires}
-use Rattle.table.specs.Pick.{pickOf, rank}
-use Rattle.table.specs.Pairs.{zerosIn, onesIn}
 use Rattle.table.proofs.Bits.{row-at, row-cong}
-use Rattle.search.specs.Kept.{rankOf, ranksOf, ranksBetween, pairOf, pairsOf}
+use Rattle.search.specs.Inner.Pairs.{pairOf, pairsOf}
+use Rattle.search.specs.Inner.Parts.{rankOf, ranksOf, rankBetween, ranksBetween}
 use Rattle.search.proofs.Keeping.{rank-between}
 
 -- the picks between the masks of a part are its picks
 pub ranks-between : (n : ℕ) (sets : List ℕ) → ranksBetween n (pairsOf sets) ≡ ranksOf n sets
 unfolding ranksBetween ranksOf pairsOf
 ranks-between n sets =
-    row-cong maxWires (λ j. rank n (pickOf n (zerosIn (getD (pairsOf sets) j 0)) (onesIn (getD (pairsOf sets) j 0)))) (rankOf n sets)
-    (λ j l. ap (λ x. rank n (pickOf n (zerosIn x) (onesIn x))) (row-at maxWires (pairOf sets) j l) ∙ rank-between n sets j)
+    row-cong maxWires (λ j. rankBetween n (getD (pairsOf sets) j 0)) (rankOf n sets)
+    (λ j l. ap (rankBetween n) (row-at maxWires (pairOf sets) j l) ∙ rank-between n sets j)
 
 pub rank-first : (n : ℕ) (sets : List ℕ) {ranks : List ℕ} → ranks ≡ ranksOf n sets → getD ranks 0 0 ≡ rankOf n sets 0
 unfolding ranksOf

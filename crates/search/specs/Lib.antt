@@ -1,3 +1,3 @@
--- The reply of a search told by document 01's numbers.
-pub mod Kept
+-- The answer of a search told by document 01's numbers; under Inner, what the contracts of inner functions speak of.
 pub mod Cases
+pub mod Inner

@@ -10,29 +10,26 @@ ghost use Rattle.branch_bound.specs.Search.{run};
 ghost use Rattle.branch_bound.specs.TreeBoard.{tree};
 ghost use Rattle.search.specs.Cases.{searchReply};
 ghost use Rattle.branch_bound.specs.Reply.{answerOf, searchOf};
-ghost use Rattle.search.specs.Kept.{Sized, Sets};
+ghost use Rattle.search.specs.Inner.Parts.{InLimits, PartSets};
 
 mod ranks; // a pick as one number
 mod pairs; // the two masks of a wire in one number
-mod parts; // what is kept of a part, and its two halves by a split
+mod parts; // what is carried of a part, and its two halves by a split
 mod conflicts; // where to split: the first conflict
 mod quick_solver; // the first answer
 mod branches; // the cycle of visits and splits
 
-// A part (subrelation) of n inputs and m wires: its sets, and for each wire the patterns on which it can be 0 and those on which it can be 1, in one
-// number, and the rank of its pick.
-struct Part {
-    n: u8,
-    m: u8,
-    sets: [u16; 16],
+// What is carried of a part (subrelation) beside its sets: for each wire the patterns on which it can be 0 and those on which it can be 1, in one number,
+// and the rank of its pick.
+struct PartPicks {
     pairs: [u32; 4],
     ranks: [u32; 4],
 }
 
-// A pattern in conflict with its lowest open wire, or no conflict.
-enum Open {
+// Where to split: the lowest pattern in conflict with its lowest open wire; nowhere without a conflict.
+enum SplitPlace {
     Pair(u8, u8),
-    Closed,
+    Nowhere,
 }
 
 // The mark of a reply.
@@ -53,7 +50,7 @@ pub struct Answer {
 
 // The search of a relation whose sizes and sets were tested, with its sets past the last pattern emptied.
 fn search_sets(n: u8, m: u8, sets: [u16; 16], budget: u32) -> Answer
-    requires { ⌜ Sized n m × Sets n m sets ⌝ }
+    requires { ⌜ InLimits n m × PartSets n m sets ⌝ }
     ensures { λ r. ⌜ searchReply r ≡ answerOf n m (ofSets sets) (run (tree n m) budget (ofSets sets)) ⌝ }
 {
     let table = blocks();

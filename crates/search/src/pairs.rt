@@ -8,7 +8,7 @@ ghost use Prim.Native.Nat.{_+_, _*_, _<_, _≤_, _^_};
 ghost use Rattle.table.specs.Pairs.{seat};
 ghost use Rattle.relation.specs.Tests.{isOne};
 ghost use Rattle.relation.specs.Masks.{NonePast};
-ghost use Rattle.search.specs.Kept.{sidesOf, pairOf, pairsOf, cutPair, cutPairs};
+ghost use Rattle.search.specs.Inner.Pairs.{pairOf, pairsOf, sidesOf, cutPair, cutPairs};
 
 fn one(there: bool) -> u32
     ensures { λ r. ⌜ r ≡ isOne there ⌝ }

@@ -1,7 +1,7 @@
-// What is kept of a part. A split changes the set of one pattern: the masks lose at most that pattern, and a pick whose bit there still occurs is
+// What is carried of a part. A split changes the set of one pattern: the masks lose at most that pattern, and a pick whose bit there still occurs is
 // still the pick, since it is the least over more tables.
 // Inner functions: `search_sets`, the first answer and `split` meet what they require.
-use crate::Part;
+use crate::PartPicks;
 use crate::pairs::pair_of;
 use crate::pairs::pairs_of;
 use crate::ranks::table_of;
@@ -11,11 +11,12 @@ use table::picks::pick;
 ghost use mathlib.Core.Path.{_≡_};
 ghost use Prim.Native.Nat.{_<_, _≤_};
 ghost use Rattle.table.specs.Blocks.{Blocks};
-ghost use Rattle.search.specs.Kept.{Sized, Sets, rankOf, ranksBetween, rankAgain, ranksAgain, Covers, PairsCover, Kept};
+ghost use Rattle.search.specs.Inner.Pairs.{Covers, PairsCover};
+ghost use Rattle.search.specs.Inner.Parts.{InLimits, PartSets, Carried, rankOf, ranksBetween, rankAgain, ranksAgain};
 
 // The rank of one wire's pick.
 pub fn wire_rank(e: &[u16; 256], n: u8, m: u8, sets: [u16; 16], j: u8) -> u32
-    requires { ⌜ Blocks (now e) × Sized n m × Sets n m sets × (j < 4) ⌝ }
+    requires { ⌜ Blocks (now e) × InLimits n m × PartSets n m sets × (j < 4) ⌝ }
     ensures { λ r. ⌜ r ≡ rankOf n sets j ⌝ }
 {
     pick(e, n, pair_of(n, sets, j))
@@ -34,19 +35,13 @@ fn ranks_of(e: &[u16; 256], n: u8, pairs: [u32; 4]) -> [u32; 4]
 }
 
 // The whole relation as a part.
-pub fn whole(e: &[u16; 256], n: u8, m: u8, sets: [u16; 16]) -> Part
-    requires { ⌜ Blocks (now e) × Sized n m × Sets n m sets ⌝ }
-    ensures { λ r. ⌜ Kept r × (r .n ≡ n) × (r .m ≡ m) × (r .sets ≡ sets) ⌝ }
+pub fn whole(e: &[u16; 256], n: u8, m: u8, sets: [u16; 16]) -> PartPicks
+    requires { ⌜ Blocks (now e) × InLimits n m × PartSets n m sets ⌝ }
+    ensures { λ r. ⌜ Carried n m sets (r .pairs) (r .ranks) ⌝ }
 {
     let pairs = pairs_of(n, sets);
     let ranks = ranks_of(e, n, pairs);
-    Part {
-        n,
-        m,
-        sets,
-        pairs,
-        ranks,
-    }
+    PartPicks { pairs, ranks }
 }
 
 fn rank_again(e: &[u16; 256], n: u8, rank: u32, p: u8, j: u8, set: u16, pair: u32) -> u32

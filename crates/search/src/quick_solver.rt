@@ -11,11 +11,11 @@ ghost use Rattle.table.specs.Blocks.{Blocks};
 ghost use Rattle.relation.specs.Tests.{ofSets};
 ghost use Rattle.branch_bound.specs.Search.{start};
 ghost use Rattle.branch_bound.specs.TreeBoard.{tree};
-ghost use Rattle.search.specs.Kept.{Sized, Sets, rankOf};
+ghost use Rattle.search.specs.Inner.Parts.{InLimits, PartSets, rankOf};
 
 // The rank of wire j's pick once the wires before it are chosen. Before the first wire nothing is: its pick is the whole relation's, which the caller has.
 fn rank_left(e: &[u16; 256], n: u8, m: u8, left: [u16; 16], j: u8, first: u32) -> u32
-    requires { ⌜ Blocks (now e) × Sized n m × Sets n m left × (j < 4) × (j ≡ 0 → first ≡ rankOf n left 0) ⌝ }
+    requires { ⌜ Blocks (now e) × InLimits n m × PartSets n m left × (j < 4) × (j ≡ 0 → first ≡ rankOf n left 0) ⌝ }
     ensures { λ r. ⌜ r ≡ rankOf n left j ⌝ }
 {
     if j == 0 {
@@ -26,7 +26,7 @@ fn rank_left(e: &[u16; 256], n: u8, m: u8, left: [u16; 16], j: u8, first: u32) -
 }
 
 pub fn quick(e: &[u16; 256], n: u8, m: u8, sets: [u16; 16], first: u32) -> State
-    requires { ⌜ Blocks (now e) × Sized n m × Sets n m sets × (first ≡ rankOf n sets 0) ⌝ }
+    requires { ⌜ Blocks (now e) × InLimits n m × PartSets n m sets × (first ≡ rankOf n sets 0) ⌝ }
     ensures { λ r. ⌜ r ≡ start (tree n m) (ofSets sets) ⌝ }
 {
     let mut left = sets;

@@ -1,19 +1,22 @@
-// A pick as one number, its rank: cells * 65536 + table. What knows this form stands here and in the crate `table`.
+// A pick as one number, its rank: cells * 65536 + table. What knows this form stands here, in the laws of ranks and in the crate `table`.
 ghost use mathlib.Core.Path.{_≡_};
-ghost use Prim.Native.Nat.{_/_, _%_, _<_, _≤_};
-ghost use Rattle.table.specs.Pick.{tableSpace};
-ghost use Rattle.search.specs.Kept.{tablesIn, cellsIn, AlikeBelow, firstChange};
+ghost use Prim.Native.Nat.{_<_, _≤_};
+ghost use Rattle.search.specs.Inner.Ranks.{tableIn, cellsIn, cellsSpace, tablesIn, floorIn};
+ghost use Rattle.search.specs.Inner.Changes.{AlikeBelow, firstChange};
+
+// the numbers that a table may be
+const TABLE_SPACE: u32 = 65536;
 
 pub fn table_of(rank: u32) -> u16
-    ensures { λ r. ⌜ r ≡ rank % tableSpace ⌝ }
+    ensures { λ r. ⌜ r ≡ tableIn rank ⌝ }
 {
-    (rank % 65536) as u16
+    (rank % TABLE_SPACE) as u16
 }
 
 pub fn cells_of(rank: u32) -> u32
-    ensures { λ r. ⌜ (r ≡ rank / tableSpace) × (r < tableSpace) ⌝ }
+    ensures { λ r. ⌜ (r ≡ cellsIn rank) × (r < cellsSpace) ⌝ }
 {
-    rank / 65536
+    rank / TABLE_SPACE
 }
 
 pub fn tables_of(ranks: [u32; 4]) -> [u16; 4]
@@ -28,7 +31,7 @@ pub fn tables_of(ranks: [u32; 4]) -> [u16; 4]
 }
 
 pub fn floor_of(ranks: [u32; 4]) -> u32
-    ensures { λ r. ⌜ r ≡ cellsIn ranks ⌝ }
+    ensures { λ r. ⌜ r ≡ floorIn ranks ⌝ }
 {
     cells_of(ranks[0]) + cells_of(ranks[1]) + cells_of(ranks[2]) + cells_of(ranks[3])
 }

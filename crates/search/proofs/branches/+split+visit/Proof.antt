@@ -9,7 +9,8 @@ use lib.Seq.{set-getD}
 use Rattle.relation.specs.Tests.{ofSets, wires, openPairs}
 use Rattle.branch_bound.specs.Search.{split as splitOf, searchPart}
 use Rattle.branch_bound.specs.TreeBoard.{tree}
-use Rattle.search.specs.Kept.{Settled, stateOf}
+use Rattle.search.specs.Inner.Conflicts.{Settled}
+use Rattle.search.specs.Inner.Tally.{stateOf}
 use Rattle.search.proofs.Opening.{found-open, found-below}
 use Rattle.search.proofs.Steps.{lt→nleb, discards, halts, improves, splits}
 use Rattle.search.proofs.Branching.{treated, treated-both, floor-is, tables-are, pattern-lt, next-pairs, next-cover, next-held, next-settled, next-same, next-treated, next-discards, halted-tally, charged-tally, improved-tally}

@@ -1,8 +1,8 @@
 use Rattle.base.proofs.Tests.{told-yes, told-no, denied, granted}
-use Rattle.search.specs.declared.Open.the-variants.{Pair}
+use Rattle.search.specs.declared.SplitPlace.the-variants.{Pair}
 use Rattle.branch_bound.specs.Search.{picks}
 use Rattle.branch_bound.specs.TreeBoard.{tree}
-use Rattle.search.specs.Kept.{Settled, openOf}
+use Rattle.search.specs.Inner.Conflicts.{Settled, splitPlace}
 use borrow.Author.Needs.{needs}
 use mir.Val.{Fits}
 use mir.Syntax.{w16}
@@ -118,7 +118,7 @@ returns c =
     ap (Pair p) (w .9)
     ∙ sym (pair-open (a .n) (a .m) (q .0) (a .sets .now) (q .1) _ refl p j lp (omega (arith, w .6 .taken)) (c .before .before .patterns .inv .1) (denied here (w .4 .taken)) (w .5 .inv .1)
     (told-yes (w .7 .ensures ∙ open-test (a .n) (a .m) (q .0) (a .sets .now) (q .1) (a .tables) (q .2) p j) (w .8 .taken)))
-    ∙ ap (λ ts. openOf (a .n) (a .m) (ofSets (a .sets .now)) (wires ts)) (sym (q .2)))
+    ∙ ap (λ ts. splitPlace (a .n) (a .m) (ofSets (a .sets .now)) (wires ts)) (sym (q .2)))
     (c .before .patterns-test .came)
 
 returns-2 : tie.Need-returns-2 Inv-loop μ-loop Inv-patterns μ-patterns
@@ -128,7 +128,7 @@ returns-2 c =
     ⊎-elim
     (λ w. sym (none-open (a .n) (a .m) (q .0) (a .sets .now) (q .1) _ refl
     (λ p l. c .before .before .patterns .inv .1 p (omega (arith, w .0 .left, c .before .before .before .before .patterns-of .ensures .0))))
-    ∙ ap (λ ts. openOf (a .n) (a .m) (ofSets (a .sets .now)) (wires ts)) (sym (q .2)))
+    ∙ ap (λ ts. splitPlace (a .n) (a .m) (ofSets (a .sets .now)) (wires ts)) (sym (q .2)))
     (λ w. absurd (omega (arith, w .0 .taken, c .if3 .left)))
     (c .before .patterns-test .came)
 

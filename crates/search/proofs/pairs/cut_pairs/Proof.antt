@@ -1,6 +1,6 @@
 use lib.ListN.{getD}
 use Rattle.table.proofs.Bits.{row-four}
-use Rattle.search.specs.Kept.{cutPair, cutPairs}
+use Rattle.search.specs.Inner.Pairs.{cutPair, cutPairs}
 use borrow.Author.Needs.{needs}
 use Rattle.search.proofs.pairs.cut_pairs.Statement.{statement}
 use Rattle.search.proofs.pairs.cut_pairs.Tie as tie

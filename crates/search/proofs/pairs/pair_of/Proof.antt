@@ -4,7 +4,7 @@ use native.Mathlib.Omega.{arith}
 use lib.ListN.{getD}
 use Rattle.table.specs.Bits.{sum}
 use Rattle.table.specs.Pairs.{seat}
-use Rattle.search.specs.Kept.{sidesOf}
+use Rattle.search.specs.Inner.Pairs.{sidesOf}
 use Rattle.search.proofs.MaskPairs.{pairBelow, below-room, below-more, below-all}
 use borrow.Author.Needs.{needs}
 use Rattle.search.proofs.pairs.pair_of.Statement.{statement}

@@ -3,7 +3,7 @@ use mathlib.Core.Path.{ap, ap₂, _∙_}
 use native.Mathlib.Omega.{arith}
 use Rattle.relation.specs.Tests.{isOne}
 use Rattle.relation.proofs.Columns.{isOne-lt-two}
-use Rattle.search.specs.Kept.{sidesOf}
+use Rattle.search.specs.Inner.Pairs.{sidesOf}
 use Rattle.search.proofs.MaskPairs.{sides-le}
 use borrow.Author.Needs.{needs}
 use Rattle.search.proofs.pairs.sides.Statement.{statement}

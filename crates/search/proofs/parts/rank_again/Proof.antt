@@ -2,10 +2,10 @@ use Prim.Native.Nat.{_%_}
 use mathlib.Core.Path.{_≡_, ap, sym, _∙_}
 use native.Mathlib.Nat.{mod-eq-of-lt}
 use Rattle.table.specs.Bits.{bit}
-use Rattle.table.specs.Pick.{tableSpace}
 use Rattle.relation.specs.Tests.{occurs}
 use Rattle.relation.specs.Masks.{member}
-use Rattle.search.specs.Kept.{rankAgain}
+use Rattle.search.specs.Inner.Ranks.{tableIn}
+use Rattle.search.specs.Inner.Parts.{rankAgain}
 use borrow.Author.Needs.{needs}
 use Rattle.search.proofs.parts.rank_again.Statement.{statement}
 use Rattle.search.proofs.parts.rank_again.Tie as tie
@@ -33,7 +33,7 @@ unfolding rankAgain
 returns c =
     let a = c .before .before .before .before .args in
     let b = c .before .before .bit-of in
-    let e : b .result % 2 ≡ bit (a .rank % tableSpace) (a .p) =
+    let e : b .result % 2 ≡ bit (tableIn (a .rank)) (a .p) =
     mod-eq-of-lt (b .ensures .1) ∙ b .ensures .0 ∙ ap (λ t. bit t (a .p)) (c .before .before .before .table-of .ensures) in
     let h = sym (c .before .has .ensures ∙ ap (occurs 4 (member (a .set)) (a .j)) e) ∙ c .if1 .taken in
     rw h
@@ -43,7 +43,7 @@ unfolding rankAgain
 returns-2 c =
     let a = c .before .before .before .before .before .args in
     let b = c .before .before .before .bit-of in
-    let e : b .result % 2 ≡ bit (a .rank % tableSpace) (a .p) =
+    let e : b .result % 2 ≡ bit (tableIn (a .rank)) (a .p) =
     mod-eq-of-lt (b .ensures .1) ∙ b .ensures .0 ∙ ap (λ t. bit t (a .p)) (c .before .before .before .before .table-of .ensures) in
     let h = sym (c .before .before .has .ensures ∙ ap (occurs 4 (member (a .set)) (a .j)) e) ∙ c .before .if1 .left in
     rw h (c .pick .ensures)

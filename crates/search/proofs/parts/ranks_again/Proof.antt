@@ -1,7 +1,7 @@
 use native.Mathlib.Omega.{arith}
 use lib.ListN.{getD}
 use Rattle.table.proofs.Bits.{row-four}
-use Rattle.search.specs.Kept.{rankAgain, ranksAgain}
+use Rattle.search.specs.Inner.Parts.{rankAgain, ranksAgain}
 use borrow.Author.Needs.{needs}
 use Rattle.search.proofs.parts.ranks_again.Statement.{statement}
 use Rattle.search.proofs.parts.ranks_again.Tie as tie

@@ -1,5 +1,5 @@
-use mathlib.Core.Path.{refl, ap, _∙_}
-use Rattle.search.specs.Kept.{ranksBetween}
+use mathlib.Core.Path.{ap, _∙_}
+use Rattle.search.specs.Inner.Parts.{ranksBetween}
 use Rattle.search.proofs.Keeping.{pairs-cover}
 use Rattle.search.proofs.Whole.{ranks-between}
 use Rattle.search.proofs.parts.whole.Statement.{statement}
@@ -18,12 +18,8 @@ returns : tie.Need-returns
 returns c =
     let a = c .before .before .args in
     let q = c .before .before .pre in
-    let x = c .before .pairs-of .ensures in (
-      record { sized = q .1; sets = q .2; pairs = x; ranks = c .ranks-of .ensures ∙ ap (ranksBetween (a .n)) x ∙ ranks-between (a .n) (a .sets) },
-      refl,
-      refl,
-      refl,
-    )
+    let x = c .before .pairs-of .ensures in
+    record { sized = q .1; sets = q .2; pairs = x; ranks = c .ranks-of .ensures ∙ ap (ranksBetween (a .n)) x ∙ ranks-between (a .n) (a .sets) }
 
 pub whole-spec : {M : Type 1} → statement M
 whole-spec = tie.close (tie.spec pairs-of-requires ranks-of-requires returns)

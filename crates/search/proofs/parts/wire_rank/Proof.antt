@@ -1,7 +1,6 @@
 use mathlib.Core.Path.{ap, _∙_}
-use Rattle.table.specs.Pick.{pickOf, rank}
-use Rattle.table.specs.Pairs.{zerosIn, onesIn}
-use Rattle.search.specs.Kept.{Covers}
+use Rattle.search.specs.Inner.Parts.{rankBetween}
+use Rattle.search.specs.Inner.Pairs.{Covers}
 use Rattle.search.proofs.Keeping.{pair-covers, rank-between}
 use Rattle.search.proofs.parts.wire_rank.Statement.{statement}
 use Rattle.search.proofs.parts.wire_rank.Tie as tie
@@ -19,7 +18,7 @@ pick-requires c κs =
 returns : tie.Need-returns
 returns c =
     let a = c .before .before .args in
-    c .pick .ensures ∙ ap (λ x. rank (a .n) (pickOf (a .n) (zerosIn x) (onesIn x))) (c .before .pair-of .ensures) ∙ rank-between (a .n) (a .sets) (a .j)
+    c .pick .ensures ∙ ap (rankBetween (a .n)) (c .before .pair-of .ensures) ∙ rank-between (a .n) (a .sets) (a .j)
 
 pub wire-rank-spec : {M : Type 1} → statement M
 wire-rank-spec = tie.close (tie.spec pair-of-requires pick-requires returns)

@@ -2,7 +2,7 @@ use Prim.Native.Nat.{ℕ, _+_}
 use mathlib.Core.Path.{_≡_}
 use native.Mathlib.Omega.{arith}
 use Rattle.table.specs.Bits.{sum}
-use Rattle.search.specs.Kept.{cellsIn}
+use Rattle.search.specs.Inner.Ranks.{floorIn}
 use borrow.Author.Needs.{needs}
 use Rattle.search.proofs.ranks.floor_of.Statement.{statement}
 use Rattle.search.proofs.ranks.floor_of.Tie as tie
@@ -47,7 +47,7 @@ add-result-3 : tie.Need-add-result-3
 add-result-3 c = omega arith
 
 returns : tie.Need-returns
-unfolding cellsIn sum
+unfolding floorIn sum
 returns c =
     added (c .before .before .before .cells-of .ensures .0) (c .before .before .cells-of2 .ensures .0) (c .before .cells-of3 .ensures .0) (c .cells-of4 .ensures .0)
 

@@ -1,8 +1,6 @@
-use Prim.Native.Nat.{_%_}
 use lib.ListN.{getD}
-use Rattle.table.specs.Pick.{tableSpace}
 use Rattle.table.proofs.Bits.{row-four}
-use Rattle.search.specs.Kept.{tablesIn}
+use Rattle.search.specs.Inner.Ranks.{tableIn, tablesIn}
 use borrow.Author.Needs.{needs}
 use Rattle.search.proofs.ranks.tables_of.Statement.{statement}
 use Rattle.search.proofs.ranks.tables_of.Tie as tie
@@ -36,7 +34,7 @@ table-of-requires-4 c κs = search needs
 
 returns : tie.Need-returns
 unfolding tablesIn
-returns c = row-four (λ j. getD (c .before .before .before .before .args .t1) j 0 % tableSpace) (c .before .before .before .table-of .ensures) (c .before .before .table-of2 .ensures) (c .before .table-of3 .ensures) (c .table-of4 .ensures)
+returns c = row-four (λ j. tableIn (getD (c .before .before .before .before .args .t1) j 0)) (c .before .before .before .table-of .ensures) (c .before .before .table-of2 .ensures) (c .before .table-of3 .ensures) (c .table-of4 .ensures)
 
 pub tables-of-spec : {M : Type 1} → statement M
 tables-of-spec =
