@@ -4,7 +4,9 @@ pub mod Keeping
 pub mod Whole
 pub mod Opening
 pub mod Steps
-pub mod Branching
+pub mod Carrying
+pub mod Halves
+pub mod Tallies
 pub mod Changes
 pub mod FirstAnswer
 pub mod Entry

@@ -19,6 +19,7 @@ use Rattle.relation.specs.Masks.{member, sideBySide, valueIn}
 use Rattle.relation.proofs.Decide.{compatible-at, compatible-test, conflict-is, freeWire-is}
 use Rattle.relation.proofs.Sets.{member-sets, free-four, value-four}
 use Rattle.relation.proofs.Side.{side-value}
+use Rattle.search.specs.declared.SplitPlace.{SplitPlace}
 use Rattle.search.specs.declared.SplitPlace.the-variants.{Pair, Nowhere}
 use Rattle.branch_bound.specs.Search.{replyTables, pick, picks}
 use Rattle.branch_bound.specs.TreeBoard.{tree}
@@ -51,7 +52,18 @@ pair-told n m R X p j e =
     (t, ep, rw ep at ej))
     (decide (compatible n m R X))
 
-module _ (n m : ℕ) (sz : InLimits n m) (sets : List ℕ) (ok : PartSets n m sets) (tables : List ℕ) (are : tables ≡ picks (tree n m) (ofSets sets)) where
+-- what no pair found tells
+pub found-nowhere : (n m : ℕ) (R : Rel) (X : Tables) → splitPlace n m R X ≡ Nowhere → T (compatible n m R X)
+unfolding splitPlace
+found-nowhere n m R X e =
+    ⊎-elim (λ t. t)
+    (λ t.
+    let c = conflict n m R X in
+    let z : Pair c (freeWire m (R c)) ≡ Nowhere = rw (test-no (compatible n m R X) t) at e in
+    let y : _≡_ {A = ℕ} 0 1 = cc in absurd (omega arith))
+    (decide (compatible n m R X))
+
+module _ {n m : ℕ} (sz : InLimits n m) {sets : List ℕ} (ok : PartSets n m sets) {tables : List ℕ} (are : tables ≡ picks (tree n m) (ofSets sets)) where
   -- the code's tests
   pub allowed-test : ((j : ℕ) → getD tables j 0 < 65536) → (p s v : ℕ) → p < 16 → s ≡ sideBySide tables → v ≡ valueIn s p
       → member (getD sets p 0) v ≡ ofSets sets p (value m (wires (picks (tree n m) (ofSets sets))) p)
@@ -95,34 +107,22 @@ module _ (n m : ℕ) (sz : InLimits n m) (sets : List ℕ) (ok : PartSets n m se
       rw (no, at, wire)
 
   -- what is found is an open pair
-  pub found-open : (p j : ℕ) → splitPlace n m (ofSets sets) (wires tables) ≡ Pair p j → (p < 2 ^ n) × (j < m) × T (free m (ofSets sets p) j)
+  pub found-open : {f : SplitPlace} → f ≡ splitPlace n m (ofSets sets) (wires tables) → {p j : ℕ} → f ≡ Pair p j → (p < 2 ^ n) × (j < m) × T (free m (ofSets sets p) j)
   unfolding picks tree
-  found-open p j e =
+  found-open ef {p} {j} e =
       let R = ofSets sets in
-      let told = pair-told n m R (wires tables) p j e in
+      let told = pair-told n m R (wires tables) p j (sym ef ∙ e) in
       let at = rw (told .1) at (conflict-is n m R (wires tables) (told .0)) in
       let w = freeWire-is n m R (wires tables) (ok .defined)
       (λ j l. rw (are, wires-tables n m (sz .wires) (pick (tree n m) R) j l) (pick-fits (tree n m) R (ok .defined) j)) p (at .0) (at .1) in
       let v = rw (told .2) at w in (at .0, v .0, v .1)
 
   -- and below it nothing is in conflict
-  pub found-below : (p j : ℕ) → splitPlace n m (ofSets sets) (wires tables) ≡ Pair p j → p < 2 ^ n → Settled m sets tables p
+  pub found-below : {f : SplitPlace} → f ≡ splitPlace n m (ofSets sets) (wires tables) → {p j : ℕ} → f ≡ Pair p j → p < 2 ^ n → Settled m sets tables p
   unfolding conflict
-  found-below p j e lp q l =
+  found-below ef {p} {j} e lp q l =
       let R = ofSets sets in
-      let told = pair-told n m R (wires tables) p j e in
+      let told = pair-told n m R (wires tables) p j (sym ef ∙ e) in
       ⊎-elim (λ t. t)
       (λ t. absurd (omega (arith, told .1, lowest-below (2 ^ n) (λ p. not (R p (value m (wires tables) p))) q (omega arith) t)))
       (decide (R q (value m (wires tables) q)))
-
-  pub found-closed : splitPlace n m (ofSets sets) (wires tables) ≡ Nowhere → T (compatible n m (ofSets sets) (wires tables))
-  unfolding splitPlace
-  found-closed e =
-      let R = ofSets sets in
-      let X = wires tables in
-      ⊎-elim (λ t. t)
-      (λ t.
-      let c = conflict n m R X in
-      let z : Pair c (freeWire m (R c)) ≡ Nowhere = rw (test-no (compatible n m R X) t) at e in
-      let y : _≡_ {A = ℕ} 0 1 = cc in absurd (omega arith))
-      (decide (compatible n m R X))

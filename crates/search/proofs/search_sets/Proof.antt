@@ -5,7 +5,7 @@ use Rattle.relation.specs.Tests.{ofSets}
 use Rattle.branch_bound.specs.Search.{run}
 use Rattle.branch_bound.specs.TreeBoard.{tree}
 use Rattle.search.specs.Inner.Tally.{stateOf}
-use Rattle.search.proofs.Branching.{floor-is}
+use Rattle.search.proofs.Carrying.{floor-is}
 use Rattle.search.proofs.Whole.{rank-first}
 use Rattle.search.proofs.Entry.{ran, stopped-answer, best-answer}
 use borrow.Author.Needs.{needs}
