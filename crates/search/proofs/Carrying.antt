@@ -4,7 +4,7 @@ use mathlib.Core.Path.{_≡_, ap, _∙_}
 use mathlib.Core.List.{List}
 use native.Mathlib.Nat.{lt-of-lt-of-le}
 use lib.Pow.{pow-mono}
-use Rattle.base.specs.Sizes.{maxInputs}
+use Rattle.sheet.specs.Limits.{maxInputs}
 use Rattle.relation.specs.Tests.{ofSets}
 use Rattle.branch_bound.specs.Search.{floor, picks}
 use Rattle.branch_bound.specs.TreeBoard.{tree}

@@ -6,7 +6,7 @@ use native.Mathlib.Omega.{arith}
 use lib.Dec.{T, le→leb}
 use lib.ListN.{length, getD, set}
 use lib.Seq.{getD-set-other, set-set}
-use Rattle.base.specs.Sizes.{maxWires}
+use Rattle.sheet.specs.Limits.{maxWires}
 use Rattle.table.specs.Bits.{bit, ofBits}
 use Rattle.table.specs.Blocks.{Blocks}
 use Rattle.table.proofs.Bits.{sum-cong}

@@ -6,11 +6,11 @@ use native.Mathlib.Nat.{lt-of-lt-of-le}
 use lib.Arith.{digits-div, digits-mod}
 use lib.ListN.{getD}
 use lib.Pow.{pow-mono}
-use Rattle.base.specs.Sizes.{maxInputs, maxWires}
+use Rattle.sheet.specs.Limits.{maxInputs, maxWires}
 use Rattle.table.specs.Bits.{bit}
 use Rattle.table.specs.Cells.{cells}
 use Rattle.table.specs.Pick.{rank, tableSpace}
-use Rattle.table.proofs.Bits.{bit-mod, row-at}
+use Rattle.table.proofs.Bits.{bit-mod, tabulate-at}
 use Rattle.search.specs.Inner.Ranks.{tableIn, cellsIn, tablesIn}
 
 -- a table of n inputs stands whole in its rank
@@ -32,4 +32,4 @@ table-bit r q l = bit-mod r {j = q} {k = 16} l
 
 pub tables-at : (ranks : List ℕ) (j : ℕ) → j < maxWires → getD (tablesIn ranks) j 0 ≡ tableIn (getD ranks j 0)
 unfolding tablesIn
-tables-at ranks j l = row-at maxWires (λ i. tableIn (getD ranks i 0)) j l
+tables-at ranks j l = tabulate-at maxWires (λ i. tableIn (getD ranks i 0)) j l

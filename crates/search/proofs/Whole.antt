@@ -4,8 +4,8 @@ use mathlib.Core.Path.{_≡_, ap, _∙_}
 use mathlib.Core.List.{List}
 use native.Mathlib.Omega.{arith}
 use lib.ListN.{getD}
-use Rattle.base.specs.Sizes.{maxWires}
-use Rattle.table.proofs.Bits.{row-at, row-cong}
+use Rattle.sheet.specs.Limits.{maxWires}
+use Rattle.table.proofs.Bits.{tabulate-at, tabulate-cong}
 use Rattle.search.specs.Inner.Pairs.{pairOf, pairsOf}
 use Rattle.search.specs.Inner.Parts.{rankOf, ranksOf, rankBetween, ranksBetween}
 use Rattle.search.proofs.Keeping.{rank-between}
@@ -14,9 +14,9 @@ use Rattle.search.proofs.Keeping.{rank-between}
 pub ranks-between : (n : ℕ) (sets : List ℕ) → ranksBetween n (pairsOf sets) ≡ ranksOf n sets
 unfolding ranksBetween ranksOf pairsOf
 ranks-between n sets =
-    row-cong maxWires (λ j. rankBetween n (getD (pairsOf sets) j 0)) (rankOf n sets)
-    (λ j l. ap (rankBetween n) (row-at maxWires (pairOf sets) j l) ∙ rank-between n sets j)
+    tabulate-cong maxWires (λ j. rankBetween n (getD (pairsOf sets) j 0)) (rankOf n sets)
+    (λ j l. ap (rankBetween n) (tabulate-at maxWires (pairOf sets) j l) ∙ rank-between n sets j)
 
 pub rank-first : (n : ℕ) (sets : List ℕ) {ranks : List ℕ} → ranks ≡ ranksOf n sets → getD ranks 0 0 ≡ rankOf n sets 0
 unfolding ranksOf
-rank-first n sets e = ap (λ r. getD r 0 0) e ∙ row-at maxWires (rankOf n sets) 0 (omega arith)
+rank-first n sets e = ap (λ r. getD r 0 0) e ∙ tabulate-at maxWires (rankOf n sets) 0 (omega arith)

@@ -2,8 +2,8 @@
 use Prim.Native.Nat.{ℕ, _+_, _*_, _^_, _<_}
 use mathlib.Core.List.{List}
 use lib.ListN.{getD}
-use Rattle.base.specs.Sizes.{maxWires}
-use Rattle.table.specs.Bits.{row}
+use Rattle.sheet.specs.Limits.{maxWires}
+use Rattle.table.specs.Bits.{tabulate}
 use Rattle.table.specs.Blocks.{Covered}
 use Rattle.table.specs.Pairs.{zerosIn, onesIn, paired}
 use Rattle.relation.specs.Tests.{isOne, occurs}
@@ -14,7 +14,7 @@ unfoldable pub pairOf : List ℕ → ℕ → ℕ
 pairOf sets j = paired (maskOf sets j 0) (maskOf sets j 1)
 
 unfoldable pub pairsOf : List ℕ → List ℕ
-pairsOf sets = row maxWires (pairOf sets)
+pairsOf sets = tabulate maxWires (pairOf sets)
 
 -- a pattern's bits in a pair, before they are put at its seat: what occurs of wire j in its set w
 unfoldable pub sidesOf : ℕ → ℕ → ℕ
@@ -25,7 +25,7 @@ unfoldable pub cutPair : ℕ → ℕ → ℕ → ℕ → ℕ
 cutPair x p w j = paired (cut (zerosIn x) p (occurs 4 (member w) j 0)) (cut (onesIn x) p (occurs 4 (member w) j 1))
 
 unfoldable pub cutPairs : List ℕ → ℕ → ℕ → List ℕ
-cutPairs pairs p w = row maxWires (λ j. cutPair (getD pairs j 0) p w j)
+cutPairs pairs p w = tabulate maxWires (λ j. cutPair (getD pairs j 0) p w j)
 
 -- the masks of a pair are of n inputs and cover every pattern
 pub record Covers (n pair : ℕ) : Type 0 where

@@ -4,8 +4,8 @@ use mathlib.Core.Path.{_≡_}
 use mathlib.Core.Bool.{cond}
 use mathlib.Core.List.{List}
 use lib.ListN.{length, getD}
-use Rattle.base.specs.Sizes.{maxInputs, maxWires}
-use Rattle.table.specs.Bits.{bit, row}
+use Rattle.sheet.specs.Limits.{maxInputs, maxWires}
+use Rattle.table.specs.Bits.{bit, tabulate}
 use Rattle.table.specs.Pick.{pickOf, rank}
 use Rattle.table.specs.Pairs.{zerosIn, onesIn}
 use Rattle.relation.specs.Source.{WellDefined}
@@ -32,7 +32,7 @@ abbrev pub rankOf : ℕ → List ℕ → ℕ → ℕ
 rankOf n sets j = rank n (pickOf n (maskOf sets j 0) (maskOf sets j 1))
 
 unfoldable pub ranksOf : ℕ → List ℕ → List ℕ
-ranksOf n sets = row maxWires (rankOf n sets)
+ranksOf n sets = tabulate maxWires (rankOf n sets)
 
 pub record Carried (n m : ℕ) (s w r : List ℕ) : Type 0 where
   pub sized : InLimits n m
@@ -45,11 +45,11 @@ abbrev pub rankBetween : ℕ → ℕ → ℕ
 rankBetween n pair = rank n (pickOf n (zerosIn pair) (onesIn pair))
 
 unfoldable pub ranksBetween : ℕ → List ℕ → List ℕ
-ranksBetween n pairs = row maxWires (λ j. rankBetween n (getD pairs j 0))
+ranksBetween n pairs = tabulate maxWires (λ j. rankBetween n (getD pairs j 0))
 
 -- the rank once pattern p has the set w: a pick whose bit on p still occurs is still the pick
 unfoldable pub rankAgain : ℕ → ℕ → ℕ → ℕ → ℕ → ℕ → ℕ
 rankAgain n r p j w pair = cond (occurs 4 (member w) j (bit (tableIn r) p)) r (rankBetween n pair)
 
 unfoldable pub ranksAgain : ℕ → List ℕ → ℕ → ℕ → List ℕ → List ℕ
-ranksAgain n ranks p w pairs = row maxWires (λ j. rankAgain n (getD ranks j 0) p j w (getD pairs j 0))
+ranksAgain n ranks p w pairs = tabulate maxWires (λ j. rankAgain n (getD ranks j 0) p j w (getD pairs j 0))

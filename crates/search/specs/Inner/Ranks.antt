@@ -2,8 +2,8 @@
 use Prim.Native.Nat.{ℕ, _/_, _%_}
 use mathlib.Core.List.{List}
 use lib.ListN.{getD}
-use Rattle.base.specs.Sizes.{maxWires}
-use Rattle.table.specs.Bits.{sum, row}
+use Rattle.sheet.specs.Limits.{maxWires}
+use Rattle.table.specs.Bits.{sum, tabulate}
 use Rattle.table.specs.Pick.{tableSpace}
 
 unfoldable pub tableIn : ℕ → ℕ
@@ -18,7 +18,7 @@ cellsSpace = 65536
 
 -- the tables of all wires' ranks, and their cells together: the floor
 unfoldable pub tablesIn : List ℕ → List ℕ
-tablesIn ranks = row maxWires (λ j. tableIn (getD ranks j 0))
+tablesIn ranks = tabulate maxWires (λ j. tableIn (getD ranks j 0))
 
 unfoldable pub floorIn : List ℕ → ℕ
 floorIn ranks = sum maxWires (λ j. cellsIn (getD ranks j 0))
