@@ -8,9 +8,9 @@ use Rattle.sheet.specs.Limits.{maxInputs}
 use Rattle.relation.specs.Tests.{ofSets}
 use Rattle.branch_bound.specs.Search.{floor, picks}
 use Rattle.branch_bound.specs.TreeBoard.{tree}
-use Rattle.search.specs.Inner.Ranks.{tablesIn, floorIn}
-use Rattle.search.specs.Inner.Parts.{InLimits, Carried}
-use Rattle.search.proofs.Keeping.{kept-tables, kept-floor}
+use Rattle.parts.specs.Inner.Ranks.{tablesIn, floorIn}
+use Rattle.parts.specs.Inner.Parts.{InLimits, Carried}
+use Rattle.parts.proofs.Keeping.{kept-tables, kept-floor}
 
 module _ {n m : ℕ} {S ws rs : List ℕ} (h : Carried n m S ws rs) where
   pub floor-is : {f : ℕ} → f ≡ floorIn rs → f ≡ floor (tree n m) (ofSets S)

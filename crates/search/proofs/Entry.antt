@@ -16,7 +16,7 @@ use Rattle.branch_bound.specs.declared.State.{State}
 use Rattle.branch_bound.specs.Reply.{bestOutcome, stoppedOutcome, SearchReply, markOf, answerOf, refusedWith, searchTested, searchOf}
 use Rattle.branch_bound.specs.Search.{floor, start, searchPart, run}
 use Rattle.branch_bound.specs.TreeBoard.{tree}
-use Rattle.search.specs.Inner.Parts.{InLimits, PartSets}
+use Rattle.parts.specs.Inner.Parts.{InLimits, PartSets}
 use Rattle.search.specs.Inner.Tally.{stateOf}
 
 -- what the parts of the run make together

@@ -27,11 +27,11 @@ use Rattle.base.proofs.Tabulate.{filled-tabulate}
 use Rattle.branch_bound.specs.declared.State.{State}
 use Rattle.branch_bound.specs.Search.{replyTables, total, pick, left, quick, start}
 use Rattle.branch_bound.specs.TreeBoard.{tree}
-use Rattle.search.specs.Inner.Ranks.{tableIn, cellsIn, cellsSpace}
-use Rattle.search.specs.Inner.Parts.{InLimits, PartSets}
+use Rattle.parts.specs.Inner.Ranks.{tableIn, cellsIn, cellsSpace}
+use Rattle.parts.specs.Inner.Parts.{InLimits, PartSets}
 use Rattle.branch_bound.proofs.Picks.{wires-tables, pick-fits}
-use Rattle.search.proofs.Keeping.{narrow, kept-pick, least}
-use Rattle.search.proofs.Packing.{rank-table, rank-cells}
+use Rattle.parts.proofs.Keeping.{narrow, kept-pick, least}
+use Rattle.parts.proofs.Packing.{rank-table, rank-cells}
 
 -- the table chosen for wire i
 abbrev chosen : ℕ → ℕ → List ℕ → Tables

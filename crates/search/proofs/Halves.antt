@@ -18,14 +18,14 @@ use Rattle.relation.proofs.Splits.{keep-closes}
 use Rattle.branch_bound.specs.declared.State.{State}
 use Rattle.branch_bound.specs.Search.{split, searchPart}
 use Rattle.branch_bound.specs.TreeBoard.{tree}
-use Rattle.search.specs.Inner.Ranks.{tablesIn, floorIn}
-use Rattle.search.specs.Inner.Changes.{AlikeBelow}
-use Rattle.search.specs.Inner.Pairs.{pairsOf, cutPairs, PairsCover}
-use Rattle.search.specs.Inner.Parts.{PartSets, ranksOf, Carried, ranksAgain}
+use Rattle.parts.specs.Inner.Ranks.{tablesIn, floorIn}
+use Rattle.parts.specs.Inner.Changes.{AlikeBelow}
+use Rattle.parts.specs.Inner.Pairs.{pairsOf, cutPairs, PairsCover}
+use Rattle.parts.specs.Inner.Parts.{PartSets, ranksOf, Carried, ranksAgain}
 use Rattle.search.specs.Inner.Conflicts.{Settled}
 use Rattle.search.specs.Inner.Tally.{stateOf}
-use Rattle.search.proofs.Packing.{tables-at}
-use Rattle.search.proofs.Keeping.{pairs-cover, with-keep, with-sets, with-pairs, with-ranks}
+use Rattle.parts.proofs.Packing.{tables-at}
+use Rattle.parts.proofs.Keeping.{pairs-cover, with-keep, with-sets, with-pairs, with-ranks}
 use Rattle.search.proofs.Steps.{discards}
 
 -- one part of a split of a part at its open pair p, j: w is what is left of the pattern's set with wire j at b

@@ -1,13 +1,8 @@
-pub mod Packing
-pub mod MaskPairs
-pub mod Keeping
-pub mod Whole
 pub mod Opening
-pub mod Steps
 pub mod Carrying
+pub mod Steps
 pub mod Halves
 pub mod Tallies
-pub mod Changes
 pub mod FirstAnswer
 pub mod Entry
 pub mod Cases

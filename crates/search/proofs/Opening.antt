@@ -23,7 +23,7 @@ use Rattle.search.specs.declared.SplitPlace.{SplitPlace}
 use Rattle.search.specs.declared.SplitPlace.the-variants.{Pair, Nowhere}
 use Rattle.branch_bound.specs.Search.{replyTables, pick, picks}
 use Rattle.branch_bound.specs.TreeBoard.{tree}
-use Rattle.search.specs.Inner.Parts.{InLimits, PartSets}
+use Rattle.parts.specs.Inner.Parts.{InLimits, PartSets}
 use Rattle.search.specs.Inner.Conflicts.{Settled, splitPlace}
 use Rattle.branch_bound.proofs.Picks.{wires-tables, pick-fits}
 

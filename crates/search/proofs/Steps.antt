@@ -13,8 +13,8 @@ use Rattle.branch_bound.specs.TreeBoard.{tree}
 use Rattle.branch_bound.proofs.Depth.{search-step}
 use Rattle.search.specs.declared.SplitPlace.{SplitPlace}
 use Rattle.search.specs.declared.SplitPlace.the-variants.{Pair, Nowhere}
-use Rattle.search.specs.Inner.Ranks.{tablesIn, floorIn}
-use Rattle.search.specs.Inner.Parts.{Carried}
+use Rattle.parts.specs.Inner.Ranks.{tablesIn, floorIn}
+use Rattle.parts.specs.Inner.Parts.{Carried}
 use Rattle.search.specs.Inner.Conflicts.{splitPlace}
 use Rattle.search.proofs.Carrying.{floor-is, tables-are}
 use Rattle.search.proofs.Opening.{found-nowhere, pair-told}

@@ -1,7 +1,3 @@
 -- Meanings that only inner functions use: no public contract reaches them.
-pub mod Ranks
-pub mod Changes
-pub mod Pairs
-pub mod Parts
 pub mod Conflicts
 pub mod Tally

@@ -4,11 +4,11 @@
 // Inner functions: `search_sets` and the cycle itself meet what they require.
 use crate::SplitPlace;
 use crate::conflicts::first_open;
-use crate::pairs::cut_pairs;
-use crate::parts::ranks_again;
-use crate::ranks::first_change;
-use crate::ranks::floor_of;
-use crate::ranks::tables_of;
+use parts::pairs::cut_pairs;
+use parts::ranks::first_change;
+use parts::ranks::floor_of;
+use parts::ranks::tables_of;
+use parts::ranks_again;
 use relation::values::with_bit;
 ghost use mathlib.Core.Path.{_≡_};
 ghost use Prim.Native.Nat.{_<_, _≤_, _^_};
@@ -18,8 +18,8 @@ ghost use Rattle.table.specs.Blocks.{Blocks};
 ghost use Rattle.relation.specs.Tests.{ofSets, free};
 ghost use Rattle.branch_bound.specs.Search.{split as splitOf, searchPart};
 ghost use Rattle.branch_bound.specs.TreeBoard.{tree};
-ghost use Rattle.search.specs.Inner.Ranks.{tablesIn, floorIn};
-ghost use Rattle.search.specs.Inner.Parts.{Carried};
+ghost use Rattle.parts.specs.Inner.Ranks.{tablesIn, floorIn};
+ghost use Rattle.parts.specs.Inner.Parts.{Carried};
 ghost use Rattle.search.specs.Inner.Conflicts.{Settled};
 ghost use Rattle.search.specs.Inner.Tally.{stateOf};
 

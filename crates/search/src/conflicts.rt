@@ -11,7 +11,7 @@ ghost use Prim.Native.Nat.{_<_, _≤_, _^_};
 ghost use Rattle.relation.specs.Tests.{ofSets, wires};
 ghost use Rattle.branch_bound.specs.Search.{picks};
 ghost use Rattle.branch_bound.specs.TreeBoard.{tree};
-ghost use Rattle.search.specs.Inner.Parts.{InLimits, PartSets};
+ghost use Rattle.parts.specs.Inner.Parts.{InLimits, PartSets};
 ghost use Rattle.search.specs.Inner.Conflicts.{Settled, splitPlace};
 
 // The lowest pattern on which the picks' value is not allowed, and the lowest wire open there. A pattern in conflict has an open wire, since every pick

@@ -1,6 +1,8 @@
-// The branch and bound: the smallest stage that keeps to a relation.
+// The branch and bound: the smallest stage that keeps to a relation. What it carries of a part is the crate `parts`, and what it means `branch_bound`.
 use base::Refusal;
 use base::Verdict;
+use parts::ranks::floor_of;
+use parts::whole_part;
 use relation::Relation;
 use relation::patterns::clear_past;
 use table::picks::blocks;
@@ -10,21 +12,11 @@ ghost use Rattle.branch_bound.specs.Search.{run};
 ghost use Rattle.branch_bound.specs.TreeBoard.{tree};
 ghost use Rattle.search.specs.Cases.{searchReply};
 ghost use Rattle.branch_bound.specs.Reply.{answerOf, searchOf};
-ghost use Rattle.search.specs.Inner.Parts.{InLimits, PartSets};
+ghost use Rattle.parts.specs.Inner.Parts.{InLimits, PartSets};
 
-mod ranks; // a pick as one number
-mod pairs; // the two masks of a wire in one number
-mod parts; // what is carried of a part, and its two halves by a split
 mod conflicts; // where to split: the first conflict
 mod quick_solver; // the first answer
 mod branches; // the cycle of visits and splits
-
-// What is carried of a part (subrelation) beside its sets: for each wire the patterns on which it can be 0 and those on which it can be 1, in one number,
-// and the rank of its pick.
-struct PartPicks {
-    pairs: [u32; 4],
-    ranks: [u32; 4],
-}
 
 // Where to split: the lowest pattern in conflict with its lowest open wire; nowhere without a conflict.
 enum SplitPlace {
@@ -54,11 +46,11 @@ fn search_sets(n: u8, m: u8, sets: [u16; 16], budget: u32) -> Answer
     ensures { λ r. ⌜ searchReply r ≡ answerOf n m (ofSets sets) (run (tree n m) budget (ofSets sets)) ⌝ }
 {
     let table = blocks();
-    let whole = parts::whole(&table, n, m, sets);
+    let whole = whole_part(&table, n, m, sets);
     let ranks = whole.ranks;
     let start = quick_solver::quick(&table, n, m, sets, ranks[0]);
     let pairs = whole.pairs;
-    let floor = ranks::floor_of(ranks);
+    let floor = floor_of(ranks);
     let mut own = sets;
     let mut tables = start.tables;
     let mut tally = [start.cells, 0, 0];

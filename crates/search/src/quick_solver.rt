@@ -1,9 +1,9 @@
 // The first answer, one wire after the other (QuickSolver of source 001, section 6.2).
 // Inner functions: `search_sets` and `quick` meet what they require.
-use crate::parts::wire_rank;
-use crate::ranks::cells_of;
-use crate::ranks::table_of;
 use branch_bound::State;
+use parts::ranks::cells_of;
+use parts::ranks::table_of;
+use parts::wire_rank;
 use relation::patterns::agreeing;
 ghost use mathlib.Core.Path.{_≡_};
 ghost use Prim.Native.Nat.{_<_};
@@ -11,7 +11,7 @@ ghost use Rattle.table.specs.Blocks.{Blocks};
 ghost use Rattle.relation.specs.Tests.{ofSets};
 ghost use Rattle.branch_bound.specs.Search.{start};
 ghost use Rattle.branch_bound.specs.TreeBoard.{tree};
-ghost use Rattle.search.specs.Inner.Parts.{InLimits, PartSets, rankOf};
+ghost use Rattle.parts.specs.Inner.Parts.{InLimits, PartSets, rankOf};
 
 // The rank of wire j's pick once the wires before it are chosen. Before the first wire nothing is: its pick is the whole relation's, which the caller has.
 fn rank_left(e: &[u16; 256], n: u8, m: u8, left: [u16; 16], j: u8, first: u32) -> u32

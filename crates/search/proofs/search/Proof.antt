@@ -6,7 +6,7 @@ use Rattle.relation.specs.Tests.{ofSets}
 use Rattle.branch_bound.specs.Search.{run}
 use Rattle.branch_bound.specs.TreeBoard.{tree}
 use Rattle.branch_bound.specs.Reply.{answerOf, refusedWith}
-use Rattle.search.specs.Inner.Parts.{PartSets}
+use Rattle.parts.specs.Inner.Parts.{PartSets}
 use Rattle.search.proofs.Entry.{inputs, sized, as-held, held, answered, turned-away}
 use borrow.Author.Needs.{needs}
 use Rattle.search.proofs.search.Statement.{statement}

@@ -25,11 +25,11 @@ use Rattle.search.proofs.branches.visit.Kinds as visit-kinds
 use Rattle.search.proofs.branches.+split+visit.Lts-visit as visit-lts
 use Rattle.relation.proofs.values.with_bit.Reads as with-bit-reads
 use Rattle.search.proofs.conflicts.first_open.Reads as first-open-reads
-use Rattle.search.proofs.pairs.cut_pairs.Reads as cut-pairs-reads
-use Rattle.search.proofs.parts.ranks_again.Reads as ranks-again-reads
-use Rattle.search.proofs.ranks.floor_of.Reads as floor-of-reads
-use Rattle.search.proofs.ranks.first_change.Reads as first-change-reads
-use Rattle.search.proofs.ranks.tables_of.Reads as tables-of-reads
+use Rattle.parts.proofs.pairs.cut_pairs.Reads as cut-pairs-reads
+use Rattle.parts.proofs.ranks_again.Reads as ranks-again-reads
+use Rattle.parts.proofs.ranks.floor_of.Reads as floor-of-reads
+use Rattle.parts.proofs.ranks.first_change.Reads as first-change-reads
+use Rattle.parts.proofs.ranks.tables_of.Reads as tables-of-reads
 use Rattle.search.proofs.branches.+split+visit.{statement}
 use Rattle.search.proofs.branches.+split+visit.Tie.{close}
 

@@ -2,7 +2,7 @@ use Prim.Native.Nat.{_-_}
 use mathlib.Core.Path.{_≡_, refl, ap, sym, _∙_}
 use native.Mathlib.Omega.{arith}
 use borrow.Author.Needs.{needs}
-use Rattle.search.specs.Inner.Parts.{rankOf}
+use Rattle.parts.specs.Inner.Parts.{rankOf}
 use Rattle.search.proofs.FirstAnswer.{ChosenBelow, none-taken, next-taken, all-taken}
 use Rattle.search.proofs.quick_solver.quick.Statement.{statement}
 use Rattle.search.proofs.quick_solver.quick.Tie as tie
