@@ -4,8 +4,7 @@ use Prim.Native.Nat.{ℕ}
 use mathlib.Core.Bool.{cond}
 use mathlib.Core.List.{List, [], _∷_}
 use Rattle.base.specs.Cases.{Case, isRefused}
-use Rattle.search.specs.Cases.{SearchReply}
-use Rattle.search.specs.Reply.{searchOf}
+use Rattle.branch_bound.specs.Reply.{SearchReply, searchOf}
 use Rattle.quote.specs.Cases.{QuoteReply}
 use Rattle.capi.specs.declared.told.Told.{Told}
 

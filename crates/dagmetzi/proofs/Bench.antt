@@ -14,10 +14,9 @@ use Rattle.relation.specs.Source.{value}
 use Rattle.relation.specs.Tests.{ofSets, keep, agree, occurs, free, freeWire, compatible, conflict, emptyPattern, openPairs}
 use Rattle.relation.specs.Inner.Source.{fits}
 use Rattle.relation.specs.Handed.{relationOf, widePattern, checkOf}
-use Rattle.search.specs.Cases.{bestOutcome, stoppedOutcome, SearchReply}
-use Rattle.search.specs.Search.{tablesOf, total, pick, picks, floor, left, quick, start, split, expand, charge, treat, visit, searchPart, run}
-use Rattle.search.specs.TreeBoard.{tree}
-use Rattle.search.specs.Reply.{markOf, answerOf, refusedWith, afterCheck, searchOf}
+use Rattle.branch_bound.specs.Reply.{bestOutcome, stoppedOutcome, SearchReply, markOf, answerOf, refusedWith, searchTested, searchOf}
+use Rattle.branch_bound.specs.Search.{replyTables, total, pick, picks, floor, left, quick, start, split, expand, charge, treat, visit, searchPart, run}
+use Rattle.branch_bound.specs.TreeBoard.{tree}
 use Rattle.reader.specs.Reading.{readingOf}
 use Rattle.reader.proofs.Rows.{sheetA}
 use Rattle.stage.specs.Bytes.{treeBytes, wireBytes, stageBytes}
@@ -33,7 +32,7 @@ use Rattle.dagmetzi.specs.Printed.{budget, printedOf}
 
 -- all that a search, a stage, a quote and the printed lines compute by
 unfoldable opened : ℕ
-unfolding UnitRows.opened bit all any sum ofBits tabulate low high cells reduced suits nearer least orZero leastOf value ofSets keep agree occurs fits free freeWire compatible conflict emptyPattern isOne openPairs lowest relationOf widePattern checkOf tablesOf total pick picks floor left quick start split expand charge treat visit searchPart run tree markOf answerOf refusedWith afterCheck searchOf treeBytes wireBytes stageBytes stageTrees stageOf firstOut writtenOf bufferAfter presentTable presentTables presentCells withStage searched quotedOf bufferSearched bufferQuoted digits decimal hexDigit hexPair furtherPairs hexPairs named countsOf stageLine resultLines refusalLine linesOf printedOf
+unfolding UnitRows.opened bit all any sum ofBits tabulate low high cells reduced suits nearer least orZero leastOf value ofSets keep agree occurs fits free freeWire compatible conflict emptyPattern isOne openPairs lowest relationOf widePattern checkOf replyTables total pick picks floor left quick start split expand charge treat visit searchPart run tree markOf answerOf refusedWith searchTested searchOf treeBytes wireBytes stageBytes stageTrees stageOf firstOut writtenOf bufferAfter presentTable presentTables presentCells withStage searched quotedOf bufferSearched bufferQuoted digits decimal hexDigit hexPair furtherPairs hexPairs named countsOf stageLine resultLines refusalLine linesOf printedOf
 opened = 0
 
 -- sheet A as it is printed. Its first line is "cells 2 floor 2 visits 0 best";

@@ -11,20 +11,21 @@ use lib.ListN.{length, getD}
 use Rattle.base.specs.Cases.{accepting, acceptedOutcome, acceptedCase, refusedCase}
 use Rattle.base.specs.Refusals.{refusalAt, shortBuffer}
 use Rattle.table.specs.Bits.{sum}
-use Rattle.table.specs.Cells.{cells, wires}
+use Rattle.table.specs.Cells.{cells}
 use Rattle.table.specs.Tree.{Tree, selectors, reduced}
 use Rattle.table.proofs.Bits.{sum-cong}
 use Rattle.relation.specs.declared.Relation.{Relation}
+use Rattle.relation.specs.Tests.{wires}
 use Rattle.relation.specs.Families as Families
 use Rattle.relation.specs.Families.{Family}
 use Rattle.relation.specs.Handed.{relationOf, checkOf}
 use Rattle.relation.proofs.Sets.{Fit, check-well-formed}
-use Rattle.search.specs.declared.State.{State}
-use Rattle.search.specs.Search.{floor, run}
-use Rattle.search.specs.TreeBoard.{tree, Smallest}
-use Rattle.search.specs.Promise.{Promise}
-use Rattle.search.proofs.Families.{fair, smallest}
-use Rattle.search.proofs.Promised.{run-promise}
+use Rattle.branch_bound.specs.declared.State.{State}
+use Rattle.branch_bound.specs.Search.{floor, run}
+use Rattle.branch_bound.specs.TreeBoard.{tree, Smallest}
+use Rattle.branch_bound.specs.Promise.{Promise}
+use Rattle.branch_bound.proofs.Families.{fair, smallest}
+use Rattle.branch_bound.proofs.Treating.{run-promise}
 use Rattle.stage.specs.Bytes.{size}
 use Rattle.stage.specs.Written.{stageTrees, stageOf, firstOut, tableOut, writtenOf}
 use Rattle.stage.specs.Read.{got, readStage}
@@ -61,24 +62,24 @@ module _ (r : Relation) (passes : checkOf r ≡ acceptedCase) (budget : ℕ) whe
   fit = check-well-formed r passes
 
   pub sized : Sized (r .n) (r .m)
-  sized = record { n-least = fit .sizes .n-least; n-most = fit .sizes .n-most; m-least = fit .sizes .m-least; m-most = fit .sizes .m-most }
+  sized = record { n-least = fit .some-inputs; n-most = fit .few-inputs; m-least = fit .some-wires; m-most = fit .few-wires }
 
   abbrev pub found : State
   found = run (tree (r .n) (r .m)) budget (relationOf r)
 
   told : Smallest (r .n) (r .m) budget (relationOf r) (run (tree (r .n) (r .m)) budget (relationOf r))
-  told = smallest (r .n) (r .m) budget (relationOf r) (fit .sizes .m-most) (fit .well-defined)
+  told = smallest (r .n) (r .m) budget (relationOf r) (fit .few-wires) (fit .well-defined)
 
   kept : Promise (tree (r .n) (r .m)) budget (relationOf r) (run (tree (r .n) (r .m)) budget (relationOf r))
   unfolding tree
-  kept = run-promise (tree (r .n) (r .m)) (fair (r .n) (r .m) (fit .sizes .m-most)) budget (relationOf r) (fit .well-defined)
+  kept = run-promise (tree (r .n) (r .m)) (fair (r .n) (r .m) (fit .few-wires)) budget (relationOf r) (fit .well-defined)
 
   long : r .m ≤ length (found .tables)
-  long = omega (arith, kept .sound .long, fit .sizes .m-most)
+  long = omega (arith, kept .so-far .long, fit .few-wires)
 
   in-range : (j : ℕ) → j < r .m → getD (found .tables) j 0 < 2 ^ (2 ^ r .n)
   unfolding tree
-  in-range j l = kept .sound .stage j l
+  in-range j l = kept .so-far .stage j l
 
   abbrev pub trees : List Tree
   trees = stageTrees (r .n) (r .m) (found .tables)

@@ -17,10 +17,9 @@ use Rattle.table.specs.Tree.{Tree}
 use Rattle.relation.specs.declared.Relation.{Relation}
 use Rattle.relation.specs.Families.{Family}
 use Rattle.relation.specs.Handed.{relationOf, checkOf}
-use Rattle.search.specs.Cases.{SearchReply}
-use Rattle.search.specs.Search.{floor}
-use Rattle.search.specs.TreeBoard.{tree}
-use Rattle.search.specs.Reply.{markOf, answerOf}
+use Rattle.branch_bound.specs.Reply.{SearchReply, markOf, answerOf}
+use Rattle.branch_bound.specs.Search.{floor}
+use Rattle.branch_bound.specs.TreeBoard.{tree}
 use Rattle.search.proofs.Entry.{answered}
 use Rattle.sheet.specs.declared.Command.{Command}
 use Rattle.sheet.specs.Commands.{inputsOf, wiresOf}

@@ -10,7 +10,7 @@ use Rattle.relation.specs.declared.Relation.{Relation}
 use Rattle.search.specs.declared.Answer.{Answer}
 use Rattle.search.specs.declared.Mark.the-variants.{Refused}
 use Rattle.search.specs.Cases.{markCase, searchReply}
-use Rattle.search.specs.Reply.{searchOf}
+use Rattle.branch_bound.specs.Reply.{searchOf}
 use Rattle.base.specs.declared.Verdict.the-variants.{Accepted, Refused as SheetRefused}
 use Rattle.stage.specs.declared.writer.Written.{Written}
 use Rattle.stage.specs.declared.writer.Written.the-variants.{Length, Refused as NotWritten}

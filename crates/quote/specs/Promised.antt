@@ -7,7 +7,7 @@ use mathlib.Core.List.{List}
 use lib.ListN.{take}
 use Rattle.base.specs.Refusals.{empty}
 use Rattle.table.specs.Tree.{Tree}
-use Rattle.search.specs.Cases.{bestOutcome, stoppedOutcome}
+use Rattle.branch_bound.specs.Reply.{bestOutcome, stoppedOutcome}
 use Rattle.sheet.specs.declared.Command.{Command}
 use Rattle.sheet.specs.Commands.{inputsOf, wiresOf}
 use Rattle.sheet.specs.Judged.{holds}

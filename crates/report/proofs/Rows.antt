@@ -4,7 +4,7 @@ use mathlib.Core.Path.{_≡_, refl}
 use mathlib.Core.List.{List, [], _∷_, _++_}
 use Rattle.base.specs.Cases.{accepting, refusing, refusedOutcome, secondRefusedOutcome, refusedCase}
 use Rattle.base.specs.Refusals.{refusalAt, empty, sizesDiffer, tooLong}
-use Rattle.search.specs.Cases.{stoppedOutcome}
+use Rattle.branch_bound.specs.Reply.{stoppedOutcome}
 use Rattle.quote.specs.Cases.{fitsOutcome, differsOutcome}
 use Rattle.report.specs.Text.{digits, decimal, hexDigit, hexPair, furtherPairs, hexPairs}
 use Rattle.report.specs.Lines.{newline, cellsText, fitsText, differsText, sheetText, stageText, refusedText, atText, named, countsOf, stageLine, resultLines, refusalLine, linesOf, judgedLine, auditLine}

@@ -5,7 +5,7 @@ use mathlib.Core.List.{List, [], _∷_, _++_}
 use lib.Dec.{eqb}
 use lib.ListN.{take}
 use Rattle.base.specs.Cases.{Case, refusedOutcome, isRefused}
-use Rattle.search.specs.Cases.{bestOutcome}
+use Rattle.branch_bound.specs.Reply.{bestOutcome}
 use Rattle.stage.specs.Bytes.{longestStage}
 use Rattle.quote.specs.Cases.{QuoteReply, fitsOutcome}
 use Rattle.report.specs.Text.{decimal, hexPairs}

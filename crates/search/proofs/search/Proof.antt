@@ -3,10 +3,10 @@ use mathlib.Core.Path.{_≡_, ap, sym, subst, _∙_}
 use lib.ListN.{length}
 use Rattle.base.specs.Cases.{verdictCase}
 use Rattle.relation.specs.Tests.{ofSets}
-use Rattle.search.specs.Search.{run}
-use Rattle.search.specs.TreeBoard.{tree}
-use Rattle.search.specs.Reply.{answerOf, refusedWith}
-use Rattle.search.specs.Kept.{Sets}
+use Rattle.branch_bound.specs.Search.{run}
+use Rattle.branch_bound.specs.TreeBoard.{tree}
+use Rattle.branch_bound.specs.Reply.{answerOf, refusedWith}
+use Rattle.parts.specs.Inner.Parts.{PartSets}
 use Rattle.search.proofs.Entry.{inputs, sized, as-held, held, answered, turned-away}
 use borrow.Author.Needs.{needs}
 use Rattle.search.proofs.search.Statement.{statement}
@@ -34,7 +34,7 @@ search-sets-requires c κs =
     let a = c .before .before .before .before .before .args in
     let l : length (a .relation .sets) ≡ 16 = search needs in
     let p = sym (c .before .before .before .check .ensures) ∙ ap verdictCase (c .before .enum-told .given .1) in
-    (sized (a .relation) l p, subst (Sets (a .relation .n) (a .relation .m)) (sym (c .clear-past .ensures)) (held (a .relation) l p))
+    (sized (a .relation) l p, subst (PartSets (a .relation .n) (a .relation .m)) (sym (c .clear-past .ensures)) (held (a .relation) l p))
 
 enum-known-checked : tie.Need-enum-known-checked
 enum-known-checked c = search needs
