@@ -14,20 +14,21 @@ use lib.Seq.{getD-set-same, getD-set-other}
 use Rattle.sheet.specs.Limits.{maxInputs, maxWires}
 use Rattle.base.proofs.Tests.{cond-has, decide, eq-test}
 use Rattle.table.specs.Bits.{bit}
-use Rattle.table.specs.Cells.{cells}
-use Rattle.table.specs.Pick.{suits, leastOf, orZero, masked, pickOf, rank}
-use Rattle.table.specs.Blocks.{Covered}
-use Rattle.table.specs.Pairs.{zerosIn, onesIn}
-use Rattle.table.proofs.Bits.{bit-lt, bit-past, all-at, all-intro, tabulate-at, tabulate-cong, sum-cong, sum-short}
+use Rattle.table.specs.Cells.{cells, wires}
+use Rattle.table.specs.Pick.{suits, leastOf, orZero}
+use Rattle.table.specs.Inner.Ranks.{masked, pickOf, rank}
+use Rattle.table.specs.Inner.Blocks.{Covered}
+use Rattle.table.specs.Inner.Pairs.{zerosIn, onesIn}
+use Rattle.table.proofs.Bits.{bit-lt, bit-past, all-at, all-intro, tabulate-at, tabulate-cong, sum-cong, sum-short, zero-bit}
 use Rattle.table.proofs.Cells.{constant-cells}
 use Rattle.table.proofs.Least.{Least, least-only}
 use Rattle.table.proofs.Halving.{IsBest, least-best}
 use Rattle.table.proofs.Masks.{least-cong, least-shrink, pick-some}
-use Rattle.relation.specs.Tests.{ofSets, wires, keep, projection, fits, occurs, free}
-use Rattle.relation.specs.Masks.{member, withBit, maskOf, narrowed}
+use Rattle.relation.specs.Tests.{ofSets, keep, projection, occurs, free}
+use Rattle.relation.specs.Inner.Source.{fits}
+use Rattle.relation.specs.Inner.Masks.{member, withBit, maskOf, narrowed}
 use Rattle.relation.proofs.Decide.{free-both, occurs-intro}
 use Rattle.relation.proofs.Splits.{keep-part, keep-well-defined, occurs-part}
-use Rattle.table.proofs.Bits.{zero-bit}
 use Rattle.relation.proofs.Sets.{Narrow, member-sets, narrow-keep, narrowed-narrow, occurs-four, mask-lt, mask-projection, mask-covers}
 use Rattle.branch_bound.specs.Search.{replyTables, total, pick, picks, floor}
 use Rattle.branch_bound.specs.TreeBoard.{tree}

@@ -13,13 +13,14 @@ use lib.ListN.{length, getD}
 use lib.Pow.{pow-mono, pow-pos, pow-add}
 use Rattle.sheet.specs.Limits.{maxWires}
 use Rattle.base.proofs.Tests.{cond-has, below-suc, eq-test, eqb-yes, eqb-not}
-use Rattle.table.specs.Bits.{bit, sum, ofBits, tabulate}
-use Rattle.table.specs.Pairs.{seat, zerosIn, onesIn, paired}
+use Rattle.table.specs.Bits.{bit, sum, ofBits, tabulate, isOne}
+use Rattle.table.specs.Inner.Pairs.{seat, zerosIn, onesIn, paired}
 use Rattle.table.proofs.Pairs.{ones-at, zeros-at, ones-lt, zeros-lt}
 use Rattle.table.proofs.Bits.{sum-cong, sum-le, sum-short, sum-but-one, bit-lt, bit-ofBits, ofBits-bit, tabulate-at, tabulate-cong}
-use Rattle.relation.specs.Tests.{isOne, occurs}
-use Rattle.relation.specs.Masks.{member, withBit, narrowed, maskOf, cut, NonePast}
-use Rattle.relation.proofs.Columns.{isOne-lt-two, found-lt}
+use Rattle.relation.specs.Tests.{occurs}
+use Rattle.relation.specs.Inner.Masks.{member, withBit, narrowed, maskOf, cut, NonePast}
+use Rattle.table.proofs.BitColumns.{isOne-lt-two}
+use Rattle.relation.proofs.Columns.{found-lt}
 use Rattle.relation.proofs.Sets.{member-sets, none-occurs, mask-bit, mask-narrowed}
 use Rattle.parts.specs.Inner.Pairs.{pairOf, pairsOf, sidesOf, cutPair}
 

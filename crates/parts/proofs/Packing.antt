@@ -9,7 +9,7 @@ use lib.Pow.{pow-mono}
 use Rattle.sheet.specs.Limits.{maxInputs, maxWires}
 use Rattle.table.specs.Bits.{bit}
 use Rattle.table.specs.Cells.{cells}
-use Rattle.table.specs.Pick.{rank, tableSpace}
+use Rattle.table.specs.Inner.Ranks.{rank, tableSpace}
 use Rattle.table.proofs.Bits.{bit-mod, tabulate-at}
 use Rattle.parts.specs.Inner.Ranks.{tableIn, cellsIn, tablesIn}
 

@@ -10,7 +10,7 @@ use relation::values::has;
 use table::picks::pick;
 ghost use mathlib.Core.Path.{_≡_};
 ghost use Prim.Native.Nat.{_<_, _≤_};
-ghost use Rattle.table.specs.Blocks.{Blocks};
+ghost use Rattle.table.specs.Inner.Blocks.{Blocks};
 ghost use Rattle.parts.specs.Inner.Pairs.{Covers, PairsCover};
 ghost use Rattle.parts.specs.Inner.Parts.{InLimits, PartSets, Carried, rankOf, ranksBetween, rankAgain, ranksAgain};
 

@@ -5,9 +5,9 @@ use relation::patterns::patterns_of;
 use relation::values::has;
 ghost use mathlib.Core.Path.{_≡_};
 ghost use Prim.Native.Nat.{_+_, _*_, _<_, _≤_, _^_};
-ghost use Rattle.table.specs.Pairs.{seat};
-ghost use Rattle.relation.specs.Tests.{isOne};
-ghost use Rattle.relation.specs.Masks.{NonePast};
+ghost use Rattle.table.specs.Inner.Pairs.{seat};
+ghost use Rattle.table.specs.Bits.{isOne};
+ghost use Rattle.relation.specs.Inner.Masks.{NonePast};
 ghost use Rattle.parts.specs.Inner.Pairs.{pairOf, pairsOf, sidesOf, cutPair, cutPairs};
 
 fn one(there: bool) -> u32

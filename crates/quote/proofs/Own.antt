@@ -11,11 +11,10 @@ use lib.ListN.{length, getD}
 use Rattle.base.specs.Cases.{accepting, acceptedOutcome, acceptedCase, refusedCase}
 use Rattle.base.specs.Refusals.{refusalAt, shortBuffer}
 use Rattle.table.specs.Bits.{sum}
-use Rattle.table.specs.Cells.{cells}
+use Rattle.table.specs.Cells.{cells, wires}
 use Rattle.table.specs.Tree.{Tree, selectors, reduced}
 use Rattle.table.proofs.Bits.{sum-cong}
 use Rattle.relation.specs.declared.Relation.{Relation}
-use Rattle.relation.specs.Tests.{wires}
 use Rattle.relation.specs.Families as Families
 use Rattle.relation.specs.Families.{Family}
 use Rattle.relation.specs.Handed.{relationOf, checkOf}

@@ -9,7 +9,7 @@ use Rattle.base.specs.Cases.{accepting, acceptedCase, refusedCase}
 use Rattle.relation.specs.declared.Relation.{Relation}
 use Rattle.relation.specs.Source.{Rel}
 use Rattle.relation.specs.Tests.{ofSets}
-use Rattle.relation.specs.Masks.{cleared}
+use Rattle.relation.specs.Inner.Masks.{cleared}
 use Rattle.relation.specs.Handed.{relationOf, checkOf}
 use Rattle.relation.proofs.Sets.{Fit, check-well-formed, cleared-takes, cleared-narrow}
 use Rattle.branch_bound.specs.declared.State.{State}

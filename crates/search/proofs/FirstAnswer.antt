@@ -15,12 +15,12 @@ use lib.Seq.{getD-set-same, getD-set-other}
 use Rattle.sheet.specs.Limits.{maxWires}
 use Rattle.base.proofs.Tests.{decide, eq-test, test-ext}
 use Rattle.table.specs.Bits.{sum, tabulate}
-use Rattle.table.specs.Cells.{cells}
-use Rattle.table.specs.Pick.{pickOf, rank}
+use Rattle.table.specs.Cells.{cells, wires}
+use Rattle.table.specs.Inner.Ranks.{pickOf, rank}
 use Rattle.table.proofs.Bits.{tabulate-at, tabulate-length, sum-cong}
 use Rattle.relation.specs.Source.{Tables}
-use Rattle.relation.specs.Tests.{ofSets, wires, agree}
-use Rattle.relation.specs.Masks.{maskOf, agreed}
+use Rattle.relation.specs.Tests.{ofSets, agree}
+use Rattle.relation.specs.Inner.Masks.{maskOf, agreed}
 use Rattle.relation.proofs.Splits.{agree-well-defined}
 use Rattle.relation.proofs.Sets.{agreed-agree, agreed-narrow}
 use Rattle.base.proofs.Tabulate.{filled-tabulate}

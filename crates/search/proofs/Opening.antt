@@ -14,8 +14,9 @@ use Rattle.base.proofs.Lowest.{lowest-at, lowest-below}
 use Rattle.table.specs.Bits.{tabulate}
 use Rattle.table.proofs.Bits.{tabulate-at, tabulate-length}
 use Rattle.relation.specs.Source.{Rel, Tables, value}
-use Rattle.relation.specs.Tests.{ofSets, wires, free, freeWire, compatible, conflict}
-use Rattle.relation.specs.Masks.{member, sideBySide, valueIn}
+use Rattle.relation.specs.Tests.{ofSets, free, freeWire, compatible, conflict}
+use Rattle.table.specs.Cells.{wires}
+use Rattle.relation.specs.Inner.Masks.{member, sideBySide, valueIn}
 use Rattle.relation.proofs.Decide.{compatible-at, compatible-test, conflict-is, freeWire-is}
 use Rattle.relation.proofs.Sets.{member-sets, free-four, value-four}
 use Rattle.relation.proofs.Side.{side-value}

@@ -14,7 +14,7 @@ ghost use mathlib.Core.Path.{_≡_};
 ghost use Prim.Native.Nat.{_<_, _≤_, _^_};
 ghost use lib.Dec.{T};
 ghost use lib.ListN.{length};
-ghost use Rattle.table.specs.Blocks.{Blocks};
+ghost use Rattle.table.specs.Inner.Blocks.{Blocks};
 ghost use Rattle.relation.specs.Tests.{ofSets, free};
 ghost use Rattle.branch_bound.specs.Search.{split as splitOf, searchPart};
 ghost use Rattle.branch_bound.specs.TreeBoard.{tree};

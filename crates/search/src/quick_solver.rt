@@ -7,7 +7,7 @@ use parts::wire_rank;
 use relation::patterns::agreeing;
 ghost use mathlib.Core.Path.{_≡_};
 ghost use Prim.Native.Nat.{_<_};
-ghost use Rattle.table.specs.Blocks.{Blocks};
+ghost use Rattle.table.specs.Inner.Blocks.{Blocks};
 ghost use Rattle.relation.specs.Tests.{ofSets};
 ghost use Rattle.branch_bound.specs.Search.{start};
 ghost use Rattle.branch_bound.specs.TreeBoard.{tree};

@@ -3,11 +3,11 @@ use Prim.Native.Nat.{ℕ, _+_, _*_, _^_, _<_}
 use mathlib.Core.List.{List}
 use lib.ListN.{getD}
 use Rattle.sheet.specs.Limits.{maxWires}
-use Rattle.table.specs.Bits.{tabulate}
-use Rattle.table.specs.Blocks.{Covered}
-use Rattle.table.specs.Pairs.{zerosIn, onesIn, paired}
-use Rattle.relation.specs.Tests.{isOne, occurs}
-use Rattle.relation.specs.Masks.{member, maskOf, cut}
+use Rattle.table.specs.Bits.{tabulate, isOne}
+use Rattle.table.specs.Inner.Blocks.{Covered}
+use Rattle.table.specs.Inner.Pairs.{zerosIn, onesIn, paired}
+use Rattle.relation.specs.Tests.{occurs}
+use Rattle.relation.specs.Inner.Masks.{member, maskOf, cut}
 
 -- the two masks of wire j's projection, and those of all wires
 unfoldable pub pairOf : List ℕ → ℕ → ℕ

@@ -6,11 +6,11 @@ use mathlib.Core.List.{List}
 use lib.ListN.{length, getD}
 use Rattle.sheet.specs.Limits.{maxInputs, maxWires}
 use Rattle.table.specs.Bits.{bit, tabulate}
-use Rattle.table.specs.Pick.{pickOf, rank}
-use Rattle.table.specs.Pairs.{zerosIn, onesIn}
+use Rattle.table.specs.Inner.Ranks.{pickOf, rank}
+use Rattle.table.specs.Inner.Pairs.{zerosIn, onesIn}
 use Rattle.relation.specs.Source.{WellDefined}
 use Rattle.relation.specs.Tests.{ofSets, occurs}
-use Rattle.relation.specs.Masks.{member, maskOf, NonePast}
+use Rattle.relation.specs.Inner.Masks.{member, maskOf, NonePast}
 use Rattle.parts.specs.Inner.Pairs.{pairsOf}
 use Rattle.parts.specs.Inner.Ranks.{tableIn}
 

@@ -4,7 +4,7 @@ use mathlib.Core.List.{List}
 use lib.ListN.{getD}
 use Rattle.sheet.specs.Limits.{maxWires}
 use Rattle.table.specs.Bits.{sum, tabulate}
-use Rattle.table.specs.Pick.{tableSpace}
+use Rattle.table.specs.Inner.Ranks.{tableSpace}
 
 unfoldable pub tableIn : ℕ → ℕ
 tableIn rank = rank % tableSpace

@@ -3,7 +3,7 @@ use mathlib.Core.Path.{_≡_, refl, ap, _∙_}
 use native.Mathlib.Omega.{arith}
 use lib.ListN.{getD}
 use Rattle.table.specs.Bits.{sum}
-use Rattle.table.specs.Pairs.{seat}
+use Rattle.table.specs.Inner.Pairs.{seat}
 use Rattle.parts.specs.Inner.Pairs.{sidesOf}
 use Rattle.parts.proofs.MaskPairs.{pairBelow, below-room, below-more, below-all}
 use borrow.Author.Needs.{needs}

@@ -2,7 +2,7 @@ use Prim.Native.Nat.{_+_, _*_, _^_, _≤_}
 use mathlib.Core.Path.{_≡_, ap, ap₂, _∙_}
 use native.Mathlib.Omega.{arith}
 use native.Mathlib.Nat.{mul-le-mul-right}
-use Rattle.table.specs.Pairs.{seat}
+use Rattle.table.specs.Inner.Pairs.{seat}
 use Rattle.parts.proofs.MaskPairs.{shifted}
 use borrow.Author.Needs.{needs}
 use Rattle.parts.proofs.pairs.put_pair.Statement.{statement}

@@ -1,8 +1,8 @@
 use Prim.Native.Nat.{_+_, _*_}
 use mathlib.Core.Path.{ap, ap₂, _∙_}
 use native.Mathlib.Omega.{arith}
-use Rattle.relation.specs.Tests.{isOne}
-use Rattle.relation.proofs.Columns.{isOne-lt-two}
+use Rattle.table.specs.Bits.{isOne}
+use Rattle.table.proofs.BitColumns.{isOne-lt-two}
 use Rattle.parts.specs.Inner.Pairs.{sidesOf}
 use Rattle.parts.proofs.MaskPairs.{sides-le}
 use borrow.Author.Needs.{needs}

@@ -14,7 +14,8 @@ use native.Mathlib.Omega.{arith}
 use borrow.Author.Count.{below-more}
 use lib.Dec.{T}
 use lib.ListN.{getD}
-use Rattle.relation.specs.Tests.{ofSets, wires, free}
+use Rattle.relation.specs.Tests.{ofSets, free}
+use Rattle.table.specs.Cells.{wires}
 use Rattle.search.proofs.Opening.{allowed-test, open-test, some-open, none-open, pair-open}
 use Rattle.search.proofs.conflicts.first_open.Statement.{statement}
 use Rattle.search.proofs.conflicts.first_open.Tie as tie
