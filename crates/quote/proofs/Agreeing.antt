@@ -22,7 +22,7 @@ use Rattle.sheet.specs.declared.Command.{Command}
 use Rattle.sheet.specs.Commands.{inputsOf, wiresOf}
 use Rattle.sheet.specs.Reading.{Reading, holds, refused as unread, readingOf}
 use Rattle.stage.specs.Bytes.{size}
-use Rattle.stage.specs.Read.{StageSheet, got, refused, readStage}
+use Rattle.stage.specs.Read.{StageSheet, got, noStage, readStage}
 use Rattle.stage.proofs.Sheets.{accepted}
 use Rattle.unit.specs.Relation.{unitRelation}
 use Rattle.unit.specs.Formed.{relationIn, turnedAway, formedOf}
@@ -76,7 +76,7 @@ module _ (sheet stage : List ℕ) (c : ℕ) where
 
     yes-rival : (s : StageSheet) → readStage stage ≡ s → auditedStage (relationIn cs) s ≡ accepting fitsOutcome c → RivalStage sheet stage c
     unfolding auditedStage relationIn
-    yes-rival (refused f) d h = never h (λ o. omega arith)
+    yes-rival (noStage f) d h = never h (λ o. omega arith)
     yes-rival (got n m trees) d h =
         ⊎-elim
         (λ t.
