@@ -1,11 +1,12 @@
 // The bytes of a stage, stored part by part at the start of a buffer.
 use base::put;
 ghost use mathlib.Core.Path.{_≡_};
+ghost use mathlib.Core.List.{[], _∷_};
 ghost use Prim.Native.Nat.{_+_, _^_, _<_, _≤_};
 ghost use lib.ListN.{length};
 ghost use lib.Seq.{sets};
 ghost use Rattle.table.specs.Tree.{reduced};
-ghost use Rattle.stage.specs.Bytes.{constantByte, treeBytes, wireBytes, wiresBytes};
+ghost use Rattle.stage.specs.Bytes.{constantByte, treeBytes, wireBytes, wiresBytes, longestStage};
 ghost use Rattle.stage.specs.Written.{stageTrees, stageOf};
 
 // The number of tables of v inputs: what halves a table of one input more.
@@ -28,10 +29,20 @@ fn constant(t: u16) -> u8
     if t == 0 { 0x23 } else { 0x24 }
 }
 
+// Writes a command with one operand, and hands back the place after it.
+// The bound on the place is only there for the sums: no stage is longer.
+fn put_command(buffer: &mut [u8], at: usize, command: u8, operand: u8) -> usize
+    requires { ⌜ at + 2 ≤ longestStage ⌝ }
+    ensures { λ r. ⌜ (now (buffer .exit) ≡ sets (now (buffer .entry)) at (command ∷ operand ∷ [])) × (r ≡ at + 2) ⌝ }
+{
+    put(buffer, at, command);
+    put(buffer, at + 1, operand);
+    at + 2
+}
+
 // Writes the reduced tree of a table of w inputs, which stand after k others, and hands back the place after it.
-// The bound on the place is only there for the sums: no stage is longer than 196 bytes.
 fn put_tree(buffer: &mut [u8], at: usize, w: u8, k: u8, t: u16) -> usize
-    requires { ⌜ (w + k ≤ 4) × (at + length (treeBytes (reduced w k t)) ≤ 4096) ⌝ }
+    requires { ⌜ (w + k ≤ 4) × (at + length (treeBytes (reduced w k t)) ≤ longestStage) ⌝ }
     ensures { λ r. ⌜ (now (buffer .exit) ≡ sets (now (buffer .entry)) at (treeBytes (reduced w k t))) × (r ≡ at + length (treeBytes (reduced w k t))) ⌝ }
 {
     if w == 0 {
@@ -42,24 +53,23 @@ fn put_tree(buffer: &mut [u8], at: usize, w: u8, k: u8, t: u16) -> usize
     let half = half_of(v);
     let low = t % half;
     let high = t / half;
+    let input = k + 1;
     if low == high {
-        put_tree(buffer, at, v, k + 1, low)
+        put_tree(buffer, at, v, input, low)
     } else {
-        put(buffer, at, 0x22);
-        put(buffer, at + 1, k + 1);
-        let next = put_tree(buffer, at + 2, v, k + 1, low);
-        put_tree(buffer, next, v, k + 1, high)
+        let for_zero = put_command(buffer, at, 0x22, input);
+        let for_one = put_tree(buffer, for_zero, v, input, low);
+        put_tree(buffer, for_one, v, input, high)
     }
 }
 
 // Writes wire j's part of a stage, and hands back the place after it.
 fn put_wire(buffer: &mut [u8], at: usize, n: u8, j: u8, t: u16) -> usize
-    requires { ⌜ (n ≤ 4) × (at ≤ 1024) ⌝ }
+    requires { ⌜ (n ≤ 4) × (at + length (wireBytes j (reduced n 0 t)) ≤ longestStage) ⌝ }
     ensures { λ r. ⌜ (now (buffer .exit) ≡ sets (now (buffer .entry)) at (wireBytes j (reduced n 0 t))) × (r ≡ at + length (wireBytes j (reduced n 0 t))) ⌝ }
 {
-    put(buffer, at, 0x21);
-    put(buffer, at + 1, j);
-    put_tree(buffer, at + 2, n, 0, t)
+    let tree_at = put_command(buffer, at, 0x21, j);
+    put_tree(buffer, tree_at, n, 0, t)
 }
 
 // Writes the wires of a stage from place 3 on, and hands back the place after them.

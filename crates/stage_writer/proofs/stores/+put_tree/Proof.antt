@@ -1,189 +1,184 @@
 -- `put_tree` meets its contract: the halves of a table are equal, or a selector and the trees of both are stored one after the other.
-use Prim.Native.Nat.{_+_, _-_, _/_, _%_, ℕ, _<_}
+use Prim.Native.Nat.{ℕ, _+_, _-_, _/_, _%_, _<_, _≤_}
 use mathlib.Core.Path.{_∙_}
 use native.Mathlib.Omega.{arith}
 use borrow.Author.Needs.{needs}
+use borrow.Fn.Kinds.{In, Out}
+use borrow.Fn.PlainCycle.{Measures, is, falls, and}
 use lib.Pow.{pow-pos}
-use lib.ListN.{length-append}
-use Rattle.table.specs.Tree.{reduced}
-use Rattle.stage.specs.Bytes.{treeBytes}
+use lib.ListN.{length}
+use Rattle.table.specs.Tree.{Tree, reduced}
+use Rattle.stage.specs.Bytes.{treeBytes, longestStage}
+use Rattle.base.proofs.put.Reads as put-reads
 use Rattle.stage_writer.proofs.Halves.{reduced-same, reduced-two, same-length, two-length}
 use Rattle.stage_writer.proofs.Storing.{selector-stored}
-use borrow.Fn.Kinds.{In}
-use borrow.Fn.PlainCycle.{Measures, is, falls, and}
-use Rattle.stage_writer.proofs.stores.put_tree.Reads as put-tree
-use Rattle.stage_writer.proofs.stores.put_tree.Kinds as put-tree-kinds
-use Rattle.stage_writer.proofs.stores.+put_tree.Lts-put_tree as put-tree-lts
-use Rattle.base.proofs.put.Reads as put-reads
 use Rattle.stage_writer.proofs.stores.constant.Reads as constant-reads
 use Rattle.stage_writer.proofs.stores.half_of.Reads as half-of-reads
+use Rattle.stage_writer.proofs.stores.put_command.Reads as put-command-reads
+use Rattle.stage_writer.proofs.stores.put_tree.Reads as put-tree
+use Rattle.stage_writer.proofs.stores.put_tree.Kinds as kinds
+use Rattle.stage_writer.proofs.stores.+put_tree.Lts-put_tree as lts
 use Rattle.stage_writer.proofs.stores.+put_tree.{statement}
 use Rattle.stage_writer.proofs.stores.+put_tree.Tie.{close}
 
-abbrev μ-put-tree : Measures 1 put-tree-kinds.ps ℕ
+-- the inputs that are left fall
+abbrev μ-put-tree : Measures 1 kinds.ps ℕ
 μ-put-tree κs a = a .1 .1 .0
 
-abbrev put-tree-at : ℕ → In 1 put-tree-kinds.ps
-put-tree-at t = and 1 put-tree-kinds.ps (is 1 put-tree-kinds.ps μ-put-tree t) put-tree.Pre
+module _ (t : ℕ) where
+  abbrev here : In 1 kinds.ps
+  here = and 1 kinds.ps (is 1 kinds.ps μ-put-tree t) put-tree.Pre
 
-abbrev put-tree-below : ℕ → In 1 put-tree-kinds.ps
-put-tree-below t =
-    and 1 put-tree-kinds.ps (falls 1 put-tree-kinds.ps _<_ μ-put-tree t) put-tree.Pre
+  abbrev below : In 1 kinds.ps
+  below = and 1 kinds.ps (falls 1 kinds.ps _<_ μ-put-tree t) put-tree.Pre
 
-abbrev put-tree-claims : ℕ → put-tree-lts.Claims
-put-tree-claims t = (constant-reads.Asked, constant-reads.Learnt, put-reads.Asked, put-reads.Learnt, half-of-reads.Asked, half-of-reads.Learnt, put-tree-below t, put-tree.Post)
+  abbrev claims : lts.Claims
+  claims = (
+    constant-reads.Asked,
+    constant-reads.Learnt,
+    put-reads.Asked,
+    put-reads.Learnt,
+    half-of-reads.Asked,
+    half-of-reads.Learnt,
+    below,
+    put-tree.Post,
+    put-command-reads.Asked,
+    put-command-reads.Learnt,
+  )
 
-put-tree-constant-requires : (t : ℕ) → put-tree-lts.Need-constant-requires (put-tree-claims t) (put-tree-at t) put-tree.Post
-put-tree-constant-requires t c κs = search needs
+  -- what holds at a place of the code, and what is needed there
+  abbrev Of : (lts.Claims → In 1 kinds.ps → Out 1 kinds.ps kinds.r → Type 0) → Type 0
+  Of N = N claims here put-tree.Post
 
-put-tree-put-requires : (t : ℕ) → put-tree-lts.Need-put-requires (put-tree-claims t) (put-tree-at t) put-tree.Post
-put-tree-put-requires t c κs = search needs
+  constant-requires : Of lts.Need-constant-requires
+  constant-requires c κs = search needs
 
-put-tree-add-result : (t : ℕ) → put-tree-lts.Need-add-result (put-tree-claims t) (put-tree-at t) put-tree.Post
-put-tree-add-result t c = omega arith
+  put-requires : Of lts.Need-put-requires
+  put-requires c κs = search needs
 
-put-tree-same-length : (t : ℕ) → put-tree-lts.Need-same-length (put-tree-claims t) (put-tree-at t) put-tree.Post
-put-tree-same-length t c = c .before .before .put .kept .0
+  add-result : Of lts.Need-add-result
+  add-result c = omega arith
 
-put-tree-returns : (t : ℕ) → put-tree-lts.Need-returns (put-tree-claims t) (put-tree-at t) put-tree.Post
-unfolding treeBytes reduced
-put-tree-returns t c =
-    let p = c .before .before in
-    let z = p .before .before .before in
-    (simp (z .if1 .taken, ← p .before .constant .ensures) (p .put .ensures), simp (z .if1 .taken))
+  length-kept : Of lts.Need-same-length
+  length-kept c = c .before .before .put .kept .0
 
-put-tree-sub-v : (t : ℕ) → put-tree-lts.Need-sub-v (put-tree-claims t) (put-tree-at t) put-tree.Post
-put-tree-sub-v t c = omega arith
+  returns : Of lts.Need-returns
+  unfolding treeBytes reduced
+  returns c =
+      let p = c .before .before in
+      let z = p .before .before .before in
+      (simp (z .if1 .taken, ← p .before .constant .ensures) (p .put .ensures), simp (z .if1 .taken))
 
-put-tree-half-of-requires : (t : ℕ) → put-tree-lts.Need-half-of-requires (put-tree-claims t) (put-tree-at t) put-tree.Post
-put-tree-half-of-requires t c κs = omega arith
+  sub-v : Of lts.Need-sub-v
+  sub-v c = omega arith
 
-put-tree-rem-low : (t : ℕ) → put-tree-lts.Need-rem-low (put-tree-claims t) (put-tree-at t) put-tree.Post
-put-tree-rem-low t c = rw (c .half-of .ensures) (pow-pos _)
+  half-of-requires : Of lts.Need-half-of-requires
+  half-of-requires c κs = omega arith
 
-put-tree-div-high : (t : ℕ) → put-tree-lts.Need-div-high (put-tree-claims t) (put-tree-at t) put-tree.Post
-put-tree-div-high t c = rw (c .half-of .ensures) (pow-pos _)
+  rem-low : Of lts.Need-rem-low
+  rem-low c = rw (c .half-of .ensures) (pow-pos _)
 
-put-tree-add-put-tree : (t : ℕ) → put-tree-lts.Need-add-put-tree (put-tree-claims t) (put-tree-at t) put-tree.Post
-put-tree-add-put-tree t c = omega arith
+  div-high : Of lts.Need-div-high
+  div-high c = rw (c .half-of .ensures) (pow-pos _)
 
-put-tree-put-tree-requires : (t : ℕ) → put-tree-lts.Need-put-tree-requires (put-tree-claims t) (put-tree-at t) put-tree.Post
-put-tree-put-tree-requires t c κs =
-    let e2 = c .before in
-    let h = e2 .before in
-    let s = h .before .before .before in
-    let a = s .args in
-    omega (arith, s .pre, same-length (a .w) (a .k) (a .t) _ (h .before .if1 .left) (h .half-of .ensures) (e2 .if2 .taken))
+  add-input : Of lts.Need-add-input
+  add-input c = omega arith
 
-put-tree-put-requires-2 : (t : ℕ) → put-tree-lts.Need-put-requires-2 (put-tree-claims t) (put-tree-at t) put-tree.Post
-put-tree-put-requires-2 t c κs = search needs
+  -- the tree of one half of the table
+  abbrev half-tree : Of lts.After-half-of → ℕ → Tree
+  half-tree h half = reduced (h .before .before .before .args .w - 1) (h .before .before .before .args .k + 1) half
 
-put-tree-add-put : (t : ℕ) → put-tree-lts.Need-add-put (put-tree-claims t) (put-tree-at t) put-tree.Post
-put-tree-add-put t c =
-    let e2 = c .before .before .before .before .before in
-    let h = e2 .before in
-    let s = h .before .before .before in
-    let a = s .args in
-    omega (arith, s .pre, two-length (a .w) (a .k) (a .t) _ (h .before .if1 .left) (h .half-of .ensures) (e2 .if2 .left))
+  abbrev for-zero : Of lts.After-half-of → Tree
+  for-zero h = half-tree h (h .before .before .before .args .t % h .half-of .result)
 
-put-tree-add-put-2 : (t : ℕ) → put-tree-lts.Need-add-put-2 (put-tree-claims t) (put-tree-at t) put-tree.Post
-put-tree-add-put-2 t c = omega arith
+  abbrev for-one : Of lts.After-half-of → Tree
+  for-one h = half-tree h (h .before .before .before .args .t / h .half-of .result)
 
-put-tree-put-requires-3 : (t : ℕ) → put-tree-lts.Need-put-requires-3 (put-tree-claims t) (put-tree-at t) put-tree.Post
-put-tree-put-requires-3 t c κs = search needs
+  -- where the halves are equal there is room for the tree of one, else for a selector and both
+  one-fits : (e : Of lts.Then2) → e .before .before .before .before .args .at + length (treeBytes (for-zero (e .before))) ≤ longestStage
+  one-fits e =
+      let h = e .before in
+      let s = h .before .before .before in
+      omega (arith, s .pre, same-length (s .args .w) (s .args .k) (s .args .t) _ (h .before .if1 .left) (h .half-of .ensures) (e .if2 .taken))
 
-put-tree-add-put-tree-2 : (t : ℕ) → put-tree-lts.Need-add-put-tree-2 (put-tree-claims t) (put-tree-at t) put-tree.Post
-put-tree-add-put-tree-2 t c =
-    let e2 = c .before .before .before .before .before .before .before .before .before in
-    let h = e2 .before in
-    let s = h .before .before .before in
-    let a = s .args in
-    omega (arith, s .pre, two-length (a .w) (a .k) (a .t) _ (h .before .if1 .left) (h .half-of .ensures) (e2 .if2 .left))
+  both-fit : (e : Of lts.Else2)
+      → e .before .before .before .before .args .at + (2 + length (treeBytes (for-zero (e .before))) + length (treeBytes (for-one (e .before)))) ≤ longestStage
+  both-fit e =
+      let h = e .before in
+      let s = h .before .before .before in
+      omega (arith, s .pre, two-length (s .args .w) (s .args .k) (s .args .t) _ (h .before .if1 .left) (h .half-of .ensures) (e .if2 .left))
 
-put-tree-add-put-tree-3 : (t : ℕ) → put-tree-lts.Need-add-put-tree-3 (put-tree-claims t) (put-tree-at t) put-tree.Post
-put-tree-add-put-tree-3 t c = omega arith
+  put-tree-requires : Of lts.Need-put-tree-requires
+  put-tree-requires c κs = omega (arith, one-fits (c .before))
 
-put-tree-put-tree-requires-2 : (t : ℕ) → put-tree-lts.Need-put-tree-requires-2 (put-tree-claims t) (put-tree-at t) put-tree.Post
-put-tree-put-tree-requires-2 t c κs =
-    let e2 = c .before .before .before .before .before .before .before .before .before in
-    let h = e2 .before in
-    let s = h .before .before .before in
-    let a = s .args in
-    omega (arith, s .pre, two-length (a .w) (a .k) (a .t) _ (h .before .if1 .left) (h .half-of .ensures) (e2 .if2 .left))
+  put-command-requires : Of lts.Need-put-command-requires
+  put-command-requires c κs = omega (arith, both-fit (c .before))
 
-put-tree-add-put-tree-4 : (t : ℕ) → put-tree-lts.Need-add-put-tree-4 (put-tree-claims t) (put-tree-at t) put-tree.Post
-put-tree-add-put-tree-4 t c = omega arith
+  put-tree-requires-2 : Of lts.Need-put-tree-requires-2
+  put-tree-requires-2 c κs =
+      let p = c .before .before .before in
+      omega (arith, p .put-command .ensures .1, both-fit (p .before .before))
 
-put-tree-put-tree-requires-3 : (t : ℕ) → put-tree-lts.Need-put-tree-requires-3 (put-tree-claims t) (put-tree-at t) put-tree.Post
-put-tree-put-tree-requires-3 t c κs =
-    let e2 = c .before .before .before .before .before .before .before .before .before .before .before .before .before in
-    let h = e2 .before in
-    let s = h .before .before .before in
-    let a = s .args in
-    omega (arith, s .pre, c .before .before .before .put-tree2 .ensures .1, two-length (a .w) (a .k) (a .t) _ (h .before .if1 .left) (h .half-of .ensures) (e2 .if2 .left))
+  put-tree-requires-3 : Of lts.Need-put-tree-requires-3
+  put-tree-requires-3 c κs =
+      let z = c .before .before .before in
+      let p = z .before .before .before .before in
+      omega (arith, z .put-tree2 .ensures .1, p .put-command .ensures .1, both-fit (p .before .before))
 
-put-tree-same-length-2 : (t : ℕ) → put-tree-lts.Need-same-length-2 (put-tree-claims t) (put-tree-at t) put-tree.Post
-put-tree-same-length-2 t c = c .before .before .put-tree .kept .0
+  length-kept-2 : Of lts.Need-same-length-2
+  length-kept-2 c = c .before .before .put-tree .kept .0
 
-put-tree-returns-2 : (t : ℕ) → put-tree-lts.Need-returns-2 (put-tree-claims t) (put-tree-at t) put-tree.Post
-put-tree-returns-2 t c =
-    let p = c .before .before in
-    let e2 = c .before .before .before .before in
-    let h = e2 .before in
-    let s = h .before .before .before in
-    let a = s .args in
-    rw (reduced-same (a .w) (a .k) (a .t) _ (h .before .if1 .left) (h .half-of .ensures) (e2 .if2 .taken)) (p .put-tree .ensures)
+  returns-2 : Of lts.Need-returns-2
+  returns-2 c =
+      let p = c .before .before in
+      let e = p .before .before in
+      let h = e .before in
+      let a = h .before .before .before .args in
+      rw (reduced-same (a .w) (a .k) (a .t) _ (h .before .if1 .left) (h .half-of .ensures) (e .if2 .taken)) (p .put-tree .ensures)
 
-put-tree-same-length-3 : (t : ℕ) → put-tree-lts.Need-same-length-3 (put-tree-claims t) (put-tree-at t) put-tree.Post
-put-tree-same-length-3 t c =
-    let p3 = c .before .before in
-    let p2 = p3 .before .before .before .before in
-    let q3 = p2 .before .before .before .before in
-    let q2 = q3 .before .before .before .before in
-    p3 .put-tree3 .kept .0 ∙ p2 .put-tree2 .kept .0 ∙ q3 .put3 .kept .0 ∙ q2 .put2 .kept .0
+  length-kept-3 : Of lts.Need-same-length-3
+  length-kept-3 c =
+      let o = c .before .before in
+      let z = o .before .before .before .before in
+      let p = z .before .before .before .before in
+      o .put-tree3 .kept .0 ∙ z .put-tree2 .kept .0 ∙ p .put-command .kept .0
 
-put-tree-returns-3 : (t : ℕ) → put-tree-lts.Need-returns-3 (put-tree-claims t) (put-tree-at t) put-tree.Post
-unfolding treeBytes
-put-tree-returns-3 t c =
-    let p3 = c .before .before in
-    let p2 = p3 .before .before .before .before in
-    let q3 = p2 .before .before .before .before in
-    let q2 = q3 .before .before .before .before in
-    let h = q2 .before .before .before in
-    let a = h .before .before .before .args in
-    let z = reduced (a .w - 1) (a .k + 1) (a .t % h .half-of .result) in
-    let o = reduced (a .w - 1) (a .k + 1) (a .t / h .half-of .result) in
-    rw (reduced-two (a .w) (a .k) (a .t) _ (h .before .if1 .left) (h .half-of .ensures) (q2 .before .before .if2 .left)) (
-      selector-stored (a .buffer .now) _ _ _ _ z o (a .at) (a .k + 1) _ (q2 .put2 .ensures) (q3 .put3 .ensures) (p2 .put-tree2 .ensures .0) (p2 .put-tree2 .ensures .1)
-          (p3 .put-tree3 .ensures .0),
-      omega (arith, p3 .put-tree3 .ensures .1, p2 .put-tree2 .ensures .1, length-append (treeBytes z) (treeBytes o)),
-    )
+  returns-3 : Of lts.Need-returns-3
+  returns-3 c =
+      let o = c .before .before in
+      let z = o .before .before .before .before in
+      let p = z .before .before .before .before in
+      let e = p .before .before in
+      let h = e .before in
+      let a = h .before .before .before .args in
+      rw (reduced-two (a .w) (a .k) (a .t) _ (h .before .if1 .left) (h .half-of .ensures) (e .if2 .left))
+      (selector-stored (a .buffer .now) _ _ _ (for-zero h) (for-one h) (a .at) (a .k + 1) _ _ _
+      (p .put-command .ensures) (z .put-tree2 .ensures) (o .put-tree3 .ensures))
+
+  pub meets : {M : Type 1} → lts.Closed claims here put-tree.Post M
+  meets =
+      lts.spec
+      claims
+      here
+      put-tree.Post
+      constant-requires
+      put-requires
+      add-result
+      length-kept
+      returns
+      sub-v
+      half-of-requires
+      rem-low
+      div-high
+      add-input
+      put-tree-requires
+      put-command-requires
+      put-tree-requires-2
+      put-tree-requires-3
+      length-kept-2
+      returns-2
+      length-kept-3
+      returns-3
 
 pub +put-tree-spec : {M : Type 1} → statement M
-+put-tree-spec = close μ-put-tree λ t. put-tree-lts.spec (put-tree-claims t)
-    (put-tree-at t)
-    put-tree.Post
-    (put-tree-constant-requires t)
-    (put-tree-put-requires t)
-    (put-tree-add-result t)
-    (put-tree-same-length t)
-    (put-tree-returns t)
-    (put-tree-sub-v t)
-    (put-tree-half-of-requires t)
-    (put-tree-rem-low t)
-    (put-tree-div-high t)
-    (put-tree-add-put-tree t)
-    (put-tree-put-tree-requires t)
-    (put-tree-put-requires-2 t)
-    (put-tree-add-put t)
-    (put-tree-add-put-2 t)
-    (put-tree-put-requires-3 t)
-    (put-tree-add-put-tree-2 t)
-    (put-tree-add-put-tree-3 t)
-    (put-tree-put-tree-requires-2 t)
-    (put-tree-add-put-tree-4 t)
-    (put-tree-put-tree-requires-3 t)
-    (put-tree-same-length-2 t)
-    (put-tree-returns-2 t)
-    (put-tree-same-length-3 t)
-    (put-tree-returns-3 t)
++put-tree-spec = close μ-put-tree λ t. meets t

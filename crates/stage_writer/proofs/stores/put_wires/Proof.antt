@@ -1,5 +1,5 @@
 -- `put_wires` meets its contract. The loop's invariant: storing the wires that are left gives all wires stored.
-use Prim.Native.Nat.{_+_, _*_, _-_, _≤_}
+use Prim.Native.Nat.{_+_, _-_, _≤_}
 use mathlib.Core.Path.{_≡_, refl, ap, _∙_}
 use native.Mathlib.Omega.{arith}
 use borrow.Author.Needs.{needs}
@@ -8,8 +8,7 @@ use lib.Seq.{sets}
 use Rattle.table.specs.Tree.{reduced}
 use Rattle.stage.specs.Bytes.{wireBytes, wiresBytes}
 use Rattle.stage.specs.Written.{stageTrees}
-use Rattle.stage.proofs.Lengths.{wire-length, cells-few}
-use Rattle.stage_writer.proofs.Storing.{wiresFrom, wires-step, wires-end, stored-on}
+use Rattle.stage_writer.proofs.Storing.{wiresFrom, wires-step, wires-end, wire-fits, stored-on}
 use Rattle.stage_writer.proofs.stores.put_wires.Statement.{statement}
 use Rattle.stage_writer.proofs.stores.put_wires.Tie as tie
 
@@ -19,7 +18,6 @@ Inv-loop buffer₀ n m tables at₀ j₀ buffer at j =
     × (length buffer ≡ length buffer₀)
     × (sets buffer at (wiresFrom n m j tables) ≡ sets buffer₀ 3 (wiresBytes 0 (stageTrees n m tables)))
     × (at + length (wiresFrom n m j tables) ≡ 3 + length (wiresBytes 0 (stageTrees n m tables)))
-    × (at ≤ 3 + 48 * j)
 
 abbrev μ-loop : tie.MeasureT-loop
 μ-loop buffer₀ n m tables at₀ j₀ buffer at j = m - j
@@ -29,7 +27,7 @@ within c = let l : length (c .args .t4) ≡ 4 = search needs in omega arith
 
 loop-holds : tie.Need-loop-holds Inv-loop μ-loop
 unfolding stageTrees
-loop-holds c = (omega arith, refl, refl, refl, omega arith)
+loop-holds c = (omega arith, refl, refl, refl)
 
 cast-put-wire : tie.Need-cast-put-wire Inv-loop μ-loop
 cast-put-wire c = omega arith
@@ -41,7 +39,11 @@ array-read-put-wire : tie.Need-array-read-put-wire Inv-loop μ-loop
 array-read-put-wire c = omega arith
 
 put-wire-requires : tie.Need-put-wire-requires Inv-loop μ-loop
-put-wire-requires c κs = omega (arith, c .before .before .loop .inv, c .before .before .before .before .pre)
+put-wire-requires c κs =
+    let l = c .before .before .loop in
+    let s = c .before .before .before .before in
+    let a = s .args in
+    (s .pre .0, wire-fits (a .n) (a .m) (l .j) (a .t4) (within s) (l .at) (s .pre .0) (s .pre .1) (c .before .loop-test .taken) (l .inv .3))
 
 add-j : tie.Need-add-j Inv-loop μ-loop
 add-j c = omega arith
@@ -58,14 +60,11 @@ loop-again c =
     let a = s .args in
     let step = wires-step (a .n) (a .m) (l .j) (a .t4) (within s) (i .loop-test .taken) in
     let x = wireBytes (l .j) (reduced (a .n) 0 (getD (a .t4) (l .j) 0)) in
-    let y = wiresFrom (a .n) (a .m) (l .j + 1) (a .t4) in
-    let longer = ap length step ∙ length-append x y in
-    let few = cells-few (a .n) (getD (a .t4) (l .j) 0) (s .pre .0) in (
+    let y = wiresFrom (a .n) (a .m) (l .j + 1) (a .t4) in (
       omega arith,
       p .put-wire .kept .0 ∙ l .inv .1,
-      stored-on (l .buffer) _ x y _ (l .at) _ (p .put-wire .ensures .0) (p .put-wire .ensures .1) (rw step at (l .inv .2)),
-      omega (arith, l .inv, p .put-wire .ensures .1, longer),
-      omega (arith, l .inv, p .put-wire .ensures .1, wire-length (a .n) (l .j) (getD (a .t4) (l .j) 0), few),
+      stored-on (l .buffer) _ x y _ (l .at) _ (p .put-wire .ensures) (rw step at (l .inv .2)),
+      omega (arith, l .inv, p .put-wire .ensures .1, ap length step, length-append x y),
     )
 
 same-length : tie.Need-same-length Inv-loop μ-loop
