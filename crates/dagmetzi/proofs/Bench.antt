@@ -5,7 +5,7 @@ use mathlib.Core.List.{List, [], _∷_}
 use Rattle.base.specs.Cases.{accepting, acceptedCase}
 use Rattle.base.specs.Lowest.{lowest}
 use Rattle.base.specs.Refusals.{refusalAt, cutShort, outOfTurn, empty}
-use Rattle.table.specs.Bits.{bit, all, any, sum, ofBits, row}
+use Rattle.table.specs.Bits.{bit, all, any, sum, ofBits, tabulate}
 use Rattle.table.specs.Cells.{low, high, cells}
 use Rattle.table.specs.Tree.{reduced}
 use Rattle.table.specs.Pick.{suits, nearer, least, orZero, leastOf}
@@ -17,8 +17,8 @@ use Rattle.search.specs.Cases.{bestOutcome, stoppedOutcome, SearchReply}
 use Rattle.search.specs.Search.{tablesOf, total, pick, picks, floor, left, quick, start, split, expand, charge, treat, visit, searchPart, run}
 use Rattle.search.specs.TreeBoard.{tree}
 use Rattle.search.specs.Reply.{markOf, answerOf, refusedWith, afterCheck, searchOf}
-use Rattle.sheet.specs.Reading.{readingOf}
-use Rattle.sheet.proofs.Rows.{sheetA}
+use Rattle.reader.specs.Reading.{readingOf}
+use Rattle.reader.proofs.Rows.{sheetA}
 use Rattle.stage.specs.Bytes.{treeBytes, wiresBytes, stageBytes}
 use Rattle.stage.specs.Written.{stageTrees, stageOf, firstOut, writtenOf, bufferAfter}
 use Rattle.unit.specs.Formed.{formedOf}
@@ -32,7 +32,7 @@ use Rattle.dagmetzi.specs.Printed.{budget, printedOf}
 
 -- all that a search, a stage, a quote and the printed lines compute by
 unfoldable opened : ℕ
-unfolding UnitRows.opened bit all any sum ofBits row low high cells reduced suits nearer least orZero leastOf value ofSets keep agree occurs fits free freeWire compatible conflict emptyPattern isOne openPairs lowest relationOf widePattern checkOf tablesOf total pick picks floor left quick start split expand charge treat visit searchPart run tree markOf answerOf refusedWith afterCheck searchOf treeBytes wiresBytes stageBytes stageTrees stageOf firstOut writtenOf bufferAfter presentTable presentTables presentCells withStage searched quotedOf bufferSearched bufferQuoted digits decimal hexDigit hexPair furtherPairs hexPairs named countsOf stageLine resultLines refusalLine linesOf printedOf
+unfolding UnitRows.opened bit all any sum ofBits tabulate low high cells reduced suits nearer least orZero leastOf value ofSets keep agree occurs fits free freeWire compatible conflict emptyPattern isOne openPairs lowest relationOf widePattern checkOf tablesOf total pick picks floor left quick start split expand charge treat visit searchPart run tree markOf answerOf refusedWith afterCheck searchOf treeBytes wiresBytes stageBytes stageTrees stageOf firstOut writtenOf bufferAfter presentTable presentTables presentCells withStage searched quotedOf bufferSearched bufferQuoted digits decimal hexDigit hexPair furtherPairs hexPairs named countsOf stageLine resultLines refusalLine linesOf printedOf
 opened = 0
 
 -- sheet A as it is printed. Its first line is "cells 2 floor 2 visits 0 best";

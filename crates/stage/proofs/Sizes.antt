@@ -5,7 +5,7 @@ use mathlib.Core.Bool.{Bool, true, false, _||_, true≢false}
 use native.Mathlib.Omega.{arith}
 use lib.Dec.{eqb, ltb}
 use borrow.Author.Tests.{ne-eqb, le-ltb, eqb-false, ltb-false}
-use Rattle.base.specs.Sizes.{countOut, sizesOut, maxInputs, maxWires}
+use Rattle.sheet.specs.Limits.{countOut, sizesOut, maxInputs, maxWires}
 
 or-false : (a b : Bool) → a || b ≡ false → (a ≡ false) × (b ≡ false)
 or-false true b e = absurd (true≢false e)

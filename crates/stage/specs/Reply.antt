@@ -4,8 +4,8 @@ use mathlib.Core.List.{List, map}
 use lib.ListN.{getD, replicate}
 use Rattle.base.specs.Cases.{Case, acceptedCase, refusedCase}
 use Rattle.base.specs.declared.Refusal.{Refusal}
-use Rattle.base.specs.Sizes.{maxWires}
-use Rattle.table.specs.Bits.{ofBits, row}
+use Rattle.sheet.specs.Limits.{maxWires}
+use Rattle.table.specs.Bits.{ofBits, tabulate}
 use Rattle.table.specs.Tree.{Tree, follow}
 use Rattle.stage.specs.Bytes.{size}
 use Rattle.stage.specs.Read.{StageSheet, got, noStage}
@@ -16,7 +16,7 @@ tableOf n x = ofBits (2 ^ n) (λ p. follow n p x)
 
 -- a table for each of four wires; 0 for a wire that the sheet does not have
 unfoldable pub stageTables : ℕ → List Tree → List ℕ
-stageTables n trees = row maxWires (λ j. getD (map (tableOf n) trees) j 0)
+stageTables n trees = tabulate maxWires (λ j. getD (map (tableOf n) trees) j 0)
 
 -- a stage sheet: its sizes, tables and cells, and the case of the answer
 pub record StageReply : Type 0 where

@@ -8,8 +8,8 @@ use native.Mathlib.Numerals.{add-one}
 use lib.ListN.{length, set, drop, replicate}
 use Rattle.base.specs.Cases.{acceptedCase, refusedCase}
 use Rattle.base.specs.declared.Refusal.{Refusal}
-use Rattle.base.specs.Sizes.{maxWires}
-use Rattle.table.specs.Bits.{row}
+use Rattle.sheet.specs.Limits.{maxWires}
+use Rattle.table.specs.Bits.{tabulate}
 use Rattle.table.specs.Tree.{Tree, selectors}
 use Rattle.stage.specs.Bytes.{treeBytes, size}
 use Rattle.stage.specs.Reply.{StageReply, tableOf, stageTables, refusedReply, replyToStage}
@@ -98,7 +98,7 @@ module _ (s : List ℕ) (n m j at : ℕ) (tables : List ℕ) (cells : ℕ) (g : 
 
 -- all wires are gathered: from nothing, the reply itself
 filled-all : (n : ℕ) (trees : List Tree) → length trees ≤ 4 → filled n (replicate maxWires 0) 0 trees ≡ stageTables n trees
-unfolding filled stageTables row
+unfolding filled stageTables tabulate
 filled-all n [] h = refl
 filled-all n (a ∷ []) h = refl
 filled-all n (a ∷ b ∷ []) h = refl

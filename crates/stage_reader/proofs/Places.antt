@@ -12,7 +12,7 @@ use lib.Seq.{drop-cons, drop-drop}
 use borrow.Author.Tests.{eq-eqb, ne-eqb, lt-leb}
 use Rattle.base.specs.declared.Refusal.{Refusal}
 use Rattle.base.specs.Refusals.{refusalAt, cutShort, outOfRange, outOfTurn, notAscending}
-use Rattle.base.specs.Sizes.{countOut, sizesOut}
+use Rattle.sheet.specs.Limits.{countOut, sizesOut}
 use Rattle.base.proofs.Tests.{decide}
 use Rattle.stage.specs.Read.{fault, dueNumber, due, operand, branchesAt, selectorAt, treeAt, wireAt, wiresAt, noStage, closed, readStage}
 use Rattle.stage.proofs.Sizes.{count-fits}

@@ -1,7 +1,7 @@
 // The stage reader: any ordered tree for each wire, to its truth table and its selectors.
 use base::Refusal;
-use base::sizes_out;
 use due::due_number;
+use sheet::limits::sizes_out;
 use trees::TreeStep;
 use trees::read_wire;
 ghost use mathlib.Core.Path.{_≡_};

@@ -6,7 +6,7 @@ use native.Mathlib.Omega.{arith}
 use native.Mathlib.Numerals.{add-one}
 use lib.ListN.{length, getD, set, take, drop, length-append, drop-of-length-le}
 use lib.Seq.{sets, drop-cons, getD-take, length-take-le}
-use Rattle.base.proofs.Rows.{sets-append}
+use Rattle.base.proofs.Tabulate.{sets-append}
 use Rattle.table.specs.Tree.{Tree, sel, reduced}
 use Rattle.stage.specs.Bytes.{treeBytes, wireBytes, wiresBytes, stageBytes, longestStage}
 use Rattle.stage.proofs.Lengths.{stage-length-most}

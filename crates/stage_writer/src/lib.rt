@@ -1,6 +1,6 @@
 // The stage writer: the reduced tree of each wire's table, at the start of a lent buffer.
 use base::Refusal;
-use base::sizes_out;
+use sheet::limits::sizes_out;
 use stores::put_sheet;
 use tables::first_out;
 use tables::stage_cells;

@@ -4,7 +4,7 @@ use mathlib.Core.Bool.{cond}
 use mathlib.Core.List.{List, []}
 use lib.Dec.{eqb, leb}
 use lib.ListN.{length, getD, take, drop}
-use Rattle.base.specs.Rows.{row}
+use Rattle.base.specs.Tabulate.{tabulate}
 
 -- the byte at a place
 abbrev pub byteAt : List ℕ → ℕ → ℕ
@@ -20,7 +20,7 @@ fourAt s at = twoAt s at + 65536 * twoAt s (at + 2)
 
 -- so many numbers of two bytes, one after the other from a place on
 abbrev pub numbersAt : ℕ → List ℕ → ℕ → List ℕ
-numbersAt k s from = row k (λ i. twoAt s (from + 2 * i))
+numbersAt k s from = tabulate k (λ i. twoAt s (from + 2 * i))
 
 -- `count` bytes from a place on, or none where the bytes end before
 unfoldable pub partOf : List ℕ → ℕ → ℕ → List ℕ

@@ -7,7 +7,7 @@ use lib.ListN.{length}
 use borrow.Author.Needs.{needs}
 use Rattle.base.specs.Cases.{accepting, acceptedOutcome, refusedCase}
 use Rattle.base.specs.Refusals.{refusalAt, outOfRange, shortBuffer}
-use Rattle.base.specs.Sizes.{sizesOut}
+use Rattle.sheet.specs.Limits.{sizesOut}
 use Rattle.base.specs.declared.Refusal.{Refusal}
 use Rattle.stage.specs.Written.{stageOf, firstOut, writtenOf, bufferAfter}
 use Rattle.stage.proofs.Lengths.{stage-length}

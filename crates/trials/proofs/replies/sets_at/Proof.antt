@@ -4,7 +4,7 @@ use mathlib.Core.Path.{_≡_}
 use borrow.Author.Needs.{needs}
 use native.Mathlib.Omega.{arith}
 use lib.ListN.{length, getD, length-set}
-use Rattle.base.proofs.Rows.{filled-more, filled-row}
+use Rattle.base.proofs.Tabulate.{filled-more, filled-tabulate}
 use Rattle.trials.specs.Records.{twoAt}
 use Rattle.trials.proofs.replies.sets_at.Statement.{statement}
 use Rattle.trials.proofs.replies.sets_at.Tie as tie
@@ -51,7 +51,7 @@ returns c =
     let l = c .before .loop in
     let a = c .before .before .before .args in
     let v = l .inv in
-    filled-row 16 (λ q. twoAt (a .s .now) (a .from + 2 * q)) (l .sets) (v .1) (λ q b. v .2 q (omega arith))
+    filled-tabulate 16 (λ q. twoAt (a .s .now) (a .from + 2 * q)) (l .sets) (v .1) (λ q b. v .2 q (omega arith))
 
 pub sets-at-spec : {M : Type 1} → statement M
 sets-at-spec =
