@@ -19,7 +19,7 @@ use Rattle.branch_bound.specs.Search.{replyTables, total, pick, picks, floor, l
 use Rattle.branch_bound.specs.TreeBoard.{tree}
 use Rattle.reader.specs.Reading.{readingOf}
 use Rattle.reader.proofs.Rows.{sheetA}
-use Rattle.stage.specs.Bytes.{treeBytes, wireBytes, stageBytes}
+use Rattle.stage.specs.Bytes.{treeBytes, wiresBytes, stageBytes}
 use Rattle.stage.specs.Written.{stageTrees, stageOf, firstOut, writtenOf, bufferAfter}
 use Rattle.unit.specs.Formed.{formedOf}
 use Rattle.unit.specs.Present.{presentTable, presentTables, presentCells}
@@ -32,7 +32,7 @@ use Rattle.dagmetzi.specs.Printed.{budget, printedOf}
 
 -- all that a search, a stage, a quote and the printed lines compute by
 unfoldable opened : ℕ
-unfolding UnitRows.opened bit all any sum ofBits tabulate low high cells reduced suits nearer least orZero leastOf value ofSets keep agree occurs fits free freeWire compatible conflict emptyPattern isOne openPairs lowest relationOf widePattern checkOf replyTables total pick picks floor left quick start split expand charge treat visit searchPart run tree markOf answerOf refusedWith searchTested searchOf treeBytes wireBytes stageBytes stageTrees stageOf firstOut writtenOf bufferAfter presentTable presentTables presentCells withStage searched quotedOf bufferSearched bufferQuoted digits decimal hexDigit hexPair furtherPairs hexPairs named countsOf stageLine resultLines refusalLine linesOf printedOf
+unfolding UnitRows.opened bit all any sum ofBits tabulate low high cells reduced suits nearer least orZero leastOf value ofSets keep agree occurs fits free freeWire compatible conflict emptyPattern isOne openPairs lowest relationOf widePattern checkOf replyTables total pick picks floor left quick start split expand charge treat visit searchPart run tree markOf answerOf refusedWith searchTested searchOf treeBytes wiresBytes stageBytes stageTrees stageOf firstOut writtenOf bufferAfter presentTable presentTables presentCells withStage searched quotedOf bufferSearched bufferQuoted digits decimal hexDigit hexPair furtherPairs hexPairs named countsOf stageLine resultLines refusalLine linesOf printedOf
 opened = 0
 
 -- sheet A as it is printed. Its first line is "cells 2 floor 2 visits 0 best";

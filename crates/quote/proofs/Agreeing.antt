@@ -23,7 +23,7 @@ use Rattle.sheet.specs.Commands.{inputsOf, wiresOf}
 use Rattle.sheet.specs.Judged.{Reading, holds, refused as unread}
 use Rattle.reader.specs.Reading.{readingOf}
 use Rattle.stage.specs.Bytes.{size}
-use Rattle.stage.specs.Read.{StageSheet, got, refused, readStage}
+use Rattle.stage.specs.Read.{StageSheet, got, noStage, readStage}
 use Rattle.stage.proofs.Sheets.{accepted}
 use Rattle.unit.specs.Relation.{unitRelation}
 use Rattle.unit.specs.Formed.{relationIn, turnedAway, formedOf}
@@ -77,7 +77,7 @@ module _ (sheet stage : List ℕ) (c : ℕ) where
 
     yes-rival : (s : StageSheet) → readStage stage ≡ s → auditedStage (relationIn cs) s ≡ accepting fitsOutcome c → RivalStage sheet stage c
     unfolding auditedStage relationIn
-    yes-rival (refused f) d h = never h (λ o. omega arith)
+    yes-rival (noStage f) d h = never h (λ o. omega arith)
     yes-rival (got n m trees) d h =
         ⊎-elim
         (λ t.

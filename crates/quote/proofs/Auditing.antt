@@ -21,13 +21,13 @@ use Rattle.relation.specs.Tests.{ofSets}
 use Rattle.table.specs.Cells.{wires}
 use Rattle.relation.specs.Handed.{relationOf}
 use Rattle.relation.proofs.Sets.{value-four}
-use Rattle.stage.specs.declared.reader.Answer.the-variants.{Accepted, Refused}
-use Rattle.stage.specs.declared.reader.StageRead.{StageRead}
-use Rattle.stage.specs.Cases.{stageReply}
+use Rattle.stage_reader.specs.declared.Answer.the-variants.{Accepted, Refused}
+use Rattle.stage_reader.specs.declared.StageRead.{StageRead}
+use Rattle.stage_reader.specs.Cases.{stageReply}
 use Rattle.stage.specs.Bytes.{AllOrdered}
 use Rattle.stage.specs.Read.{got, readStage}
-use Rattle.stage.specs.Reply.{tableOf, tablesOf, replyOf}
-use Rattle.stage.proofs.Replies.{told-refused, Got, told-got}
+use Rattle.stage.specs.Reply.{tableOf, stageTables, replyToStage}
+use Rattle.stage_reader.proofs.Replies.{told-refused, Got, told-got}
 use Rattle.stage.proofs.Sheets.{accepted}
 use Rattle.stage.proofs.Tables.{table-bit}
 use Rattle.base.specs.declared.Verdict.the-variants.{Accepted as Taken, Refused as NotTaken}
@@ -57,8 +57,8 @@ map-past f (x ∷ xs) zero l = absurd (omega arith)
 map-past f (x ∷ xs) (suc j) l = map-past f xs j (omega arith)
 
 -- the value that the tables drive is the value that the trees reach
-pub value-trees : (n : ℕ) (trees : List Tree) → length trees ≤ maxWires → AllOrdered n trees → (p : ℕ) → p < 2 ^ n → value 4 (wires (tablesOf n trees)) p ≡ valueOn n trees p
-unfolding tablesOf value valueOn ofBits
+pub value-trees : (n : ℕ) (trees : List Tree) → length trees ≤ maxWires → AllOrdered n trees → (p : ℕ) → p < 2 ^ n → value 4 (wires (stageTables n trees)) p ≡ valueOn n trees p
+unfolding stageTables value valueOn ofBits
 value-trees n trees few o p lp =
     let f : ℕ → ℕ = λ j. getD (map (tableOf n) trees) j 0 in
     value-four (length trees) (tabulate maxWires f) p few
@@ -74,16 +74,16 @@ value-trees n trees few o p lp =
 
 -- the code's test is document 01's
 keeps-is : (r : Relation) (bytes : List ℕ) (m : ℕ) (trees : List Tree) → readStage bytes ≡ got (r .n) m trees
-    → all (2 ^ r .n) (λ p. ofSets (r .sets) p (value 4 (wires (tablesOf (r .n) trees)) p)) ≡ keepsTo r trees
+    → all (2 ^ r .n) (λ p. ofSets (r .sets) p (value 4 (wires (stageTables (r .n) trees)) p)) ≡ keepsTo r trees
 unfolding keepsTo relationOf ofSets
 keeps-is r bytes m trees e =
     let st = accepted bytes (r .n) m trees e in
-    all-cong (2 ^ r .n) (λ p. ofSets (r .sets) p (value 4 (wires (tablesOf (r .n) trees)) p)) (λ p. relationOf r p (valueOn (r .n) trees p))
+    all-cong (2 ^ r .n) (λ p. ofSets (r .sets) p (value 4 (wires (stageTables (r .n) trees)) p)) (λ p. relationOf r p (valueOn (r .n) trees p))
     (λ p l.
     ap₂ (λ w v. eqb (bit w v) 1) (sym (getD-take (2 ^ r .n) (r .sets) p 0 l))
     (value-trees (r .n) trees (omega (arith, st .one-each, st .sizes .m-most)) (st .ordered) p l))
 
-module _ (r : Relation) (bytes : List ℕ) (rd : StageRead) (e : stageReply rd ≡ replyOf (readStage bytes)) where
+module _ (r : Relation) (bytes : List ℕ) (rd : StageRead) (e : stageReply rd ≡ replyToStage (readStage bytes)) where
   pub stage-refused : (f : Refusal) → rd .answer ≡ Refused f → refusing secondRefusedOutcome f ≡ auditedStage r (readStage bytes)
   unfolding auditedStage
   stage-refused f h = rw (told-refused (readStage bytes) rd e f h)
@@ -109,7 +109,7 @@ module _ (r : Relation) (bytes : List ℕ) (rd : StageRead) (e : stageReply rd �
     unfolding auditedStage
     tested en em b eb =
         let is : readStage bytes ≡ got (r .n) (rd .m) (g .trees) = g .is ∙ ap (λ n. got n (rd .m) (g .trees)) en in
-        let et : rd .tables ≡ tablesOf (r .n) (g .trees) = g .tables ∙ ap (λ n. tablesOf n (g .trees)) en in
+        let et : rd .tables ≡ stageTables (r .n) (g .trees) = g .tables ∙ ap (λ n. stageTables n (g .trees)) en in
         let k : b ≡ keepsTo r (g .trees) =
         eb ∙ ap₂ (λ n ts. all (2 ^ n) (λ p. ofSets (r .sets) p (value 4 (wires ts) p))) en et ∙ keeps-is r bytes (rd .m) (g .trees) is in
         ap (λ c. cond b (accepting fitsOutcome c) (accepting differsOutcome c)) (g .cells) ∙ rw (is, eq-eqb (r .n) (r .n) refl, eq-eqb (rd .m) (r .m) em, ← k)

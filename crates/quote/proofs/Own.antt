@@ -31,7 +31,7 @@ use Rattle.stage.specs.Read.{got, readStage}
 use Rattle.base.proofs.Lowest.{lowest-none}
 use Rattle.unit.proofs.Choice.{family-same}
 use Rattle.unit.proofs.Rivals.{byWire}
-use Rattle.stage.proofs.Ranges.{Sized, sizes-fit}
+use Rattle.stage.proofs.Sizes.{Sized, sizes-fit}
 use Rattle.stage.proofs.Lengths.{trees-length}
 use Rattle.stage.proofs.Sheets.{written-back}
 

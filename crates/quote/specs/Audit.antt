@@ -10,7 +10,7 @@ use Rattle.table.specs.Tree.{Tree}
 use Rattle.relation.specs.declared.Relation.{Relation}
 use Rattle.relation.specs.Handed.{relationOf}
 use Rattle.stage.specs.Bytes.{size}
-use Rattle.stage.specs.Read.{StageSheet, got, refused, readStage}
+use Rattle.stage.specs.Read.{StageSheet, got, noStage, readStage}
 use Rattle.unit.specs.Cases.{FormedReply}
 use Rattle.unit.specs.Formed.{formedOf}
 use Rattle.unit.specs.Rival.{valueOn}
@@ -25,7 +25,7 @@ abbrev pub sizesApart : Case
 sizesApart = refusing secondRefusedOutcome (refusalAt sizesDiffer 0)
 
 unfoldable pub auditedStage : Relation → StageSheet → Case
-auditedStage r (refused f) = refusing secondRefusedOutcome f
+auditedStage r (noStage f) = refusing secondRefusedOutcome f
 auditedStage r (got n m trees) =
     cond (eqb n (r .n) && eqb m (r .m)) (cond (keepsTo r trees) (accepting fitsOutcome (size trees)) (accepting differsOutcome (size trees))) sizesApart
 

@@ -12,8 +12,8 @@ use Rattle.table.specs.Tree.{Tree, con, sel, selectors, reduced}
 use Rattle.table.proofs.Bits.{sum-bound}
 use Rattle.table.proofs.Cells.{cells-lt}
 use Rattle.table.proofs.Trees.{reduced-selectors}
-use Rattle.stage.specs.Bytes.{treeBytes, wireBytes, stageBytes, size, longestStage}
-use Rattle.stage.specs.Written.{stageTrees, stageOf, stageCells, wireOf}
+use Rattle.stage.specs.Bytes.{treeBytes, wireBytes, wiresBytes, stageBytes, size, longestStage}
+use Rattle.stage.specs.Written.{stageTrees, stageOf, stageCells}
 
 -- a tree takes a byte, and three more for each selector
 pub tree-length : (x : Tree) → length (treeBytes x) ≡ 1 + 3 * selectors x
@@ -21,14 +21,14 @@ unfolding treeBytes selectors
 tree-length (con b) = refl
 tree-length (sel k z o) = omega (arith, length-append (treeBytes z) (treeBytes o), tree-length z, tree-length o)
 
-pub wires-length : (j : ℕ) (xs : List Tree) → length (wireBytes j xs) ≡ 3 * length xs + 3 * size xs
-unfolding wireBytes size
+pub wires-length : (j : ℕ) (xs : List Tree) → length (wiresBytes j xs) ≡ 3 * length xs + 3 * size xs
+unfolding wiresBytes size
 wires-length j [] = refl
-wires-length j (x ∷ xs) = omega (arith, length-append (treeBytes x) (wireBytes (suc j) xs), tree-length x, wires-length (suc j) xs)
+wires-length j (x ∷ xs) = omega (arith, length-append (treeBytes x) (wiresBytes (suc j) xs), tree-length x, wires-length (suc j) xs)
 
 pub stage-bytes-length : (n m : ℕ) (xs : List Tree) → length (stageBytes n m xs) ≡ 4 + 3 * length xs + 3 * size xs
 unfolding stageBytes
-stage-bytes-length n m xs = omega (arith, length-append (wireBytes 0 xs) (0x2F ∷ []), wires-length 0 xs)
+stage-bytes-length n m xs = omega (arith, length-append (wiresBytes 0 xs) (0x2F ∷ []), wires-length 0 xs)
 
 pub size-append : (xs ys : List Tree) → size (xs ++ ys) ≡ size xs + size ys
 unfolding size
@@ -65,7 +65,6 @@ stage-cells-few n m tables h = sum-bound m 15 (λ j. cells n (getD tables j 0)) 
 pub stage-length-most : (n m : ℕ) (tables : List ℕ) → m ≤ length tables → n ≤ 4 → m ≤ 4 → length (stageOf n m tables) ≤ longestStage
 stage-length-most n m tables h a b = omega (arith, stage-length n m tables h, stage-cells-few n m tables a)
 
--- one wire's part of a stage
-pub wire-length : (n j t : ℕ) → length (wireOf n j t) ≡ 3 + 3 * cells n t
-unfolding wireOf
+-- a wire that is written
+pub wire-length : (n j t : ℕ) → length (wireBytes j (reduced n 0 t)) ≡ 3 + 3 * cells n t
 wire-length n j t = omega (arith, tree-length (reduced n 0 t), reduced-selectors n 0 t)

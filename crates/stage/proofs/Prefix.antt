@@ -12,11 +12,11 @@ use Rattle.base.specs.declared.Refusal.{Refusal}
 use Rattle.sheet.specs.Limits.{countOut, sizesOut}
 use Rattle.base.proofs.Tests.{decide, cond-has₂, test-no}
 use Rattle.table.specs.Tree.{Tree, Ordered}
-use Rattle.stage.specs.Bytes.{treeBytes, wireBytes, stageBytes, AllOrdered, longestStage}
-use Rattle.stage.specs.Read.{Read, taken, fault, andThen, dueNumber, due, operand, branchesAt, selectorAt, treeFrom, treeAt, wireAt, wiresAt, nothingAfter, endAt, StageSheet, got, refused, closed, readStage}
+use Rattle.stage.specs.Bytes.{treeBytes, wiresBytes, stageBytes, AllOrdered, longestStage}
+use Rattle.stage.specs.Read.{Read, taken, fault, andThen, dueNumber, due, operand, branchesAt, selectorAt, treeFrom, treeAt, wireAt, wiresAt, nothingAfter, endAt, StageSheet, got, noStage, closed, readStage}
 use Rattle.stage.proofs.Lengths.{tree-length}
-use Rattle.stage.proofs.Ranges.{count-in, sizes-in}
-use Rattle.stage.proofs.Reading.{Told, tree-is, tree-told}
+use Rattle.stage.proofs.Sizes.{count-in, sizes-in}
+use Rattle.stage.proofs.Reading.{ToldTree, tree-is, tree-told}
 use Rattle.stage.proofs.Sheets.{ToldWire, wire-told, ToldWires, wires-told, accepted}
 use Rattle.stage.proofs.Tables.{selectors-lt}
 
@@ -76,7 +76,7 @@ branches-more v n i at rest q l d more h =
     let some = pow-pos v in
     rw (more at rest q (omega arith))
     (then-more q (treeAt n i at rest) _ (λ z next left e.
-    let told : Told n i at rest (taken z next left) = subst (Told n i at rest) e (tree-told n i at rest) in
+    let told : ToldTree n i at rest (taken z next left) = subst (ToldTree n i at rest) e (tree-told n i at rest) in
     let long : length rest ≡ length (treeBytes z) + length left = ap length (told .0) ∙ length-append (treeBytes z) left in
     let short = tree-short v n i z l d (told .2) in
     rw (more next left q (omega arith)) (then-more q (treeAt n i next left) _ (λ _ _ _ _. refl))))
@@ -132,26 +132,26 @@ wires-more (suc left) n m j at bytes q h =
     rw (wires-more left n m (suc j) next rest q (omega arith)) (then-more q (wiresAt left n m (suc j) next rest) _ (λ _ _ _ _. refl))))
 
 -- the wires leave two bytes to the end
-wires-short : (n j : ℕ) (xs : List Tree) → AllOrdered n xs → length (wireBytes j xs) + 2 ≤ roomFor n (length xs)
-unfolding AllOrdered wireBytes roomFor
+wires-short : (n j : ℕ) (xs : List Tree) → AllOrdered n xs → length (wiresBytes j xs) + 2 ≤ roomFor n (length xs)
+unfolding AllOrdered wiresBytes roomFor
 wires-short n j [] o = omega arith
 wires-short n j (x ∷ xs) o =
-    omega (arith, length-append (treeBytes x) (wireBytes (suc j) xs), tree-short n n 0 x (omega arith) (omega arith) (o .0), wires-short n (suc j) xs (o .1))
+    omega (arith, length-append (treeBytes x) (wiresBytes (suc j) xs), tree-short n n 0 x (omega arith) (omega arith) (o .0), wires-short n (suc j) xs (o .1))
 
 -- the end is told by two bytes
-end-more : (whole : StageSheet) (at : ℕ) (rest q : List ℕ) → 2 ≤ length rest → endAt refused whole at (rest ++ q) ≡ endAt refused whole at rest
+end-more : (whole : StageSheet) (at : ℕ) (rest q : List ℕ) → 2 ≤ length rest → endAt noStage whole at (rest ++ q) ≡ endAt noStage whole at rest
 unfolding endAt nothingAfter
 end-more whole at [] q h = absurd (omega arith)
 end-more whole at (b ∷ []) q h = absurd (omega arith)
-end-more whole at (b ∷ d ∷ rest) q h = due-more (λ x y. x ≡ y) refused 0x2F at (nothingAfter refused whole at) (λ _. refl) b (d ∷ rest) q refl
+end-more whole at (b ∷ d ∷ rest) q h = due-more (λ x y. x ≡ y) noStage 0x2F at (nothingAfter noStage whole at) (λ _. refl) b (d ∷ rest) q refl
 
 closed-more : (n m : ℕ) (bytes q : List ℕ) → roomFor n m ≤ length bytes → (y : Read (List Tree)) → ToldWires m n 0 3 bytes y
     → closed n m (withMore q y) ≡ closed n m y
 unfolding closed withMore
 closed-more n m bytes q h (fault f) t = refl
 closed-more n m bytes q h (taken xs at rest) t =
-    let long : length bytes ≡ length (wireBytes 0 xs) + length rest = ap length (t .0) ∙ length-append (wireBytes 0 xs) rest in
-    let short : length (wireBytes 0 xs) + 2 ≤ roomFor n m = subst (λ k. length (wireBytes 0 xs) + 2 ≤ roomFor n k) (t .2) (wires-short n 0 xs (t .3)) in
+    let long : length bytes ≡ length (wiresBytes 0 xs) + length rest = ap length (t .0) ∙ length-append (wiresBytes 0 xs) rest in
+    let short : length (wiresBytes 0 xs) + 2 ≤ roomFor n m = subst (λ k. length (wiresBytes 0 xs) + 2 ≤ roomFor n k) (t .2) (wires-short n 0 xs (t .3)) in
     end-more (got n m xs) at rest q (omega arith)
 
 room-most : (n left : ℕ) → n ≤ 4 → roomFor n left ≤ 48 * left + 2
@@ -164,8 +164,8 @@ pub none-longer : (bytes : List ℕ) (n m : ℕ) (trees : List Tree) → readSta
 unfolding stageBytes
 none-longer bytes n m trees e =
     let s = accepted bytes n m trees e in
-    let short : length (wireBytes 0 trees) + 2 ≤ roomFor n m = subst (λ k. length (wireBytes 0 trees) + 2 ≤ roomFor n k) (s .one-each) (wires-short n 0 trees (s .ordered)) in
-    let long : length bytes ≡ 4 + length (wireBytes 0 trees) = omega (arith, ap length (s .is), length-append (wireBytes 0 trees) (0x2F ∷ [])) in
+    let short : length (wiresBytes 0 trees) + 2 ≤ roomFor n m = subst (λ k. length (wiresBytes 0 trees) + 2 ≤ roomFor n k) (s .one-each) (wires-short n 0 trees (s .ordered)) in
+    let long : length bytes ≡ 4 + length (wiresBytes 0 trees) = omega (arith, ap length (s .is), length-append (wiresBytes 0 trees) (0x2F ∷ [])) in
     omega (arith, room-most n m (s .sizes .n-most), s .sizes .m-most)
 
 -- more bytes than the longest stage has tell the reply
@@ -175,7 +175,7 @@ enough [] q h = absurd (omega arith)
 enough (b ∷ []) q h = absurd (omega arith)
 enough (b ∷ n ∷ []) q h = absurd (omega arith)
 enough (b ∷ n ∷ m ∷ rest) q h =
-    due-more (λ x y. x ≡ y) refused 0x20 0 _ (λ _. refl) b (n ∷ m ∷ rest) q
+    due-more (λ x y. x ≡ y) noStage 0x20 0 _ (λ _. refl) b (n ∷ m ∷ rest) q
     (cond-has₂ (λ x y. x ≡ y) (sizesOut n m) (λ _. refl)
     (λ o.
     let z = sizes-in n m (test-no (sizesOut n m) o) in

@@ -14,14 +14,18 @@ unfoldable pub treeBytes : Tree → List ℕ
 treeBytes (con b) = constantByte b ∷ []
 treeBytes (sel k z o) = 0x22 ∷ k ∷ treeBytes z ++ treeBytes o
 
+-- wire j: 21 and its number, then its tree
+abbrev pub wireBytes : ℕ → Tree → List ℕ
+wireBytes j x = 0x21 ∷ j ∷ treeBytes x
+
 -- the wires from j on, each under its own number
-unfoldable pub wireBytes : ℕ → List Tree → List ℕ
-wireBytes j [] = []
-wireBytes j (x ∷ xs) = 0x21 ∷ j ∷ treeBytes x ++ wireBytes (suc j) xs
+unfoldable pub wiresBytes : ℕ → List Tree → List ℕ
+wiresBytes j [] = []
+wiresBytes j (x ∷ xs) = wireBytes j x ++ wiresBytes (suc j) xs
 
 -- the head with the sizes, the wires, and the end
 unfoldable pub stageBytes : ℕ → ℕ → List Tree → List ℕ
-stageBytes n m trees = 0x20 ∷ n ∷ m ∷ wireBytes 0 trees ++ 0x2F ∷ []
+stageBytes n m trees = 0x20 ∷ n ∷ m ∷ wiresBytes 0 trees ++ 0x2F ∷ []
 
 -- in no tree does a branch come back to an input at or before one that it has passed
 unfoldable pub AllOrdered : ℕ → List Tree → Type 0

@@ -97,16 +97,16 @@ endAt stop whole at = due stop 0x2F at (nothingAfter stop whole at)
 -- what a stage sheet holds: its sizes and one tree for each wire; or the refusal
 pub data StageSheet : Type 0 where
   got : ℕ → ℕ → List Tree → StageSheet
-  refused : Refusal → StageSheet
+  noStage : Refusal → StageSheet
 
 unfoldable pub closed : ℕ → ℕ → Read (List Tree) → StageSheet
-closed n m (taken trees at rest) = endAt refused (got n m trees) at rest
-closed n m (fault f) = refused f
+closed n m (taken trees at rest) = endAt noStage (got n m trees) at rest
+closed n m (fault f) = noStage f
 
 -- a whole stage sheet: the head with its sizes, a tree for each wire, and the end
 unfoldable pub readStage : List ℕ → StageSheet
 readStage =
-    due refused 0x20 0
-    (operand refused 0
-    (λ n. operand refused 0
-    (λ m rest. cond (sizesOut n m) (refused (refusalAt outOfRange 0)) (closed n m (wiresAt m n m 0 3 rest)))))
+    due noStage 0x20 0
+    (operand noStage 0
+    (λ n. operand noStage 0
+    (λ m rest. cond (sizesOut n m) (noStage (refusalAt outOfRange 0)) (closed n m (wiresAt m n m 0 3 rest)))))

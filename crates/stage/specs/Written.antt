@@ -1,7 +1,7 @@
 -- Document 01, "Stage sheet" and "Refusals": what the stage writer answers, and what the lent buffer holds then.
 use Prim.Native.Nat.{ℕ, _^_}
 use mathlib.Core.Bool.{Bool, cond}
-use mathlib.Core.List.{List, _∷_, _++_, map}
+use mathlib.Core.List.{List, _++_, map}
 use lib.Dec.{ltb, leb}
 use lib.ListN.{length, getD, take, drop}
 use Rattle.base.specs.Cases.{Case, accepting, acceptedOutcome, refusedCase, isRefused}
@@ -11,18 +11,11 @@ use Rattle.base.specs.Lowest.{lowest}
 use Rattle.table.specs.Bits.{sum}
 use Rattle.table.specs.Cells.{cells}
 use Rattle.table.specs.Tree.{Tree, reduced}
-use Rattle.stage.specs.Bytes.{treeBytes, wireBytes, stageBytes}
+use Rattle.stage.specs.Bytes.{stageBytes}
 
 -- the trees that are written: the reduced tree of each of the first m tables; the other tables have no part in it
 unfoldable pub stageTrees : ℕ → ℕ → List ℕ → List Tree
 stageTrees n m tables = map (reduced n 0) (take m tables)
-
--- wire j's part of a stage, and all of them
-unfoldable pub wireOf : ℕ → ℕ → ℕ → List ℕ
-wireOf n j t = 0x21 ∷ j ∷ treeBytes (reduced n 0 t)
-
-unfoldable pub wiresOf : ℕ → ℕ → List ℕ → List ℕ
-wiresOf n m tables = wireBytes 0 (stageTrees n m tables)
 
 -- the bytes of the stage
 unfoldable pub stageOf : ℕ → ℕ → List ℕ → List ℕ

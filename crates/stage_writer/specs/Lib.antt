@@ -1,0 +1,2 @@
+-- The stage writer's answers; what it writes is told in crate stage.
+pub mod Cases
