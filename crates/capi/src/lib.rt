@@ -8,6 +8,7 @@ use told::audited_cells;
 use told::mark_told;
 ghost use mathlib.Core.Path.{_≡_};
 ghost use lib.ListN.{length};
+ghost use Rattle.stage.specs.Trees.{treeDrawing};
 ghost use Rattle.quote.specs.Quote.{quotedOf, bufferQuoted};
 ghost use Rattle.quote.specs.Promised.{Promised};
 ghost use Rattle.quote.specs.Audit.{auditedOf};
@@ -59,7 +60,7 @@ pub extern "C" fn dagmetzi_quote(
     ensures refusal { λ r. ⌜ r ≡ quotedOf (now (sheet .entry)) budget (length (now (buffer .entry))) .mark .number ⌝ }
     ensures numbers { λ _. ⌜ now (reply .exit) ≡ quoteNumbers (quotedOf (now (sheet .entry)) budget (length (now (buffer .entry)))) ⌝ }
     ensures bytes { λ _. ⌜ now (buffer .exit) ≡ bufferQuoted (now (sheet .entry)) budget (now (buffer .entry)) ⌝ }
-    ensures promise { λ _. ⌜ Promised (now (sheet .entry)) budget (quotedOf (now (sheet .entry)) budget (length (now (buffer .entry)))) (now (buffer .exit)) ⌝ }
+    ensures promise { λ _. ⌜ Promised treeDrawing (now (sheet .entry)) budget (quotedOf (now (sheet .entry)) budget (length (now (buffer .entry)))) (now (buffer .exit)) ⌝ }
 {
     let quoted = quote(sheet, budget, buffer);
     let mark = quoted.mark;

@@ -11,11 +11,13 @@ use Rattle.base.specs.declared.Refusal.{Refusal}
 use Rattle.sheet.specs.Limits.{maxWires}
 use Rattle.table.specs.Bits.{tabulate}
 use Rattle.table.specs.Tree.{Tree, selectors}
-use Rattle.stage.specs.Bytes.{treeBytes, size}
+use Rattle.stage.specs.Bytes.{treeBytes}
+use Rattle.stage.specs.Trees.{size}
 use Rattle.stage.specs.Reply.{StageReply, tableOf, stageTables, refusedReply, replyToStage}
 use Rattle.stage_reader.specs.Cases.{answerCase}
 use Rattle.stage_reader.specs.Inner.Trees.{takenTree, refusedTree, stepOf}
-use Rattle.stage.specs.Read.{Read, taken, fault, andThen, wireAt, wiresAt, endAt, StageSheet, got, noStage, closed}
+use Rattle.stage.specs.Read.{Read, taken, fault, andThen, wireAt, wiresAt, endAt, closed}
+use Rattle.table.specs.Drawing.{StageSheet, got, noStage, drawnCells}
 use Rattle.stage_reader.specs.declared.Answer.{Answer}
 use Rattle.stage.proofs.Sheets.{ToldWire, wire-told, ToldWires, wires-told}
 use Rattle.stage_reader.proofs.Ends.{end-map, told, end-answer}
@@ -42,7 +44,7 @@ filled n tables j [] = tables
 filled n tables j (x ∷ xs) = filled n (set tables j (tableOf n x)) (suc j) xs
 
 -- the reply of a sheet whose wires below j are gathered already
-unfoldable pub replyWith : List ℕ → ℕ → ℕ → StageSheet → StageReply
+unfoldable pub replyWith : List ℕ → ℕ → ℕ → StageSheet Tree → StageReply
 replyWith tables cells j (got n m trees) = record { n = n; m = m; tables = filled n tables j trees; cells = cells + size trees; answer = acceptedCase }
 replyWith tables cells j (noStage f) = refusedReply f
 
@@ -50,7 +52,7 @@ replyWith tables cells j (noStage f) = refusedReply f
 end-more : (tables : List ℕ) (cells n m j : ℕ) (x : Tree) (xs : List Tree) (at : ℕ) (rest : List ℕ)
     → replyWith tables cells j (endAt noStage (got n m (x ∷ xs)) at rest)
     ≡ replyWith (set tables j (tableOf n x)) (cells + selectors x) (suc j) (endAt noStage (got n m xs) at rest)
-unfolding replyWith filled size
+unfolding replyWith filled drawnCells
 end-more tables cells n m j x xs at rest =
     let more = replyWith (set tables j (tableOf n x)) (cells + selectors x) (suc j) in
     end-map (replyWith tables cells j) noStage (got n m (x ∷ xs)) at rest

@@ -14,7 +14,8 @@ use Rattle.base.specs.declared.Refusal.{Refusal}
 use Rattle.base.specs.Refusals.{refusalAt, cutShort, outOfRange, outOfTurn, notAscending}
 use Rattle.sheet.specs.Limits.{countOut, sizesOut}
 use Rattle.base.proofs.Tests.{decide}
-use Rattle.stage.specs.Read.{fault, dueNumber, due, operand, branchesAt, selectorAt, treeAt, wireAt, wiresAt, noStage, closed, readStage}
+use Rattle.stage.specs.Read.{fault, dueNumber, due, operand, branchesAt, selectorAt, treeAt, wireAt, wiresAt, closed, readStage}
+use Rattle.table.specs.Drawing.{noStage}
 use Rattle.stage.proofs.Sizes.{count-fits}
 
 module _ (s : List ℕ) (at : ℕ) where

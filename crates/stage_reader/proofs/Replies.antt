@@ -5,14 +5,14 @@ use Rattle.base.specs.Cases.{refusedCase, refusedOutcome}
 use Rattle.base.proofs.Cases.{accepted-refused, refused-accepted, same-refusal}
 use Rattle.base.specs.declared.Refusal.{Refusal}
 use Rattle.table.specs.Tree.{Tree}
-use Rattle.stage.specs.Bytes.{size}
+use Rattle.stage.specs.Trees.{size}
 use Rattle.stage.specs.Reply.{StageReply, stageTables, replyToStage}
 use Rattle.stage_reader.specs.Cases.{answerCase, stageReply}
-use Rattle.stage.specs.Read.{StageSheet, got, noStage}
+use Rattle.table.specs.Drawing.{StageSheet, got, noStage}
 use Rattle.stage_reader.specs.declared.Answer.the-variants.{Accepted, Refused}
 use Rattle.stage_reader.specs.declared.StageRead.{StageRead}
 
-module _ (s : StageSheet) (rd : StageRead) (e : stageReply rd ≡ replyToStage s) where
+module _ (s : StageSheet Tree) (rd : StageRead) (e : stageReply rd ≡ replyToStage s) where
   answered : answerCase (rd .answer) ≡ replyToStage s .answer
   answered = ap (λ (x : StageReply). x .answer) e
 
@@ -20,7 +20,7 @@ module _ (s : StageSheet) (rd : StageRead) (e : stageReply rd ≡ replyToStage s
   unfolding replyToStage
   told-refused f h = go s (ap answerCase (sym h) ∙ answered)
     where
-      go : (t : StageSheet) → refusedCase f ≡ replyToStage t .answer → t ≡ noStage f
+      go : (t : StageSheet Tree) → refusedCase f ≡ replyToStage t .answer → t ≡ noStage f
       go (got n m trees) g = refused-accepted f g
       go (noStage g) d = ap noStage (sym (same-refusal refusedOutcome f g d))
 
@@ -34,11 +34,11 @@ module _ (s : StageSheet) (rd : StageRead) (e : stageReply rd ≡ replyToStage s
   unfolding replyToStage
   told-got h = go s refl
     where
-      go : (t : StageSheet) → s ≡ t → Got
+      go : (t : StageSheet Tree) → s ≡ t → Got
       go (got n m trees) d =
           let f : stageReply rd ≡ replyToStage (got n m trees) = e ∙ ap replyToStage d in
           let en : rd .n ≡ n = ap (λ (x : StageReply). x .n) f in
           let em : rd .m ≡ m = ap (λ (x : StageReply). x .m) f in
           record { trees = trees; is = rw (en, em) d; tables = rw en (ap (λ (x : StageReply). x .tables) f); cells = ap (λ (x : StageReply). x .cells) f }
       go (noStage g) d =
-          accepted-refused g (ap answerCase (sym h) ∙ answered ∙ ap (λ (t : StageSheet). replyToStage t .answer) d)
+          accepted-refused g (ap answerCase (sym h) ∙ answered ∙ ap (λ (t : StageSheet Tree). replyToStage t .answer) d)

@@ -7,7 +7,8 @@ use borrow.Author.Needs.{needs}
 use Rattle.base.specs.Refusals.{refusalAt, cutShort, outOfRange}
 use Rattle.sheet.specs.Limits.{sizesOut}
 use Rattle.stage_reader.specs.Cases.{stageReply}
-use Rattle.stage.specs.Read.{wiresAt, readStage, noStage, closed}
+use Rattle.stage.specs.Read.{wiresAt, readStage, closed}
+use Rattle.table.specs.Drawing.{noStage}
 use Rattle.stage.specs.Reply.{refusedReply, replyToStage}
 use Rattle.stage.proofs.Sizes.{sizes-in}
 use Rattle.stage_reader.proofs.Places.{due-stops, head-short, head-goes}

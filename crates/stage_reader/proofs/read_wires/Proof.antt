@@ -5,7 +5,8 @@ use native.Mathlib.Nat.{sub-zero, add-zero}
 use native.Mathlib.Omega.{arith}
 use borrow.Author.Needs.{needs}
 use lib.ListN.{length, length-set}
-use Rattle.stage.specs.Bytes.{size}
+use Rattle.table.specs.Drawing.{drawnCells}
+use Rattle.stage.specs.Trees.{size}
 use Rattle.stage_reader.specs.Inner.Trees.{treeReply}
 use Rattle.stage.specs.Read.{closed}
 use Rattle.stage.specs.Reply.{replyToStage}
@@ -108,7 +109,7 @@ no-stage-requires-2 : tie.Need-no-stage-requires-2 Inv-loop μ-loop
 no-stage-requires-2 c κs = search needs
 
 returns-2 : tie.Need-returns-2 Inv-loop μ-loop
-unfolding replyWith filled size
+unfolding replyWith filled drawnCells
 returns-2 c =
     let e = c .before .before in
     let t = e .before in

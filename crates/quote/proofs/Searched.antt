@@ -1,4 +1,4 @@
--- The promise of demand 3, from what the search of the sheet's relation promises.
+-- The promise of demand 3 for a sheet whose relation was formed, from what the search of the relation promises.
 use Prim.Native.Nat.{ℕ}
 use mathlib.Core.Path.{_≡_, refl, sym, ap, ap₂, subst, _∙_}
 use mathlib.Core.Logic.{⊎-elim, _↔_}
@@ -25,16 +25,20 @@ use Rattle.sheet.specs.declared.Command.{Command}
 use Rattle.sheet.specs.Commands.{inputsOf, wiresOf}
 use Rattle.sheet.specs.Judged.{holds}
 use Rattle.reader.specs.Reading.{readingOf}
-use Rattle.stage.specs.Read.{got, readStage}
+use Rattle.sheet.specs.Limits.{maxPatterns}
+use Rattle.table.specs.Drawing.{got, drawnCells}
+use Rattle.stage.specs.Trees.{treeDrawing}
+use Rattle.stage.specs.Read.{readStage}
 use Rattle.stage.specs.Written.{stageOf, writtenOf, bufferWith, bufferAfter}
 use Rattle.unit.specs.Rival.{Rival}
-use Rattle.unit.proofs.Rivals.{byWire, commands-only}
+use Rattle.unit.proofs.Rivals.{commands-only}
 use Rattle.quote.specs.Quote.{noQuote, refusedQuote, withStage, searched, bufferSearched}
 use Rattle.quote.specs.Promised.{RivalStage, NoRival, Promised}
-use Rattle.quote.proofs.Own.{found, trees, one-each, own-family, own-size, above, best, within, spent, written, read-back}
+use Rattle.quote.proofs.Own.{found, trees, own-family, own-cells, above, best, within, spent, written, read-back}
 
 -- a refused quote
-pub refused-promise : (sheet : List ℕ) (budget : ℕ) (buffer : List ℕ) (f : Refusal) → ((f .number ≡ empty) ↔ NoRival sheet) → Promised sheet budget (refusedQuote f) buffer
+pub refused-promise : (sheet : List ℕ) (budget : ℕ) (buffer : List ℕ) (f : Refusal) → ((f .number ≡ empty) ↔ NoRival treeDrawing sheet)
+    → Promised treeDrawing sheet budget (refusedQuote f) buffer
 refused-promise sheet budget buffer f ten =
     record {
       best = λ e. absurd (omega arith);
@@ -46,27 +50,25 @@ refused-promise sheet budget buffer f ten =
     }
 
 -- another number than 10, where a rival exists
-other-number : (sheet : List ℕ) (f : Refusal) (x : List Tree) → Rival sheet x → (f .number ≡ empty → ⊥) → ((f .number ≡ empty) ↔ NoRival sheet)
+other-number : (sheet : List ℕ) (f : Refusal) (x : List Tree) → Rival treeDrawing sheet x → (f .number ≡ empty → ⊥)
+    → ((f .number ≡ empty) ↔ NoRival treeDrawing sheet)
 other-number sheet f x r ne = (λ e. absurd (ne e), λ h. absurd (h .none x r))
 
 -- what the stage reader takes, with the sizes of a relation that are the sheet's
-module _ (sheet : List ℕ) (cs : List Command) (held : readingOf sheet ≡ holds cs) (r : Relation) (en : r .n ≡ inputsOf cs) (em : r .m ≡ wiresOf cs) (long : length (r .sets) ≡ 16) (passes : checkOf r ≡ acceptedCase)
-    (rivals : (x : List Tree) → Rival sheet x ↔ ((length x ≡ r .m) × Family (r .n) (r .m) (relationOf r) (byWire x)))
-    (budget : ℕ) where
-  to : (x : List Tree) → Rival sheet x → (length x ≡ r .m) × Family (r .n) (r .m) (relationOf r) (byWire x)
-  to x v = rivals x .0 v
+module _ (sheet : List ℕ) (cs : List Command) (held : readingOf sheet ≡ holds cs) (r : Relation) (en : r .n ≡ inputsOf cs) (em : r .m ≡ wiresOf cs)
+    (long : length (r .sets) ≡ maxPatterns) (passes : checkOf r ≡ acceptedCase)
+    (rivals : (x : List Tree) → Rival treeDrawing sheet x ↔ Family treeDrawing (r .n) (r .m) (relationOf r) x) (budget : ℕ) where
+  own-rival : Rival treeDrawing sheet (trees r passes budget)
+  own-rival = rivals (trees r passes budget) .1 (own-family r passes budget)
 
-  own-rival : Rival sheet (trees r passes budget)
-  own-rival = rivals (trees r passes budget) .1 (one-each r passes budget, own-family r passes budget)
-
-  own-stage : (bytes : List ℕ) → readStage bytes ≡ got (r .n) (r .m) (trees r passes budget) → RivalStage sheet bytes (found r passes budget .cells)
+  own-stage : (bytes : List ℕ) → readStage bytes ≡ got (r .n) (r .m) (trees r passes budget) → RivalStage treeDrawing sheet bytes (found r passes budget .cells)
   own-stage bytes e =
       let c : own-rival .commands ≡ cs = commands-only sheet (own-rival .commands) cs (own-rival .held) held in
       record {
-        trees = trees r passes budget;
+        stage = trees r passes budget;
         rival = own-rival;
         taken = e ∙ ap₂ (λ n m. got n m (trees r passes budget)) (en ∙ ap inputsOf (sym c)) (em ∙ ap wiresOf (sym c));
-        counted = own-size r passes budget;
+        counted = own-cells r passes budget;
       }
 
   abbrev stage : List ℕ
@@ -82,31 +84,33 @@ module _ (sheet : List ℕ) (cs : List Command) (held : readingOf sheet ≡ hold
         mark = markOf b;
       }
 
-  own-written : (buffer : List ℕ) → RivalStage sheet (take (length stage) (stage ++ drop (length stage) buffer)) (found r passes budget .cells)
+  own-written : (buffer : List ℕ) → RivalStage treeDrawing sheet (take (length stage) (stage ++ drop (length stage) buffer)) (found r passes budget .cells)
   own-written buffer =
       own-stage (take (length stage) (stage ++ drop (length stage) buffer))
       (ap readStage (take-at stage (drop (length stage) buffer) (length stage) refl) ∙ read-back r passes budget)
 
   -- nothing is refused, and the own stage is a rival
-  not-ten : (0 ≡ empty) ↔ NoRival sheet
+  not-ten : (0 ≡ empty) ↔ NoRival treeDrawing sheet
   not-ten = (λ h. absurd (omega arith), λ h. absurd (h .none (trees r passes budget) own-rival))
 
-  -- the stage is written
-  written-promise : (b : Bool) → found r passes budget .stopped ≡ b → (buffer : List ℕ)
-      → Promised sheet budget (withStage (answer b) (accepting acceptedOutcome (length stage))) (stage ++ drop (length stage) buffer)
+  -- the stage is written: what the mark promises, and what every mark does
+  with-mark : (b : Bool) (buffer : List ℕ)
+      → (T (not b) → (x : List Tree) → Rival treeDrawing sheet x → found r passes budget .cells ≤ drawnCells treeDrawing x)
+      → (T b → found r passes budget .visits ≡ budget)
+      → Promised treeDrawing sheet budget (withStage (answer b) (accepting acceptedOutcome (length stage))) (stage ++ drop (length stage) buffer)
   unfolding withStage markOf
-  written-promise true e buffer =
+  with-mark true buffer least used =
       record {
         best = λ h. absurd (omega arith);
-        stopped = λ _ x v. let f = to x v in above r passes budget x (f .0) (f .1);
+        stopped = λ _ x v. above r passes budget x (rivals x .0 v);
         own = λ _. own-written buffer;
         within = within r passes budget;
-        spent = λ _. spent r passes budget (subst T (sym e) tt);
+        spent = λ _. used tt;
         refused = not-ten;
       }
-  written-promise false e buffer =
+  with-mark false buffer least used =
       record {
-        best = λ _ x v. let f = to x v in best r passes budget x (f .0) (f .1) (subst (λ c. T (not c)) (sym e) tt);
+        best = λ _. least tt;
         stopped = λ h. absurd (omega arith);
         own = λ _. own-written buffer;
         within = within r passes budget;
@@ -114,10 +118,15 @@ module _ (sheet : List ℕ) (cs : List Command) (held : readingOf sheet ≡ hold
         refused = not-ten;
       }
 
+  written-promise : (b : Bool) → found r passes budget .stopped ≡ b → (buffer : List ℕ)
+      → Promised treeDrawing sheet budget (withStage (answer b) (accepting acceptedOutcome (length stage))) (stage ++ drop (length stage) buffer)
+  written-promise b e buffer =
+      with-mark b buffer (λ h x v. best r passes budget (subst (λ c. T (not c)) (sym e) h) x (rivals x .0 v)) (λ h. spent r passes budget (subst T (sym e) h))
+
   -- the writer's answer, either way
   either : (b : Bool) → found r passes budget .stopped ≡ b → (buffer : List ℕ) (w : Case)
       → w ≡ cond (ltb (length buffer) (length stage)) (refusedCase (refusalAt shortBuffer (length stage))) (accepting acceptedOutcome (length stage))
-      → Promised sheet budget (withStage (answer b) w) (bufferWith stage buffer w)
+      → Promised treeDrawing sheet budget (withStage (answer b) w) (bufferWith stage buffer w)
   unfolding withStage
   either b e buffer w ew =
       ⊎-elim
@@ -132,12 +141,12 @@ module _ (sheet : List ℕ) (cs : List Command) (held : readingOf sheet ≡ hold
   -- the whole search and its stage
   marked : (b : Bool) → found r passes budget .stopped ≡ b → (buffer : List ℕ) (w : Case)
       → w ≡ cond (ltb (length buffer) (length stage)) (refusedCase (refusalAt shortBuffer (length stage))) (accepting acceptedOutcome (length stage))
-      → Promised sheet budget (cond (isRefused (markOf b)) (noQuote (markOf b)) (withStage (answer b) w)) (cond (isRefused (markOf b)) buffer (bufferWith stage buffer w))
+      → Promised treeDrawing sheet budget (cond (isRefused (markOf b)) (noQuote (markOf b)) (withStage (answer b) w)) (cond (isRefused (markOf b)) buffer (bufferWith stage buffer w))
   unfolding markOf
   marked true e buffer w ew = either true e buffer w ew
   marked false e buffer w ew = either false e buffer w ew
 
-  pub searched-promise : (buffer : List ℕ) → Promised sheet budget (searched r budget (length buffer)) (bufferSearched r budget buffer)
+  pub searched-promise : (buffer : List ℕ) → Promised treeDrawing sheet budget (searched r budget (length buffer)) (bufferSearched r budget buffer)
   unfolding searched bufferSearched bufferAfter answerOf
   searched-promise buffer =
       rw (answered r long passes budget)
