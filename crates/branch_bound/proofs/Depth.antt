@@ -7,7 +7,8 @@ use lib.Dec.{T}
 use Rattle.sheet.specs.Limits.{maxWires}
 use Rattle.base.proofs.Tests.{cond-has₂}
 use Rattle.relation.specs.Source.{Rel, WellDefined}
-use Rattle.relation.specs.Tests.{wires, keep, free, freeWire, compatible, conflict, openPairs}
+use Rattle.table.specs.Cells.{wires}
+use Rattle.relation.specs.Tests.{keep, free, freeWire, compatible, conflict, openPairs}
 use Rattle.relation.proofs.Decide.{free-both, conflict-is, freeWire-is}
 use Rattle.relation.proofs.Splits.{keep-well-defined, keep-closes}
 use Rattle.branch_bound.specs.declared.State.{State}

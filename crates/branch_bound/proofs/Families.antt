@@ -4,12 +4,11 @@ use mathlib.Core.Path.{_≡_, sym, ap, _∙_}
 use native.Mathlib.Nat.{mod-eq-of-lt, zero-add, le-trans}
 use Rattle.sheet.specs.Limits.{maxWires}
 use Rattle.table.specs.Bits.{bit, ofBits}
-use Rattle.table.specs.Cells.{cells}
+use Rattle.table.specs.Cells.{cells, wires}
 use Rattle.table.specs.Tree.{Tree, follow, selectors, reduced}
 use Rattle.table.proofs.Bits.{sum-cong, sum-le, ofBits-lt, bit-ofBits}
 use Rattle.table.proofs.Trees.{follow-lt, least-tree, reduced-selectors, reduced-ordered, reduced-follow}
 use Rattle.relation.specs.Source.{Rel, Tables, Stage, WellDefined, Compatible, value}
-use Rattle.relation.specs.Tests.{wires}
 use Rattle.branch_bound.specs.Search.{total, run}
 use Rattle.branch_bound.specs.Promise.{Fair}
 use Rattle.relation.specs.Families.{Family, size}

@@ -6,7 +6,7 @@ use lib.Dec.{T}
 use lib.ListN.{length}
 use Rattle.sheet.specs.Limits.{maxWires}
 use Rattle.relation.specs.Source.{Rel, Tables, Stage, Compatible}
-use Rattle.relation.specs.Tests.{wires}
+use Rattle.table.specs.Cells.{wires}
 use Rattle.branch_bound.specs.declared.State.{State}
 use Rattle.branch_bound.specs.Search.{Board, total, floor}
 

@@ -7,7 +7,8 @@ use Rattle.sheet.specs.Limits.{maxWires}
 use Rattle.table.specs.Bits.{sum, tabulate}
 use Rattle.table.specs.Pick.{orZero, leastOf}
 use Rattle.relation.specs.Source.{Rel, Tables}
-use Rattle.relation.specs.Tests.{wires, keep, agree, projection, freeWire, compatible, conflict, openPairs}
+use Rattle.table.specs.Cells.{wires}
+use Rattle.relation.specs.Tests.{keep, agree, projection, freeWire, compatible, conflict, openPairs}
 use Rattle.branch_bound.specs.declared.State.{State}
 
 -- What a search is over: n inputs, m wires, the cells of a table, and the number whose least decides a pick before the table's own.

@@ -3,10 +3,9 @@ use Prim.Native.Nat.{ℕ, _≤_}
 use mathlib.Core.Path.{_≡_}
 use mathlib.Core.Bool.{not}
 use lib.Dec.{T}
-use Rattle.table.specs.Cells.{cells}
+use Rattle.table.specs.Cells.{cells, wires}
 use Rattle.table.specs.Tree.{Tree, reduced}
 use Rattle.relation.specs.Source.{Rel}
-use Rattle.relation.specs.Tests.{wires}
 use Rattle.relation.specs.Families.{Family, size}
 use Rattle.branch_bound.specs.declared.State.{State}
 use Rattle.branch_bound.specs.Search.{Board, floor}

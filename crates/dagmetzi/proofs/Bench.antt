@@ -5,13 +5,14 @@ use mathlib.Core.List.{List, [], _∷_}
 use Rattle.base.specs.Cases.{accepting, acceptedCase}
 use Rattle.base.specs.Lowest.{lowest}
 use Rattle.base.specs.Refusals.{refusalAt, cutShort, outOfTurn, empty}
-use Rattle.table.specs.Bits.{bit, all, any, sum, ofBits, tabulate}
+use Rattle.table.specs.Bits.{bit, all, any, sum, ofBits, tabulate, isOne}
 use Rattle.table.specs.Cells.{low, high, cells}
 use Rattle.table.specs.Tree.{reduced}
 use Rattle.table.specs.Pick.{suits, nearer, least, orZero, leastOf}
 use Rattle.relation.specs.declared.Relation.{Relation}
 use Rattle.relation.specs.Source.{value}
-use Rattle.relation.specs.Tests.{ofSets, keep, agree, occurs, fits, free, freeWire, compatible, conflict, emptyPattern, isOne, openPairs}
+use Rattle.relation.specs.Tests.{ofSets, keep, agree, occurs, free, freeWire, compatible, conflict, emptyPattern, openPairs}
+use Rattle.relation.specs.Inner.Source.{fits}
 use Rattle.relation.specs.Handed.{relationOf, widePattern, checkOf}
 use Rattle.branch_bound.specs.Reply.{bestOutcome, stoppedOutcome, SearchReply, markOf, answerOf, refusedWith, searchTested, searchOf}
 use Rattle.branch_bound.specs.Search.{replyTables, total, pick, picks, floor, left, quick, start, split, expand, charge, treat, visit, searchPart, run}

@@ -17,7 +17,8 @@ use Rattle.table.specs.Tree.{Tree, Ordered, follow}
 use Rattle.table.proofs.Bits.{all-cong, sum-cong}
 use Rattle.relation.specs.declared.Relation.{Relation}
 use Rattle.relation.specs.Source.{value}
-use Rattle.relation.specs.Tests.{ofSets, wires}
+use Rattle.relation.specs.Tests.{ofSets}
+use Rattle.table.specs.Cells.{wires}
 use Rattle.relation.specs.Handed.{relationOf}
 use Rattle.relation.proofs.Sets.{value-four}
 use Rattle.stage.specs.declared.reader.Answer.the-variants.{Accepted, Refused}

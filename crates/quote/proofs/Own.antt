@@ -11,11 +11,10 @@ use lib.ListN.{length, getD}
 use Rattle.base.specs.Cases.{accepting, acceptedOutcome, acceptedCase, refusedCase}
 use Rattle.base.specs.Refusals.{refusalAt, shortBuffer}
 use Rattle.table.specs.Bits.{sum}
-use Rattle.table.specs.Cells.{cells}
+use Rattle.table.specs.Cells.{cells, wires}
 use Rattle.table.specs.Tree.{Tree, selectors, reduced}
 use Rattle.table.proofs.Bits.{sum-cong}
 use Rattle.relation.specs.declared.Relation.{Relation}
-use Rattle.relation.specs.Tests.{wires}
 use Rattle.relation.specs.Families as Families
 use Rattle.relation.specs.Families.{Family}
 use Rattle.relation.specs.Handed.{relationOf, checkOf}
@@ -62,20 +61,20 @@ module _ (r : Relation) (passes : checkOf r ≡ acceptedCase) (budget : ℕ) whe
   fit = check-well-formed r passes
 
   pub sized : Sized (r .n) (r .m)
-  sized = record { n-least = fit .some-inputs; n-most = fit .few-inputs; m-least = fit .some-wires; m-most = fit .few-wires }
+  sized = record { n-least = fit .sizes .n-least; n-most = fit .sizes .n-most; m-least = fit .sizes .m-least; m-most = fit .sizes .m-most }
 
   abbrev pub found : State
   found = run (tree (r .n) (r .m)) budget (relationOf r)
 
   told : Smallest (r .n) (r .m) budget (relationOf r) (run (tree (r .n) (r .m)) budget (relationOf r))
-  told = smallest (r .n) (r .m) budget (relationOf r) (fit .few-wires) (fit .well-defined)
+  told = smallest (r .n) (r .m) budget (relationOf r) (fit .sizes .m-most) (fit .well-defined)
 
   kept : Promise (tree (r .n) (r .m)) budget (relationOf r) (run (tree (r .n) (r .m)) budget (relationOf r))
   unfolding tree
-  kept = run-promise (tree (r .n) (r .m)) (fair (r .n) (r .m) (fit .few-wires)) budget (relationOf r) (fit .well-defined)
+  kept = run-promise (tree (r .n) (r .m)) (fair (r .n) (r .m) (fit .sizes .m-most)) budget (relationOf r) (fit .well-defined)
 
   long : r .m ≤ length (found .tables)
-  long = omega (arith, kept .so-far .long, fit .few-wires)
+  long = omega (arith, kept .so-far .long, fit .sizes .m-most)
 
   in-range : (j : ℕ) → j < r .m → getD (found .tables) j 0 < 2 ^ (2 ^ r .n)
   unfolding tree

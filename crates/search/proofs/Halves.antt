@@ -8,11 +8,12 @@ use lib.ListN.{length, getD, set}
 use lib.Seq.{getD-set-other, set-set}
 use Rattle.sheet.specs.Limits.{maxWires}
 use Rattle.table.specs.Bits.{bit, ofBits}
-use Rattle.table.specs.Blocks.{Blocks}
+use Rattle.table.specs.Inner.Blocks.{Blocks}
 use Rattle.table.proofs.Bits.{sum-cong}
 use Rattle.relation.specs.Source.{Rel, value}
-use Rattle.relation.specs.Tests.{ofSets, wires, keep, free, openPairs}
-use Rattle.relation.specs.Masks.{member, withBit, narrowed}
+use Rattle.relation.specs.Tests.{ofSets, keep, free, openPairs}
+use Rattle.table.specs.Cells.{wires}
+use Rattle.relation.specs.Inner.Masks.{member, withBit, narrowed}
 use Rattle.relation.proofs.Sets.{member-sets}
 use Rattle.relation.proofs.Splits.{keep-closes}
 use Rattle.branch_bound.specs.declared.State.{State}

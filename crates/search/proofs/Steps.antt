@@ -6,7 +6,8 @@ use mathlib.Core.List.{List}
 use native.Mathlib.Omega.{arith}
 use lib.Dec.{T, leb, not-T, leb→le}
 use Rattle.base.proofs.Tests.{test-yes, test-no}
-use Rattle.relation.specs.Tests.{ofSets, wires, compatible}
+use Rattle.relation.specs.Tests.{ofSets, compatible}
+use Rattle.table.specs.Cells.{wires}
 use Rattle.branch_bound.specs.declared.State.{State}
 use Rattle.branch_bound.specs.Search.{discarded, usedUp, halted, charged, improved, split, expand, charge, treat, searchPart}
 use Rattle.branch_bound.specs.TreeBoard.{tree}

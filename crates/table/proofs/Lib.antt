@@ -9,3 +9,4 @@ pub mod Masks
 pub mod Entries
 pub mod Pairs
 pub mod Places
+pub mod BitColumns

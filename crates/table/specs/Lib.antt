@@ -3,5 +3,4 @@ pub mod Bits
 pub mod Cells
 pub mod Tree
 pub mod Pick
-pub mod Blocks
-pub mod Pairs
+pub mod Inner

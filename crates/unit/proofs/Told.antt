@@ -26,6 +26,7 @@ use Rattle.base.proofs.Tabulate.{tabulate-entry, take-entry}
 use Rattle.relation.proofs.Fits.{Fit, check-none, check-passed}
 use Rattle.sheet.specs.declared.Command.{Command}
 use Rattle.sheet.specs.Commands.{inputsOf, wiresOf}
+use Rattle.sheet.proofs.Sizes.{sizes-fit}
 use Rattle.reader.proofs.Sound.{Sound}
 use Rattle.unit.specs.Relation.{unitRelation}
 use Rattle.unit.specs.Formed.{setOn, relationIn}
@@ -104,14 +105,8 @@ module _ (cs : List Command) (s : Sound cs) where
       (λ p l. ap not (any-cong (2 ^ wiresOf cs) (relationOf (relationIn cs) p) (unitRelation cs p) (λ v b. set-told p v l b)))
 
   -- the test of the relation as numbers
-  sizes-in : sizesOut (inputsOf cs) (wiresOf cs) ≡ false
-  sizes-in =
-      rw (
-        ne-eqb (inputsOf cs) 0 (λ e. omega (arith, s .sizes .n-least)),
-        le-ltb maxInputs (inputsOf cs) (s .sizes .n-most),
-        ne-eqb (wiresOf cs) 0 (λ e. omega (arith, s .sizes .m-least)),
-        le-ltb maxWires (wiresOf cs) (s .sizes .m-most),
-      )
+  sizes-pass : sizesOut (inputsOf cs) (wiresOf cs) ≡ false
+  sizes-pass = sizes-fit (inputsOf cs) (wiresOf cs) (s .sizes)
 
   entry-below : (p : ℕ) → getD (relationIn cs .sets) p 0 < 2 ^ (2 ^ wiresOf cs)
   entry-below p =
@@ -129,21 +124,18 @@ module _ (cs : List Command) (s : Sound cs) where
       → checkOf (relationIn cs) ≡ refusedCase (refusalAt empty (emptyIn cs))
   unfolding relationIn
   refused-empty l =
-      check-none (relationIn cs) sizes-in (omega (arith, none-wide)) (subst (λ x. x < 2 ^ inputsOf cs) (sym empty-told) l)
+      check-none (relationIn cs) sizes-pass (omega (arith, none-wide)) (subst (λ x. x < 2 ^ inputsOf cs) (sym empty-told) l)
       ∙ ap (λ p. refusedCase (refusalAt empty p)) empty-told
 
   pub passes-whole : 2 ^ inputsOf cs ≤ emptyIn cs → checkOf (relationIn cs) ≡ acceptedCase
   unfolding relationIn
-  passes-whole l = check-passed (relationIn cs) sizes-in (omega (arith, none-wide)) (subst (λ x. 2 ^ inputsOf cs ≤ x) (sym empty-told) l)
+  passes-whole l = check-passed (relationIn cs) sizes-pass (omega (arith, none-wide)) (subst (λ x. 2 ^ inputsOf cs ≤ x) (sym empty-told) l)
 
   -- a relation with no empty pattern is fit for the search
   pub fit-told : WellDefined (inputsOf cs) (wiresOf cs) (unitRelation cs) → Fit (relationIn cs)
   unfolding relationIn
   fit-told w = record {
-    some-inputs = s .sizes .n-least;
-    few-inputs = s .sizes .n-most;
-    some-wires = s .sizes .m-least;
-    few-wires = s .sizes .m-most;
+    sizes = s .sizes;
     small = λ p _. entry-below p;
     well-defined = well-defined-told .1 w;
   }

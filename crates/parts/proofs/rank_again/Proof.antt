@@ -3,7 +3,7 @@ use mathlib.Core.Path.{_≡_, ap, sym, _∙_}
 use native.Mathlib.Nat.{mod-eq-of-lt}
 use Rattle.table.specs.Bits.{bit}
 use Rattle.relation.specs.Tests.{occurs}
-use Rattle.relation.specs.Masks.{member}
+use Rattle.relation.specs.Inner.Masks.{member}
 use Rattle.parts.specs.Inner.Ranks.{tableIn}
 use Rattle.parts.specs.Inner.Parts.{rankAgain}
 use borrow.Author.Needs.{needs}

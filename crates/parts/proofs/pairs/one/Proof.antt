@@ -1,4 +1,4 @@
-use Rattle.relation.specs.Tests.{isOne}
+use Rattle.table.specs.Bits.{isOne}
 use Rattle.parts.proofs.pairs.one.Statement.{statement}
 use Rattle.parts.proofs.pairs.one.Tie as tie
 

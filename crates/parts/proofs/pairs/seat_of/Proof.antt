@@ -1,6 +1,6 @@
 use mathlib.Core.Path.{refl}
 use native.Mathlib.Omega.{arith}
-use Rattle.table.specs.Pairs.{seat}
+use Rattle.table.specs.Inner.Pairs.{seat}
 use borrow.Author.Needs.{needs}
 use Rattle.parts.proofs.pairs.seat_of.Statement.{statement}
 use Rattle.parts.proofs.pairs.seat_of.Tie as tie

@@ -7,7 +7,7 @@ use lib.Dec.{le→leb}
 use lib.ListN.{getD, set, length-set}
 use lib.Seq.{set-getD}
 use Rattle.relation.specs.Tests.{ofSets, openPairs}
-use Rattle.relation.specs.Masks.{withBit}
+use Rattle.relation.specs.Inner.Masks.{withBit}
 use Rattle.search.specs.Inner.Conflicts.{Settled}
 use Rattle.search.specs.Inner.Tally.{stateOf}
 use Rattle.search.proofs.Carrying.{tables-are, pattern-lt}

@@ -6,7 +6,8 @@ use mathlib.Core.Option.{Option, none, some}
 use lib.ListN.{getD}
 use Rattle.table.specs.Bits.{bit}
 use Rattle.table.specs.Cells.{cells}
-use Rattle.table.specs.Pick.{leastOf, masked}
+use Rattle.table.specs.Pick.{leastOf}
+use Rattle.table.specs.Inner.Ranks.{masked}
 
 -- where no table suits: more cells than any table has
 abbrev pub noTable : ℕ

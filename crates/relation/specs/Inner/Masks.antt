@@ -1,4 +1,4 @@
--- Sets of values and of patterns as numbers, which the code computes with. Sixteen values and sixteen patterns are the most there are.
+-- Sets of values and of patterns as numbers, which the code computes with.
 use Prim.Native.Nat.{ℕ, _+_, _*_, _-_, _^_, _≤_}
 use mathlib.Core.Path.{_≡_}
 use mathlib.Core.Bool.{Bool, true, false, cond}
@@ -6,16 +6,14 @@ use mathlib.Core.List.{List}
 use lib.Bits.{bitAnd}
 use lib.Dec.{eqb, ltb}
 use lib.ListN.{getD, set}
-use Rattle.table.specs.Bits.{bit, ofBits, tabulate}
-use Rattle.relation.specs.Tests.{ofSets, occurs, isOne}
+use Rattle.sheet.specs.Limits.{maxWires, maxPatterns}
+use Rattle.table.specs.Bits.{bit, ofBits, tabulate, isOne}
+use Rattle.table.specs.Inner.Columns.{columnOf}
+use Rattle.relation.specs.Tests.{ofSets, occurs}
 
 -- value v is in the set whose number is w
 unfoldable pub member : ℕ → ℕ → Bool
 member w v = eqb (bit w v) 1
-
--- the values of four wires that have wire j at b
-unfoldable pub columnOf : ℕ → ℕ → ℕ
-columnOf j b = ofBits 16 (λ v. isOne (eqb (bit v j) b))
 
 -- the values of w that have wire j at b
 unfoldable pub withBit : ℕ → ℕ → ℕ → ℕ
@@ -23,15 +21,16 @@ withBit w j b = bitAnd w (columnOf j b)
 
 -- the patterns on which some value has wire j at b: bit p is pattern p
 unfoldable pub maskOf : List ℕ → ℕ → ℕ → ℕ
-maskOf sets j b = ofBits 16 (λ p. isOne (occurs 4 (ofSets sets p) j b))
+maskOf sets j b = ofBits maxPatterns (λ p. isOne (occurs maxWires (ofSets sets p) j b))
 
--- four tables side by side in one number, 16 bits each
+-- the tables of all wires side by side in one number, as many bits each as there are patterns
 unfoldable pub sideBySide : List ℕ → ℕ
-sideBySide tables = getD tables 0 0 + getD tables 1 0 * 2 ^ 16 + getD tables 2 0 * 2 ^ 32 + getD tables 3 0 * 2 ^ 48
+sideBySide tables =
+    getD tables 0 0 + getD tables 1 0 * 2 ^ maxPatterns + getD tables 2 0 * 2 ^ (2 * maxPatterns) + getD tables 3 0 * 2 ^ (3 * maxPatterns)
 
--- the value on pattern p of four tables side by side: wire j is bit p of the 16 bits at 16 * j
+-- the value on pattern p of tables side by side: wire j is bit p of its own bits
 unfoldable pub valueIn : ℕ → ℕ → ℕ
-valueIn x p = ofBits 4 (λ j. bit x (16 * j + p))
+valueIn x p = ofBits maxWires (λ j. bit x (maxPatterns * j + p))
 
 -- no value is allowed past the last pattern of n inputs
 abbrev pub NonePast : ℕ → List ℕ → Type 0
@@ -48,8 +47,8 @@ narrowed sets p j b = set sets p (withBit (getD sets p 0) j b)
 
 -- the sets once wire j has table t
 unfoldable pub agreed : List ℕ → ℕ → ℕ → List ℕ
-agreed sets j t = tabulate 16 (λ p. withBit (getD sets p 0) j (bit t p))
+agreed sets j t = tabulate maxPatterns (λ p. withBit (getD sets p 0) j (bit t p))
 
 -- the sets with those past the last pattern emptied
 unfoldable pub cleared : ℕ → List ℕ → List ℕ
-cleared n sets = tabulate 16 (λ p. cond (ltb p (2 ^ n)) (getD sets p 0) 0)
+cleared n sets = tabulate maxPatterns (λ p. cond (ltb p (2 ^ n)) (getD sets p 0) 0)

@@ -4,18 +4,18 @@ use Prim.Native.Nat.{_+_, _*_, ℕ, _<_, _≤_, zero-le, suc}
 use native.Mathlib.Omega.{arith}
 use native.Mathlib.Nat.{le-antisymm}
 use borrow.Author.Needs.{needs}
-use Rattle.table.specs.Bits.{bit, ofBits, sum}
-use Rattle.relation.specs.Masks.{columnOf}
-use Rattle.relation.specs.Tests.{isOne}
-use Rattle.relation.proofs.Columns.{column-placed}
-use Rattle.relation.proofs.values.column.Statement.{statement}
-use Rattle.relation.proofs.values.column.Tie as tie
+use Rattle.table.specs.Bits.{bit, ofBits, sum, isOne}
+use Rattle.sheet.specs.Limits.{maxWires}
+use Rattle.table.specs.Inner.Columns.{columnOf}
+use Rattle.table.proofs.BitColumns.{column-placed}
+use Rattle.table.proofs.columns.column.Statement.{statement}
+use Rattle.table.proofs.columns.column.Tie as tie
 
 -- passing the keys of the match one by one
 past : {a k : ℕ} → a ≤ k → (k ≡ a → ⊥) → suc a ≤ k
 past h ne = omega arith
 
-below : (j b : ℕ) → j < 4 → b < 2 → 2 * j + b ≤ 7
+below : (j b : ℕ) → j < maxWires → b < 2 → 2 * j + b ≤ 7
 below j b h l = omega arith
 
 mul-at : tie.Need-mul-at

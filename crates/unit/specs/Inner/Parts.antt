@@ -19,7 +19,7 @@ use Rattle.unit.specs.Gates.{signalsOn, outputsFor}
 use Rattle.unit.specs.Formed.{noRelation}
 
 -- a sheet that was gathered from the commands of an accepted reading
-pub record Held (sheet : Sheet) : Type 0 where
+pub record WasRead (sheet : Sheet) : Type 0 where
   pub bytes : List ℕ
   pub commands : List Command
   pub held : readingOf bytes ≡ holds commands
@@ -38,5 +38,5 @@ abbrev pub Codes : List Command → List ℕ → Type 0
 Codes cs codes = (v : ℕ) → v < maxValues → getD codes v 0 ≡ codeOf cs v
 
 -- a relation that was tested: refused or whole
-abbrev pub afterCheck : Relation → Case → FormedReply
-afterCheck r c = record { relation = cond (isRefused c) noRelation r; answer = c }
+abbrev pub checkedReply : Relation → Case → FormedReply
+checkedReply r c = record { relation = cond (isRefused c) noRelation r; answer = c }
