@@ -10,76 +10,67 @@ use lib.Bits.{bitOr, bitXor, or-shr, or-mod, xor-shr, xor-mod, or-add-and, xor-a
 use lib.Count.{trailingZeros, under}
 use lib.Dec.{T, T-not, not-T, eqb, eqb→eq}
 use lib.ListN.{getD}
-use Rattle.sheet.specs.Limits.{maxWires}
+use Rattle.sheet.specs.Limits.{maxWires, maxPatterns}
 use Rattle.base.proofs.Tests.{decide, eq-test}
 use Rattle.base.proofs.Lowest.{lowest-at, lowest-none}
 use Rattle.table.specs.Bits.{bit}
 use Rattle.table.proofs.Bits.{any-at, any-intro, bit-div}
+use Rattle.parts.specs.Inner.Ranks.{rankBits}
 use Rattle.parts.specs.Inner.Changes.{bitIn, AlikeBelow, changedOn, firstChange}
 use Rattle.parts.proofs.Packing.{table-bit}
-
-low-zero : (n : ℕ) → n % 2 ≡ 0 → bit n 0 ≡ 0
-unfolding bit
-low-zero n e = omega (arith, e)
 
 half-bit : (n q : ℕ) → bit (n / 2) q ≡ bit n (suc q)
 half-bit n q = let e : 1 + q ≡ suc q = omega arith in bit-div n 1 q ∙ ap (bit n) e
 
--- no bit is set below the trailing zeros
-pub zeros-below : (d n q : ℕ) → q < trailingZeros d n → bit n q ≡ 0
-unfolding trailingZeros
-zeros-below zero n q l = absurd (not-suc-le-zero l)
-zeros-below (suc d) n q l = go (n % 2) refl q (λ i h. zeros-below d (n / 2) i h) l
-  where
-    go : (r : ℕ) → r ≡ n % 2 → (q : ℕ) → ((i : ℕ) → i < trailingZeros d (n / 2) → bit (n / 2) i ≡ 0) → q < under r (trailingZeros d (n / 2)) → bit n q ≡ 0
-    go zero e zero halves h = low-zero n (sym e)
-    go zero e (suc q) halves h = sym (half-bit n q) ∙ halves q (le-of-suc-le-suc h)
-    go (suc r) e q halves h = absurd (not-suc-le-zero h)
-
-low-one : (n r : ℕ) → suc r ≡ n % 2 → bit n 0 ≡ 1
+-- an even number whose half has no bit below z has none below the next
+zero-front : (n z : ℕ) → n % 2 ≡ 0 → ((i : ℕ) → i < z → bit (n / 2) i ≡ 0) → (q : ℕ) → q < suc z → bit n q ≡ 0
 unfolding bit
-low-one n r e = omega (arith, e)
+zero-front n z e halves zero l = omega (arith, e)
+zero-front n z e halves (suc q) l = sym (half-bit n q) ∙ halves q (le-of-suc-le-suc l)
 
--- the bit above the trailing zeros is set
-pub one-at : (d n : ℕ) → trailingZeros d n < d → bit n (trailingZeros d n) ≡ 1
+odd-bit : (n r : ℕ) → suc r ≡ n % 2 → bit n 0 ≡ 1
+unfolding bit
+odd-bit n r e = omega (arith, e)
+
+-- no bit is set below the trailing zeros, and the bit above them is set
+trailing : (d n : ℕ) → ((q : ℕ) → q < trailingZeros d n → bit n q ≡ 0) × (trailingZeros d n < d → bit n (trailingZeros d n) ≡ 1)
 unfolding trailingZeros
-one-at zero n l = absurd (not-suc-le-zero l)
-one-at (suc d) n l = go (n % 2) refl l (one-at d (n / 2))
+trailing zero n = (λ q l. absurd (not-suc-le-zero l), λ l. absurd (not-suc-le-zero l))
+trailing (suc d) n = go (n % 2) refl (trailing d (n / 2) .0) (trailing d (n / 2) .1)
   where
-    go : (r : ℕ) → r ≡ n % 2 → under r (trailingZeros d (n / 2)) < suc d → (trailingZeros d (n / 2) < d → bit (n / 2) (trailingZeros d (n / 2)) ≡ 1)
-        → bit n (under r (trailingZeros d (n / 2))) ≡ 1
-    go zero e h halves = sym (half-bit n (trailingZeros d (n / 2))) ∙ halves (le-of-suc-le-suc h)
-    go (suc r) e h halves = low-one n r e
+    z : ℕ
+    z = trailingZeros d (n / 2)
+
+    go : (r : ℕ) → r ≡ n % 2 → ((q : ℕ) → q < z → bit (n / 2) q ≡ 0) → (z < d → bit (n / 2) z ≡ 1)
+        → ((q : ℕ) → q < under r z → bit n q ≡ 0) × (under r z < suc d → bit n (under r z) ≡ 1)
+    go zero e below at = (zero-front n z (sym e) below, λ l. sym (half-bit n z) ∙ at (le-of-suc-le-suc l))
+    go (suc r) e below at = (λ q l. absurd (not-suc-le-zero l), λ l. odd-bit n r e)
+
+-- bit by bit
+bit-or : (a b q : ℕ) → bit (bitOr a b) q ≡ bitOr (bit a q) (bit b q)
+unfolding bit
+bit-or a b q = ap (λ z. z % 2) (or-shr a b q) ∙ or-mod (a / 2 ^ q) (b / 2 ^ q) 1
+
+bit-xor : (a b q : ℕ) → bit (bitXor a b) q ≡ bitXor (bit a q) (bit b q)
+unfolding bit
+bit-xor a b q = ap (λ z. z % 2) (xor-shr a b q) ∙ xor-mod (a / 2 ^ q) (b / 2 ^ q) 1
 
 or-both : (a b q : ℕ) → bit a q ≡ 0 → bit b q ≡ 0 → bit (bitOr a b) q ≡ 0
-unfolding bit
-or-both a b q ea eb =
-    let x = a / 2 ^ q % 2 in
-    let y = b / 2 ^ q % 2 in
-    let f : bitOr x y ≡ 0 = omega (arith, ea, eb, or-add-and x y) in
-    ap (λ z. z % 2) (or-shr a b q) ∙ or-mod (a / 2 ^ q) (b / 2 ^ q) 1 ∙ f
-
-xor-same : (a b q : ℕ) → bit a q ≡ bit b q → bit (bitXor a b) q ≡ 0
-unfolding bit
-xor-same a b q e =
-    let x = a / 2 ^ q % 2 in
-    ap (λ z. z % 2) (xor-shr a b q) ∙ xor-mod (a / 2 ^ q) (b / 2 ^ q) 1 ∙ ap (bitXor x) (sym e) ∙ xor-self x
+or-both a b q ea eb = omega (arith, bit-or a b q, or-add-and (bit a q) (bit b q))
 
 or-none : (a b q : ℕ) → bit (bitOr a b) q ≡ 0 → (bit a q ≡ 0) × (bit b q ≡ 0)
-unfolding bit
 or-none a b q e =
-    let x = a / 2 ^ q % 2 in
-    let y = b / 2 ^ q % 2 in
-    let f : bitOr x y ≡ 0 = sym (ap (λ z. z % 2) (or-shr a b q) ∙ or-mod (a / 2 ^ q) (b / 2 ^ q) 1) ∙ e in
-    (omega (arith, f, or-add-and x y, and-le-l x y, and-le-r x y), omega (arith, f, or-add-and x y, and-le-l x y, and-le-r x y))
+    let s = or-add-and (bit a q) (bit b q) in
+    let l = and-le-l (bit a q) (bit b q) in
+    let r = and-le-r (bit a q) (bit b q) in
+    (omega (arith, bit-or a b q), omega (arith, bit-or a b q))
+
+xor-same : (a b q : ℕ) → bit a q ≡ bit b q → bit (bitXor a b) q ≡ 0
+xor-same a b q e = bit-xor a b q ∙ ap (bitXor (bit a q)) (sym e) ∙ xor-self (bit a q)
 
 xor-none : (a b q : ℕ) → bit (bitXor a b) q ≡ 0 → bit a q ≡ bit b q
-unfolding bit
 xor-none a b q e =
-    let x = a / 2 ^ q % 2 in
-    let y = b / 2 ^ q % 2 in
-    let f : bitXor x y ≡ 0 = sym (ap (λ z. z % 2) (xor-shr a b q) ∙ xor-mod (a / 2 ^ q) (b / 2 ^ q) 1) ∙ e in
-    omega (arith, f, xor-add-and x y, and-le-l x y, and-le-r x y)
+    omega (arith, bit-xor a b q, xor-add-and (bit a q) (bit b q), and-le-l (bit a q) (bit b q), and-le-r (bit a q) (bit b q))
 
 module _ (before ranks : List ℕ) where
   abbrev differs : ℕ → ℕ
@@ -88,11 +79,11 @@ module _ (before ranks : List ℕ) where
   abbrev pub changed : ℕ
   changed = bitOr (bitOr (bitOr (differs 0) (differs 1)) (differs 2)) (differs 3)
 
-  pub alike-below : (k : ℕ) → k ≤ trailingZeros 32 changed → k ≤ 16 → AlikeBelow before ranks k
-  alike-below k lk l16 j q lj lq = table (each j lj)
+  pub alike-below : (k : ℕ) → k ≤ trailingZeros rankBits changed → k ≤ maxPatterns → AlikeBelow before ranks k
+  alike-below k lk few j q lj lq = table (each j lj)
     where
       none : bit changed q ≡ 0
-      none = zeros-below 32 changed q (omega arith)
+      none = trailing rankBits changed .0 q (omega arith)
 
       three : (bit (bitOr (bitOr (differs 0) (differs 1)) (differs 2)) q ≡ 0) × (bit (differs 3) q ≡ 0)
       three = or-none (bitOr (bitOr (differs 0) (differs 1)) (differs 2)) (differs 3) q none
@@ -112,7 +103,7 @@ module _ (before ranks : List ℕ) where
 
       table : bit (differs j) q ≡ 0 → bitIn before j q ≡ bitIn ranks j q
       table e =
-          let lt : q < 16 = omega arith in
+          let lt : q < maxPatterns = omega arith in
           table-bit (getD before j 0) q lt ∙ xor-none (getD before j 0) (getD ranks j 0) q e ∙ sym (table-bit (getD ranks j 0) q lt)
 
   unchanged : (k : ℕ) → AlikeBelow before ranks k → (q : ℕ) → q < k → T (not (changedOn before ranks q))
@@ -130,7 +121,7 @@ module _ (before ranks : List ℕ) where
       each : (j : ℕ) → j < maxWires → bit (differs j) q ≡ 0
       each j l = xor-same (getD before j 0) (getD ranks j 0) q (h j l)
 
-  set-changed : (q : ℕ) → q < 16 → bit changed q ≡ 1 → T (changedOn before ranks q)
+  set-changed : (q : ℕ) → q < maxPatterns → bit changed q ≡ 1 → T (changedOn before ranks q)
   set-changed q l e =
       ⊎-elim (λ t. t) (λ u. absurd (omega (arith, e, none-set q (same u)))) (decide (changedOn before ranks q))
     where
@@ -143,13 +134,13 @@ module _ (before ranks : List ℕ) where
           sym (table-bit (getD before j 0) q l) ∙ e ∙ table-bit (getD ranks j 0) q l
 
   -- the trailing zeros of what changed, below p, are the lowest pattern that changed; else none did
-  pub change-found : (p : ℕ) → p < 16 → trailingZeros 32 changed < p → trailingZeros 32 changed ≡ firstChange before ranks p
+  pub change-found : (p : ℕ) → p < maxPatterns → trailingZeros rankBits changed < p → trailingZeros rankBits changed ≡ firstChange before ranks p
   unfolding firstChange
   change-found p lp l =
-      let z = trailingZeros 32 changed in
-      sym (lowest-at p (changedOn before ranks) z l (set-changed z (omega arith) (one-at 32 changed (omega arith)))
+      let z = trailingZeros rankBits changed in
+      sym (lowest-at p (changedOn before ranks) z l (set-changed z (omega arith) (trailing rankBits changed .1 (omega arith)))
       (unchanged z (alike-below z (omega arith) (omega arith))))
 
-  pub change-none : (p : ℕ) → p < 16 → p ≤ trailingZeros 32 changed → p ≡ firstChange before ranks p
+  pub change-none : (p : ℕ) → p < maxPatterns → p ≤ trailingZeros rankBits changed → p ≡ firstChange before ranks p
   unfolding firstChange
   change-none p lp l = sym (lowest-none p (changedOn before ranks) (unchanged p (alike-below p l (omega arith))))

@@ -11,7 +11,7 @@ use lib.Dec.{T, T-not, eqb, ltb, eqb→eq, nltb→le}
 use lib.ListN.{getD}
 use lib.Pow.{pow-pos, pow-mono}
 use lib.Seq.{getD-set-same, getD-set-other}
-use Rattle.sheet.specs.Limits.{maxInputs, maxWires}
+use Rattle.sheet.specs.Limits.{maxInputs, maxWires, maxPatterns, maxValues}
 use Rattle.base.proofs.Tests.{cond-has, decide, eq-test}
 use Rattle.table.specs.Bits.{bit}
 use Rattle.table.specs.Cells.{cells, wires}
@@ -37,7 +37,8 @@ use Rattle.parts.specs.Inner.Pairs.{pairOf, pairsOf, cutPair, cutPairs, 
 use Rattle.parts.specs.Inner.Parts.{InLimits, PartSets, rankOf, ranksOf, rankBetween, rankAgain, ranksAgain}
 use Rattle.branch_bound.proofs.Picks.{pick-least}
 use Rattle.parts.proofs.Packing.{rank-table, rank-cells}
-use Rattle.parts.proofs.MaskPairs.{pair-zeros, pair-ones, pair-cut}
+use Rattle.parts.proofs.PairSums.{pair-zeros, pair-ones}
+use Rattle.parts.proofs.PairCuts.{pair-cut}
 
 module _ (n m : ℕ) (sz : InLimits n m) (sets : List ℕ) (ok : PartSets n m sets) where
   pub narrow : Narrow n m sets
@@ -114,14 +115,14 @@ rank-between n sets j = ap₂ (λ z o. rank n (pickOf n z o)) (pair-zeros sets j
 
 -- one part of a split at an open pair
 module _ (n m : ℕ) (sz : InLimits n m) (sets : List ℕ) (ok : PartSets n m sets) (p j b : ℕ) (lp : p < 2 ^ n) (lj : j < m) (free-there : T (free m (ofSets sets p) j)) (lb : b < 2) where
-  sixteen : p < 16
-  sixteen = lt-of-lt-of-le lp (pow-mono {i = n} {j = 4} (sz .inputs))
+  there : p < maxPatterns
+  there = lt-of-lt-of-le lp (pow-mono {i = n} {j = maxInputs} (sz .inputs))
 
-  small : getD sets p 0 < 65536
-  small = lt-of-lt-of-le (ok .small p) (pow-mono {i = 2 ^ m} {j = 2 ^ 4} (pow-mono {i = m} {j = 4} (sz .wires)))
+  small : getD sets p 0 < 2 ^ maxValues
+  small = lt-of-lt-of-le (ok .small p) (pow-mono {i = 2 ^ m} {j = maxValues} (pow-mono {i = m} {j = maxWires} (sz .wires)))
 
   pub with-keep : ofSets (narrowed sets p j b) ≡ keep (ofSets sets) p j b
-  with-keep = narrow-keep sets p j b (rw (ok .long) sixteen) small
+  with-keep = narrow-keep sets p j b (rw (ok .long) there) small
 
   occurs-there : T (occurs m (ofSets sets p) j b)
   occurs-there = go b lb
@@ -133,7 +134,7 @@ module _ (n m : ℕ) (sz : InLimits n m) (sets : List ℕ) (ok : PartSets n m se
 
   pub with-sets : PartSets n m (narrowed sets p j b)
   with-sets =
-      let w = narrowed-narrow n m sets p j b (narrow n m sz sets ok) sixteen in
+      let w = narrowed-narrow n m sets p j b (narrow n m sz sets ok) there in
       record {
         long = w .long;
         small = w .small;
@@ -146,10 +147,10 @@ module _ (n m : ℕ) (sz : InLimits n m) (sets : List ℕ) (ok : PartSets n m se
   with-pairs =
       let w = withBit (getD sets p 0) j b in
       tabulate-cong maxWires (λ i. cutPair (getD (pairsOf sets) i 0) p w i) (pairOf (narrowed sets p j b))
-      (λ i l. ap (λ x. cutPair x p w i) (tabulate-at maxWires (pairOf sets) i l) ∙ sym (pair-cut sets p j b i sixteen (ok .long) small))
+      (λ i l. ap (λ x. cutPair x p w i) (tabulate-at maxWires (pairOf sets) i l) ∙ sym (pair-cut sets p j b i there (ok .long) small))
 
   -- a pick whose bit on p still occurs still suits, and so is still the pick
-  module _ (i : ℕ) (still : T (occurs 4 (member (withBit (getD sets p 0) j b)) i (bit (pickOf n (maskOf sets i 0) (maskOf sets i 1)) p))) where
+  module _ (i : ℕ) (still : T (occurs maxWires (member (withBit (getD sets p 0) j b)) i (bit (pickOf n (maskOf sets i 0) (maskOf sets i 1)) p))) where
     told : (q c : ℕ) → q < 2 ^ n → c < 2 → masked (maskOf sets i 0) (maskOf sets i 1) q c ≡ occurs m (ofSets sets q) i c
     told q c l lc = mask-projection n m sets i q c (sz .wires) (sz .inputs) (narrow n m sz sets ok) l lc
 
@@ -165,7 +166,7 @@ module _ (n m : ℕ) (sz : InLimits n m) (sets : List ℕ) (ok : PartSets n m se
 
     set-there : getD (narrowed sets p j b) p 0 ≡ withBit (getD sets p 0) j b
     unfolding narrowed
-    set-there = getD-set-same sets p (withBit (getD sets p 0) j b) 0 (rw (ok .long) sixteen)
+    set-there = getD-set-same sets p (withBit (getD sets p 0) j b) 0 (rw (ok .long) there)
 
     set-other : (q : ℕ) → (q ≡ p → ⊥) → getD (narrowed sets p j b) q 0 ≡ getD sets q 0
     unfolding narrowed
@@ -215,4 +216,4 @@ module _ (n m : ℕ) (sz : InLimits n m) (sets : List ℕ) (ok : PartSets n m se
       let ep = tabulate-at maxWires (pairOf W) i l in
       let et = rank-table n t (sz .inputs) lt in
       rw (er, ep, et)
-      (cond-has (λ x. x ≡ rankOf n W i) (occurs 4 (member w) i (bit t p)) (λ h. ap (rank n) (sym (still-pick i h))) (λ _. rank-between n W i)))
+      (cond-has (λ x. x ≡ rankOf n W i) (occurs maxWires (member w) i (bit t p)) (λ h. ap (rank n) (sym (still-pick i h))) (λ _. rank-between n W i)))

@@ -6,7 +6,7 @@ use native.Mathlib.Nat.{lt-of-lt-of-le}
 use lib.Arith.{digits-div, digits-mod}
 use lib.ListN.{getD}
 use lib.Pow.{pow-mono}
-use Rattle.sheet.specs.Limits.{maxInputs, maxWires}
+use Rattle.sheet.specs.Limits.{maxInputs, maxWires, maxPatterns}
 use Rattle.table.specs.Bits.{bit}
 use Rattle.table.specs.Cells.{cells}
 use Rattle.table.specs.Inner.Ranks.{rank, tableSpace}
@@ -26,9 +26,9 @@ unfolding cellsIn rank
 rank-cells n t h l = digits-div (cells n t) (whole n t h l)
 
 -- the table's bits are the lowest of its rank
-pub table-bit : (r q : ℕ) → q < 16 → bit (tableIn r) q ≡ bit r q
+pub table-bit : (r q : ℕ) → q < maxPatterns → bit (tableIn r) q ≡ bit r q
 unfolding tableIn
-table-bit r q l = bit-mod r {j = q} {k = 16} l
+table-bit r q l = bit-mod r {j = q} {k = maxPatterns} l
 
 pub tables-at : (ranks : List ℕ) (j : ℕ) → j < maxWires → getD (tablesIn ranks) j 0 ≡ tableIn (getD ranks j 0)
 unfolding tablesIn

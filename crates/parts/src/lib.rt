@@ -7,9 +7,12 @@ use crate::pairs::pairs_of;
 use crate::ranks::table_of;
 use relation::patterns::bit_of;
 use relation::values::has;
+use sheet::Sheet;
+use table::picks::ENTRIES;
 use table::picks::pick;
 ghost use mathlib.Core.Path.{_≡_};
 ghost use Prim.Native.Nat.{_<_, _≤_};
+ghost use Rattle.sheet.specs.Limits.{maxInputs, maxWires, maxPatterns};
 ghost use Rattle.table.specs.Inner.Blocks.{Blocks};
 ghost use Rattle.parts.specs.Inner.Pairs.{Covers, PairsCover};
 ghost use Rattle.parts.specs.Inner.Parts.{InLimits, PartSets, Carried, rankOf, ranksBetween, rankAgain, ranksAgain};
@@ -19,20 +22,20 @@ pub mod pairs; // the two masks of a wire in one number
 
 // What is carried beside the sets: for each wire the patterns on which it can be 0 and those on which it can be 1, in one number, and the rank of its pick.
 pub struct PartPicks {
-    pub pairs: [u32; 4],
-    pub ranks: [u32; 4],
+    pub pairs: [u32; Sheet::WIRES],
+    pub ranks: [u32; Sheet::WIRES],
 }
 
 // The rank of one wire's pick.
-pub fn wire_rank(e: &[u16; 256], n: u8, m: u8, sets: [u16; 16], j: u8) -> u32
-    requires { ⌜ Blocks (now e) × InLimits n m × PartSets n m sets × (j < 4) ⌝ }
+pub fn wire_rank(e: &[u16; ENTRIES], n: u8, m: u8, sets: [u16; Sheet::MAX_PATTERNS], j: u8) -> u32
+    requires { ⌜ Blocks (now e) × InLimits n m × PartSets n m sets × (j < maxWires) ⌝ }
     ensures { λ r. ⌜ r ≡ rankOf n sets j ⌝ }
 {
     pick(e, n, pair_of(n, sets, j))
 }
 
-fn ranks_of(e: &[u16; 256], n: u8, pairs: [u32; 4]) -> [u32; 4]
-    requires { ⌜ Blocks (now e) × (1 ≤ n) × (n ≤ 4) × PairsCover n pairs ⌝ }
+fn ranks_of(e: &[u16; ENTRIES], n: u8, pairs: [u32; Sheet::WIRES]) -> [u32; Sheet::WIRES]
+    requires { ⌜ Blocks (now e) × (1 ≤ n) × (n ≤ maxInputs) × PairsCover n pairs ⌝ }
     ensures { λ r. ⌜ r ≡ ranksBetween n pairs ⌝ }
 {
     [
@@ -44,7 +47,7 @@ fn ranks_of(e: &[u16; 256], n: u8, pairs: [u32; 4]) -> [u32; 4]
 }
 
 // The whole relation as a part.
-pub fn whole_part(e: &[u16; 256], n: u8, m: u8, sets: [u16; 16]) -> PartPicks
+pub fn whole_part(e: &[u16; ENTRIES], n: u8, m: u8, sets: [u16; Sheet::MAX_PATTERNS]) -> PartPicks
     requires { ⌜ Blocks (now e) × InLimits n m × PartSets n m sets ⌝ }
     ensures { λ r. ⌜ Carried n m sets (r .pairs) (r .ranks) ⌝ }
 {
@@ -53,8 +56,8 @@ pub fn whole_part(e: &[u16; 256], n: u8, m: u8, sets: [u16; 16]) -> PartPicks
     PartPicks { pairs, ranks }
 }
 
-fn rank_again(e: &[u16; 256], n: u8, rank: u32, p: u8, j: u8, set: u16, pair: u32) -> u32
-    requires { ⌜ Blocks (now e) × (1 ≤ n) × (n ≤ 4) × (p < 16) × (j < 4) × Covers n pair ⌝ }
+fn rank_again(e: &[u16; ENTRIES], n: u8, rank: u32, p: u8, j: u8, set: u16, pair: u32) -> u32
+    requires { ⌜ Blocks (now e) × (1 ≤ n) × (n ≤ maxInputs) × (p < maxPatterns) × (j < maxWires) × Covers n pair ⌝ }
     ensures { λ r. ⌜ r ≡ rankAgain n rank p j set pair ⌝ }
 {
     let b = (bit_of(table_of(rank), p) % 2) as u8;
@@ -66,14 +69,14 @@ fn rank_again(e: &[u16; 256], n: u8, rank: u32, p: u8, j: u8, set: u16, pair: u3
 }
 
 pub fn ranks_again(
-    e: &[u16; 256],
+    e: &[u16; ENTRIES],
     n: u8,
-    ranks: [u32; 4],
+    ranks: [u32; Sheet::WIRES],
     p: u8,
     set: u16,
-    pairs: [u32; 4],
-) -> [u32; 4]
-    requires { ⌜ Blocks (now e) × (1 ≤ n) × (n ≤ 4) × (p < 16) × PairsCover n pairs ⌝ }
+    pairs: [u32; Sheet::WIRES],
+) -> [u32; Sheet::WIRES]
+    requires { ⌜ Blocks (now e) × (1 ≤ n) × (n ≤ maxInputs) × (p < maxPatterns) × PairsCover n pairs ⌝ }
     ensures { λ r. ⌜ r ≡ ranksAgain n ranks p set pairs ⌝ }
 {
     [

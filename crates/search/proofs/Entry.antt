@@ -4,6 +4,7 @@ use mathlib.Core.Path.{_≡_, refl, ap, _∙_}
 use mathlib.Core.Bool.{true, false}
 use mathlib.Core.List.{List, [], _∷_}
 use lib.ListN.{length}
+use Rattle.sheet.specs.Limits.{maxInputs, maxPatterns}
 use Rattle.base.specs.declared.Refusal.{Refusal}
 use Rattle.base.specs.Cases.{accepting, acceptedCase, refusedCase}
 use Rattle.relation.specs.declared.Relation.{Relation}
@@ -40,23 +41,23 @@ unfolding answerOf markOf
 best-answer n m R s t e h = rw (← e, h)
 
 -- a relation that passes its test, and its sets as the code holds them
-module _ (r : Relation) (long : length (r .sets) ≡ 16) (passes : checkOf r ≡ acceptedCase) where
+module _ (r : Relation) (long : length (r .sets) ≡ maxPatterns) (passes : checkOf r ≡ acceptedCase) where
   fit : Fit r
   fit = check-well-formed r passes
 
-  pub inputs : r .n ≤ 4
-  inputs = fit .few-inputs
+  pub inputs : r .n ≤ maxInputs
+  inputs = fit .sizes .n-most
 
   pub sized : InLimits (r .n) (r .m)
-  sized = record { one = fit .some-inputs; inputs = fit .few-inputs; wires = fit .few-wires }
+  sized = record { one = fit .sizes .n-least; inputs = fit .sizes .n-most; wires = fit .sizes .m-most }
 
   pub as-held : ofSets (cleared (r .n) (r .sets)) ≡ relationOf r
   unfolding relationOf
-  as-held = cleared-takes (r .n) (r .sets) (fit .few-inputs) long
+  as-held = cleared-takes (r .n) (r .sets) (fit .sizes .n-most) long
 
   pub held : PartSets (r .n) (r .m) (cleared (r .n) (r .sets))
   held =
-      let w = cleared-narrow (r .n) (r .m) (r .sets) long (fit .few-inputs) (fit .small) in
+      let w = cleared-narrow (r .n) (r .m) (r .sets) long (fit .sizes .n-most) (fit .small) in
       record { long = w .long; small = w .small; past = w .past; defined = rw as-held (fit .well-defined) }
 
   pub answered : (budget : ℕ) → searchOf r budget ≡ answerOf (r .n) (r .m) (relationOf r) (run (tree (r .n) (r .m)) budget (relationOf r))

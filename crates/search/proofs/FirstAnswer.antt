@@ -12,7 +12,7 @@ use lib.Dec.{T-not, eqb, ltb, eqb→eq, ltb→lt, lt→ltb}
 use lib.ListN.{length, getD, set, length-set}
 use lib.Pow.{pow-mono}
 use lib.Seq.{getD-set-same, getD-set-other}
-use Rattle.sheet.specs.Limits.{maxWires}
+use Rattle.sheet.specs.Limits.{maxWires, maxValues}
 use Rattle.base.proofs.Tests.{decide, eq-test, test-ext}
 use Rattle.table.specs.Bits.{sum, tabulate}
 use Rattle.table.specs.Cells.{cells, wires}
@@ -85,8 +85,8 @@ module _ (n m : ℕ) (sz : InLimits n m) (sets : List ℕ) (j : ℕ) (rest table
       let e = er ∙ ap (rank n) k in
       (ap tableIn e ∙ rank-table n t (sz .inputs) l, ap cellsIn e ∙ rank-cells n t (sz .inputs) l)
 
-  small : (p : ℕ) → getD rest p 0 < 65536
-  small p = lt-of-lt-of-le (tk .kept .small p) (pow-mono {i = 2 ^ m} {j = 2 ^ 4} (pow-mono {i = m} {j = 4} (sz .wires)))
+  small : (p : ℕ) → getD rest p 0 < 2 ^ maxValues
+  small p = lt-of-lt-of-le (tk .kept .small p) (pow-mono {i = 2 ^ m} {j = maxValues} (pow-mono {i = m} {j = maxWires} (sz .wires)))
 
   pub next-taken : (t s : ℕ) → t ≡ tableIn r → s ≡ cellsIn r → s < cellsSpace → ChosenBelow n m sets (j + 1) (agreed rest j t) (set tables j t) (sums + s)
   unfolding left tree sum

@@ -7,7 +7,7 @@ use mathlib.Core.List.{List}
 use native.Mathlib.Omega.{arith}
 use lib.Dec.{T, T-not, not-T, ltb, nltb→le, ltb→lt}
 use lib.ListN.{getD, List·getD-eq-default}
-use Rattle.sheet.specs.Limits.{maxWires}
+use Rattle.sheet.specs.Limits.{maxWires, maxPatterns}
 use Rattle.base.specs.Lowest.{lowest}
 use Rattle.base.proofs.Tests.{cond-has, decide, test-yes, test-no}
 use Rattle.base.proofs.Lowest.{lowest-at, lowest-below}
@@ -66,18 +66,19 @@ found-nowhere n m R X e =
 
 module _ {n m : ℕ} (sz : InLimits n m) {sets : List ℕ} (ok : PartSets n m sets) {tables : List ℕ} (are : tables ≡ picks (tree n m) (ofSets sets)) where
   -- the code's tests
-  pub allowed-test : ((j : ℕ) → getD tables j 0 < 65536) → (p s v : ℕ) → p < 16 → s ≡ sideBySide tables → v ≡ valueIn s p
-      → member (getD sets p 0) v ≡ ofSets sets p (value m (wires (picks (tree n m) (ofSets sets))) p)
+  pub allowed-test : ((j : ℕ) → getD tables j 0 < 2 ^ maxPatterns) → (p : ℕ) → p < maxPatterns → {s v : ℕ} → s ≡ sideBySide tables → v ≡ valueIn s p
+      → {r : Bool} → r ≡ member (getD sets p 0) v → r ≡ ofSets sets p (value m (wires (picks (tree n m) (ofSets sets))) p)
   unfolding picks tree
-  allowed-test small p s v l es ev =
-      ap₂ (λ (S : ℕ → Bool) v. S v) (sym (member-sets sets p))
+  allowed-test small p l es ev er =
+      er
+      ∙ ap₂ (λ (S : ℕ → Bool) v. S v) (sym (member-sets sets p))
       (ev
       ∙ ap (λ x. valueIn x p) es
       ∙ side-value tables p l small
       ∙ value-four m tables p (sz .wires) (λ j l. ap (λ ts. wires ts j) are ∙ tables-past m (pick (tree n m) (ofSets sets)) j l)
       ∙ ap (λ ts. value m (wires ts) p) are)
 
-  pub open-test : (p j : ℕ) → free 4 (member (getD sets p 0)) j ≡ free m (ofSets sets p) j
+  pub open-test : (p j : ℕ) → free maxWires (member (getD sets p 0)) j ≡ free m (ofSets sets p) j
   open-test p j = free-four m (getD sets p 0) j (sz .wires) (ok .small p) ∙ ap (λ S. free m S j) (sym (member-sets sets p))
 
   -- every pick fits, so a pattern in conflict has an open wire

@@ -10,6 +10,8 @@ use parts::ranks::floor_of;
 use parts::ranks::tables_of;
 use parts::ranks_again;
 use relation::values::with_bit;
+use sheet::Sheet;
+use table::picks::ENTRIES;
 ghost use mathlib.Core.Path.{_≡_};
 ghost use Prim.Native.Nat.{_<_, _≤_, _^_};
 ghost use lib.Dec.{T};
@@ -25,14 +27,14 @@ ghost use Rattle.search.specs.Inner.Tally.{stateOf};
 
 // Steps 1 to 4 of the search for one part. Its picks are allowed on the patterns below `from`.
 pub fn visit(
-    e: &[u16; 256],
-    sets: &mut [u16; 16],
-    best: &mut [u16; 4],
+    e: &[u16; ENTRIES],
+    sets: &mut [u16; Sheet::MAX_PATTERNS],
+    best: &mut [u16; Sheet::WIRES],
     tally: &mut [u32; 3],
     n: u8,
     m: u8,
-    pairs: [u32; 4],
-    ranks: [u32; 4],
+    pairs: [u32; Sheet::WIRES],
+    ranks: [u32; Sheet::WIRES],
     floor: u32,
     from: u8,
     budget: u32,
@@ -64,14 +66,14 @@ pub fn visit(
 // The two parts of a split, wire j at 0 on pattern p before wire j at 1. The picks of both are made before the first visit, while what they are made from is
 // at hand; w and r are a part's pairs and ranks. A part that will be discarded is not visited.
 fn split(
-    e: &[u16; 256],
-    sets: &mut [u16; 16],
-    best: &mut [u16; 4],
+    e: &[u16; ENTRIES],
+    sets: &mut [u16; Sheet::MAX_PATTERNS],
+    best: &mut [u16; Sheet::WIRES],
     tally: &mut [u32; 3],
     n: u8,
     m: u8,
-    pairs: [u32; 4],
-    ranks: [u32; 4],
+    pairs: [u32; Sheet::WIRES],
+    ranks: [u32; Sheet::WIRES],
     p: u8,
     j: u8,
     budget: u32,

@@ -5,6 +5,7 @@ use parts::ranks::floor_of;
 use parts::whole_part;
 use relation::Relation;
 use relation::patterns::clear_past;
+use sheet::Sheet;
 use table::picks::blocks;
 ghost use mathlib.Core.Path.{_≡_};
 ghost use Rattle.relation.specs.Tests.{ofSets};
@@ -31,9 +32,9 @@ pub enum Mark {
     Refused(Refusal),
 }
 
-// The reply (document 01, "Search"): a table for each of four wires, their cells, the floor (lower bound) and the visits. All 0 on a refusal.
+// The reply (document 01, "Search"): a table for each wire that there may be, their cells, the floor (lower bound) and the visits. All 0 on a refusal.
 pub struct Answer {
-    pub tables: [u16; 4],
+    pub tables: [u16; Sheet::WIRES],
     pub cells: u32,
     pub floor: u32,
     pub visits: u32,
@@ -41,7 +42,7 @@ pub struct Answer {
 }
 
 // The search of a relation whose sizes and sets were tested, with its sets past the last pattern emptied.
-fn search_sets(n: u8, m: u8, sets: [u16; 16], budget: u32) -> Answer
+fn search_sets(n: u8, m: u8, sets: [u16; Sheet::MAX_PATTERNS], budget: u32) -> Answer
     requires { ⌜ InLimits n m × PartSets n m sets ⌝ }
     ensures { λ r. ⌜ searchReply r ≡ answerOf n m (ofSets sets) (run (tree n m) budget (ofSets sets)) ⌝ }
 {
@@ -99,7 +100,7 @@ pub fn search(relation: Relation, budget: u32) -> Answer
     match checked {
         Verdict::Accepted => search_sets(n, m, clear_past(n, sets), budget),
         Verdict::Refused(refusal) => Answer {
-            tables: [0; 4],
+            tables: [0; Sheet::WIRES],
             cells: 0,
             floor: 0,
             visits: 0,

@@ -5,7 +5,7 @@ use lib.ListN.{getD}
 use Rattle.sheet.specs.Limits.{maxWires}
 use Rattle.table.specs.Bits.{tabulate, isOne}
 use Rattle.table.specs.Inner.Blocks.{Covered}
-use Rattle.table.specs.Inner.Pairs.{zerosIn, onesIn, paired}
+use Rattle.table.specs.Inner.Pairs.{upperHalf, zerosIn, onesIn, paired}
 use Rattle.relation.specs.Tests.{occurs}
 use Rattle.relation.specs.Inner.Masks.{member, maskOf, cut}
 
@@ -16,13 +16,18 @@ pairOf sets j = paired (maskOf sets j 0) (maskOf sets j 1)
 unfoldable pub pairsOf : List ℕ → List ℕ
 pairsOf sets = tabulate maxWires (pairOf sets)
 
+-- a pattern's bits in a pair, where both 0 and 1 occur
+abbrev pub bothSides : ℕ
+bothSides = 1 + upperHalf
+
 -- a pattern's bits in a pair, before they are put at its seat: what occurs of wire j in its set w
 unfoldable pub sidesOf : ℕ → ℕ → ℕ
-sidesOf w j = isOne (occurs 4 (member w) j 1) + 16 * isOne (occurs 4 (member w) j 0)
+sidesOf w j = isOne (occurs maxWires (member w) j 1) + upperHalf * isOne (occurs maxWires (member w) j 0)
 
 -- a pair once pattern p has the set w: the pattern goes from the masks of what no longer occurs
 unfoldable pub cutPair : ℕ → ℕ → ℕ → ℕ → ℕ
-cutPair x p w j = paired (cut (zerosIn x) p (occurs 4 (member w) j 0)) (cut (onesIn x) p (occurs 4 (member w) j 1))
+cutPair x p w j =
+    paired (cut (zerosIn x) p (occurs maxWires (member w) j 0)) (cut (onesIn x) p (occurs maxWires (member w) j 1))
 
 unfoldable pub cutPairs : List ℕ → ℕ → ℕ → List ℕ
 cutPairs pairs p w = tabulate maxWires (λ j. cutPair (getD pairs j 0) p w j)

@@ -4,7 +4,7 @@ use mathlib.Core.Path.{_≡_}
 use mathlib.Core.Bool.{cond}
 use mathlib.Core.List.{List}
 use lib.ListN.{length, getD}
-use Rattle.sheet.specs.Limits.{maxInputs, maxWires}
+use Rattle.sheet.specs.Limits.{maxInputs, maxWires, maxPatterns}
 use Rattle.table.specs.Bits.{bit, tabulate}
 use Rattle.table.specs.Inner.Ranks.{pickOf, rank}
 use Rattle.table.specs.Inner.Pairs.{zerosIn, onesIn}
@@ -20,9 +20,9 @@ pub record InLimits (n m : ℕ) : Type 0 where
   pub inputs : n ≤ maxInputs
   pub wires : m ≤ maxWires
 
--- the sets of a part: sixteen, of values there are, empty past the last pattern, none empty before
+-- the sets of a part: as many as there may be patterns, of values there are, empty past the last pattern, none empty before
 pub record PartSets (n m : ℕ) (sets : List ℕ) : Type 0 where
-  pub long : length sets ≡ 16
+  pub long : length sets ≡ maxPatterns
   pub small : (p : ℕ) → getD sets p 0 < 2 ^ (2 ^ m)
   pub past : NonePast n sets
   pub defined : WellDefined n m (ofSets sets)
@@ -49,7 +49,7 @@ ranksBetween n pairs = tabulate maxWires (λ j. rankBetween n (getD pairs j 0))
 
 -- the rank once pattern p has the set w: a pick whose bit on p still occurs is still the pick
 unfoldable pub rankAgain : ℕ → ℕ → ℕ → ℕ → ℕ → ℕ → ℕ
-rankAgain n r p j w pair = cond (occurs 4 (member w) j (bit (tableIn r) p)) r (rankBetween n pair)
+rankAgain n r p j w pair = cond (occurs maxWires (member w) j (bit (tableIn r) p)) r (rankBetween n pair)
 
 unfoldable pub ranksAgain : ℕ → List ℕ → ℕ → ℕ → List ℕ → List ℕ
 ranksAgain n ranks p w pairs = tabulate maxWires (λ j. rankAgain n (getD ranks j 0) p j w (getD pairs j 0))

@@ -4,7 +4,8 @@ use native.Mathlib.Omega.{arith}
 use lib.Bits.{bitAnd, and-le-l}
 use mir.Val.{Fits}
 use mir.Syntax.{w32}
-use Rattle.parts.proofs.MaskPairs.{shifted, cut-taken}
+use Rattle.parts.specs.Inner.Pairs.{bothSides}
+use Rattle.parts.proofs.PairCuts.{shifted, cut-taken}
 use borrow.Author.Needs.{needs}
 use Rattle.parts.proofs.pairs.cut_pair.Statement.{statement}
 use Rattle.parts.proofs.pairs.cut_pair.Tie as tie
@@ -34,8 +35,8 @@ returns c =
     let k = c .before .sides in
     let s = c .seat-of in
     let fit : Fits w32 (a .x) = search needs in
-    ap (λ y. a .x - bitAnd (a .x) y) (shifted (17 - k .result) (s .result) (omega arith) (s .ensures .1))
-    ∙ cut-taken (a .x) (a .p) (a .set) (a .j) (fit .fits) (q .0) (ap (λ y. 17 - y) (k .ensures .0)) (s .ensures .0)
+    ap (λ y. a .x - bitAnd (a .x) y) (shifted (bothSides - k .result) (s .result) (omega arith) (s .ensures .1))
+    ∙ cut-taken (a .x) (a .p) (a .set) (a .j) (fit .fits) (q .0) (ap (λ y. bothSides - y) (k .ensures .0)) (s .ensures .0)
 
 pub cut-pair-spec : {M : Type 1} → statement M
 cut-pair-spec = tie.close (tie.spec sides-requires sub-lost seat-of-requires cast-result shl-result sub-result returns)

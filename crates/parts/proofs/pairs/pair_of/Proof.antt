@@ -1,11 +1,9 @@
-use Prim.Native.Nat.{_+_, _*_, _-_, _^_, _<_, _≤_}
-use mathlib.Core.Path.{_≡_, refl, ap, _∙_}
+use Prim.Native.Nat.{_-_, _<_, _≤_}
+use mathlib.Core.Path.{_≡_, refl, _∙_}
 use native.Mathlib.Omega.{arith}
-use lib.ListN.{getD}
+use Rattle.sheet.specs.Limits.{maxPatterns}
 use Rattle.table.specs.Bits.{sum}
-use Rattle.table.specs.Inner.Pairs.{seat}
-use Rattle.parts.specs.Inner.Pairs.{sidesOf}
-use Rattle.parts.proofs.MaskPairs.{pairBelow, below-room, below-more, below-all}
+use Rattle.parts.proofs.PairSums.{pairBelow, below-room, below-more, below-all}
 use borrow.Author.Needs.{needs}
 use Rattle.parts.proofs.pairs.pair_of.Statement.{statement}
 use Rattle.parts.proofs.pairs.pair_of.Tie as tie
@@ -36,7 +34,7 @@ put-pair-requires : tie.Need-put-pair-requires Inv-loop μ-loop
 put-pair-requires c κs =
     let a = c .before .before .before .args in
     let l = c .before .loop in
-    let b : l .p < 16 = omega (arith, c .before .before .patterns-of .ensures .1) in
+    let b : l .p < maxPatterns = omega (arith, c .before .before .patterns-of .ensures .1) in
     (b, c .before .before .before .pre .1, rw (l .inv .1) (below-room (l .p) (a .t2) (a .j) b))
 
 add-p : tie.Need-add-p Inv-loop μ-loop
@@ -49,15 +47,13 @@ loop-again : tie.Need-loop-again Inv-loop μ-loop
 loop-again c =
     let a = c .before .before .before .before .args in
     let l = c .before .before .loop in
-    (omega arith, c .put-pair .ensures ∙ ap (λ x. x + sidesOf (getD (a .t2) (l .p) 0) (a .j) * 2 ^ seat (l .p)) (l .inv .1) ∙ below-more (l .p) (a .t2) (a .j))
+    (omega arith, below-more (l .p) (a .t2) (a .j) (l .inv .1) (c .put-pair .ensures))
 
 returns : tie.Need-returns Inv-loop μ-loop
 returns c =
-    let a = c .before .before .before .args in
-    let q = c .before .before .before .pre in
+    let i = c .before .before .before in
     let l = c .before .loop in
-    let e : l .p ≡ 2 ^ a .n = omega (arith, c .before .before .patterns-of .ensures .0) in
-    l .inv .1 ∙ ap (λ p. pairBelow p (a .t2) (a .j)) e ∙ below-all (a .n) (a .t2) (a .j) (q .0) (q .2)
+    l .inv .1 ∙ below-all (i .args .t2) (i .args .j) (i .pre .0) (i .pre .2) (omega (arith, c .before .before .patterns-of .ensures .2 (i .pre .0)))
 
 pub pair-of-spec : {M : Type 1} → statement M
 pair-of-spec =

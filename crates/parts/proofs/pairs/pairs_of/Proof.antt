@@ -1,9 +1,13 @@
-use Prim.Native.Nat.{_+_, _-_, _^_, _<_, _≤_}
-use mathlib.Core.Path.{_≡_, refl, ap, _∙_}
+use Prim.Native.Nat.{ℕ, _+_, _*_, _-_, _^_, _<_, _≤_}
+use mathlib.Core.Path.{_≡_, refl, _∙_}
 use native.Mathlib.Omega.{arith}
+use lib.ListN.{getD}
+use Rattle.sheet.specs.Limits.{maxWires, maxPatterns}
 use Rattle.table.specs.Bits.{sum, tabulate}
+use Rattle.table.specs.Inner.Pairs.{pairBits, seat}
 use Rattle.table.proofs.Bits.{tabulate-four}
-use Rattle.parts.proofs.MaskPairs.{pairBelow, pairsBelow, pairs-room, pairs-more, pairs-all}
+use Rattle.parts.specs.Inner.Pairs.{bothSides}
+use Rattle.parts.proofs.PairSums.{pairBelow, pairsBelow, pairs-room, pairs-more, pairs-all}
 use borrow.Author.Needs.{needs}
 use Rattle.parts.proofs.pairs.pairs_of.Statement.{statement}
 use Rattle.parts.proofs.pairs.pairs_of.Tie as tie
@@ -33,42 +37,34 @@ array-read-set c = omega (arith, c .before .before .patterns-of .ensures .1)
 array-read-put-pair : tie.Need-array-read-put-pair Inv-loop μ-loop
 array-read-put-pair c = search needs
 
-put-pair-requires : tie.Need-put-pair-requires Inv-loop μ-loop
-put-pair-requires c κs =
-    let a = c .before .before .before .args in
+-- every wire's pair has room for one pattern more
+room : (c : tie.In-loop Inv-loop μ-loop) (j : ℕ) → j < maxWires
+    → let l = c .before .loop in (l .p < maxPatterns) × (j < maxWires) × (getD (l .found) j 0 + bothSides * 2 ^ seat (l .p) < 2 ^ pairBits)
+room c j lj =
     let l = c .before .loop in
-    let b : l .p < 16 = omega (arith, c .before .before .patterns-of .ensures .1) in
-    (b, omega arith, pairs-room (l .p) (a .t2) 0 (omega arith) b (l .inv .1))
+    let b : l .p < maxPatterns = omega (arith, c .before .before .patterns-of .ensures .1) in
+    (b, lj, pairs-room (l .p) (c .before .before .before .args .t2) j lj b (l .inv .1))
+
+put-pair-requires : tie.Need-put-pair-requires Inv-loop μ-loop
+put-pair-requires c κs = room c 0 (omega arith)
 
 array-read-put-pair-2 : tie.Need-array-read-put-pair-2 Inv-loop μ-loop
 array-read-put-pair-2 c = search needs
 
 put-pair-requires-2 : tie.Need-put-pair-requires-2 Inv-loop μ-loop
-put-pair-requires-2 c κs =
-    let a = c .before .before .before .before .args in
-    let l = c .before .before .loop in
-    let b : l .p < 16 = omega (arith, c .before .before .before .patterns-of .ensures .1) in
-    (b, omega arith, pairs-room (l .p) (a .t2) 1 (omega arith) b (l .inv .1))
+put-pair-requires-2 c κs = room (c .before) 1 (omega arith)
 
 array-read-put-pair-3 : tie.Need-array-read-put-pair-3 Inv-loop μ-loop
 array-read-put-pair-3 c = search needs
 
 put-pair-requires-3 : tie.Need-put-pair-requires-3 Inv-loop μ-loop
-put-pair-requires-3 c κs =
-    let a = c .before .before .before .before .before .args in
-    let l = c .before .before .before .loop in
-    let b : l .p < 16 = omega (arith, c .before .before .before .before .patterns-of .ensures .1) in
-    (b, omega arith, pairs-room (l .p) (a .t2) 2 (omega arith) b (l .inv .1))
+put-pair-requires-3 c κs = room (c .before .before) 2 (omega arith)
 
 array-read-put-pair-4 : tie.Need-array-read-put-pair-4 Inv-loop μ-loop
 array-read-put-pair-4 c = search needs
 
 put-pair-requires-4 : tie.Need-put-pair-requires-4 Inv-loop μ-loop
-put-pair-requires-4 c κs =
-    let a = c .before .before .before .before .before .before .args in
-    let l = c .before .before .before .before .loop in
-    let b : l .p < 16 = omega (arith, c .before .before .before .before .before .patterns-of .ensures .1) in
-    (b, omega arith, pairs-room (l .p) (a .t2) 3 (omega arith) b (l .inv .1))
+put-pair-requires-4 c κs = room (c .before .before .before) 3 (omega arith)
 
 add-p : tie.Need-add-p Inv-loop μ-loop
 add-p c = search needs
@@ -78,23 +74,21 @@ loop-less c = search needs
 
 loop-again : tie.Need-loop-again Inv-loop μ-loop
 loop-again c =
-    let a = c .before .before .before .before .before .before .before .args in
+    let sets = c .before .before .before .before .before .before .before .args .t2 in
     let l = c .before .before .before .before .before .loop in (
       omega arith,
-      tabulate-four (pairBelow (l .p + 1) (a .t2))
-          (pairs-more (l .p) (a .t2) 0 (omega arith) (l .inv .1) (c .before .before .before .put-pair .ensures))
-          (pairs-more (l .p) (a .t2) 1 (omega arith) (l .inv .1) (c .before .before .put-pair2 .ensures))
-          (pairs-more (l .p) (a .t2) 2 (omega arith) (l .inv .1) (c .before .put-pair3 .ensures))
-          (pairs-more (l .p) (a .t2) 3 (omega arith) (l .inv .1) (c .put-pair4 .ensures)),
+      tabulate-four (pairBelow (l .p + 1) sets)
+          (pairs-more (l .p) sets 0 (omega arith) (l .inv .1) (c .before .before .before .put-pair .ensures))
+          (pairs-more (l .p) sets 1 (omega arith) (l .inv .1) (c .before .before .put-pair2 .ensures))
+          (pairs-more (l .p) sets 2 (omega arith) (l .inv .1) (c .before .put-pair3 .ensures))
+          (pairs-more (l .p) sets 3 (omega arith) (l .inv .1) (c .put-pair4 .ensures)),
     )
 
 returns : tie.Need-returns Inv-loop μ-loop
 returns c =
-    let a = c .before .before .before .args in
-    let q = c .before .before .before .pre in
+    let i = c .before .before .before in
     let l = c .before .loop in
-    let e : l .p ≡ 2 ^ a .n = omega (arith, c .before .before .patterns-of .ensures .0) in
-    l .inv .1 ∙ ap (λ p. pairsBelow p (a .t2)) e ∙ pairs-all (a .n) (a .t2) (q .0) (q .1)
+    l .inv .1 ∙ pairs-all (i .args .t2) (i .pre .0) (i .pre .1) (omega (arith, c .before .before .patterns-of .ensures .2 (i .pre .0)))
 
 pub pairs-of-spec : {M : Type 1} → statement M
 pairs-of-spec =

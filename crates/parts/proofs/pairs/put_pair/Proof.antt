@@ -1,9 +1,7 @@
-use Prim.Native.Nat.{_+_, _*_, _^_, _≤_}
-use mathlib.Core.Path.{_≡_, ap, ap₂, _∙_}
+use Prim.Native.Nat.{_+_, _*_, _^_}
+use mathlib.Core.Path.{ap, ap₂, _∙_}
 use native.Mathlib.Omega.{arith}
-use native.Mathlib.Nat.{mul-le-mul-right}
-use Rattle.table.specs.Inner.Pairs.{seat}
-use Rattle.parts.proofs.MaskPairs.{shifted}
+use Rattle.parts.proofs.PairCuts.{shifted, put-fits}
 use borrow.Author.Needs.{needs}
 use Rattle.parts.proofs.pairs.put_pair.Statement.{statement}
 use Rattle.parts.proofs.pairs.put_pair.Tie as tie
@@ -22,18 +20,16 @@ shl-result c = omega (arith, c .seat-of .ensures .1)
 
 add-result : tie.Need-add-result
 add-result c =
-    let a = c .before .before .args in
-    let e = shifted (c .before .sides .result) (c .seat-of .result) (c .before .sides .ensures .1) (c .seat-of .ensures .1) in
-    let l : c .before .sides .result * 2 ^ seat (a .p) ≤ 17 * 2 ^ seat (a .p) = mul-le-mul-right (2 ^ seat (a .p)) (c .before .sides .ensures .1) in
-    let s : c .before .sides .result * 2 ^ c .seat-of .result ≡ c .before .sides .result * 2 ^ seat (a .p) = ap (λ k. c .before .sides .result * 2 ^ k) (c .seat-of .ensures .0) in
-    omega (arith, c .before .before .pre .2)
+    let k = c .before .sides in
+    let s = c .seat-of in
+    omega (arith, put-fits (c .before .before .args .x) (k .result) (k .ensures .1) (s .ensures .0) (s .ensures .1) (c .before .before .pre .2))
 
 returns : tie.Need-returns
 returns c =
-    let a = c .before .before .args in
-    ap (λ y. a .x + y)
-    (shifted (c .before .sides .result) (c .seat-of .result) (c .before .sides .ensures .1) (c .seat-of .ensures .1)
-    ∙ ap₂ (λ y k. y * 2 ^ k) (c .before .sides .ensures .0) (c .seat-of .ensures .0))
+    let x = c .before .before .args .x in
+    let k = c .before .sides in
+    let s = c .seat-of in
+    ap (λ y. x + y) (shifted (k .result) (s .result) (k .ensures .1) (s .ensures .1) ∙ ap₂ (λ y i. y * 2 ^ i) (k .ensures .0) (s .ensures .0))
 
 pub put-pair-spec : {M : Type 1} → statement M
 put-pair-spec = tie.close (tie.spec sides-requires seat-of-requires cast-result shl-result add-result returns)

@@ -2,9 +2,10 @@ use Prim.Native.Nat.{_+_, _*_}
 use mathlib.Core.Path.{ap, ap₂, _∙_}
 use native.Mathlib.Omega.{arith}
 use Rattle.table.specs.Bits.{isOne}
+use Rattle.table.specs.Inner.Pairs.{upperHalf}
 use Rattle.table.proofs.BitColumns.{isOne-lt-two}
 use Rattle.parts.specs.Inner.Pairs.{sidesOf}
-use Rattle.parts.proofs.MaskPairs.{sides-le}
+use Rattle.parts.proofs.PairSums.{sides-le}
 use borrow.Author.Needs.{needs}
 use Rattle.parts.proofs.pairs.sides.Statement.{statement}
 use Rattle.parts.proofs.pairs.sides.Tie as tie
@@ -32,7 +33,8 @@ returns : tie.Need-returns
 unfolding sidesOf
 returns c =
     let a = c .before .before .before .before .args in
-    let e = ap₂ (λ x y. x + 16 * y) (c .before .before .one .ensures ∙ ap (isOne) (c .before .before .before .has .ensures)) (c .one2 .ensures ∙ ap (isOne) (c .before .has2 .ensures)) in
+    let e = ap₂ (λ x y. x + upperHalf * y) (c .before .before .one .ensures ∙ ap isOne (c .before .before .before .has .ensures))
+    (c .one2 .ensures ∙ ap isOne (c .before .has2 .ensures)) in
     (e, omega (arith, e, sides-le (a .set) (a .j)))
 
 pub sides-spec : {M : Type 1} → statement M
