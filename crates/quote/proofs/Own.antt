@@ -10,6 +10,7 @@ use lib.Dec.{T, ltb, leb}
 use lib.ListN.{length, getD}
 use Rattle.base.specs.Cases.{accepting, acceptedOutcome, acceptedCase, refusedCase}
 use Rattle.base.specs.Refusals.{refusalAt, shortBuffer}
+use Rattle.sheet.specs.Limits.{isBeyond}
 use Rattle.table.specs.Bits.{sum}
 use Rattle.table.specs.Cells.{cells}
 use Rattle.table.specs.Tree.{Tree, selectors, reduced}
@@ -27,12 +28,13 @@ use Rattle.search.specs.Promise.{Promise}
 use Rattle.search.proofs.Families.{fair, smallest}
 use Rattle.search.proofs.Promised.{run-promise}
 use Rattle.stage.specs.Bytes.{size}
-use Rattle.stage.specs.Written.{stageTrees, stageOf, firstOut, tableOut, writtenOf}
+use Rattle.stage.specs.Written.{stageTrees, stageOf, firstOut, writtenOf}
 use Rattle.stage.specs.Read.{got, readStage}
 use Rattle.base.proofs.Lowest.{lowest-none}
 use Rattle.unit.proofs.Choice.{family-same}
 use Rattle.unit.proofs.Rivals.{byWire}
-use Rattle.stage.proofs.Sizes.{Sized, sizes-fit}
+use Rattle.sheet.specs.Inner.Sized.{Sized}
+use Rattle.sheet.proofs.Sizes.{sizes-fit}
 use Rattle.stage.proofs.Lengths.{trees-length}
 use Rattle.stage.proofs.Sheets.{written-back}
 
@@ -127,7 +129,7 @@ module _ (r : Relation) (passes : checkOf r ≡ acceptedCase) (budget : ℕ) whe
   written room =
       rw (
         sizes-fit (r .n) (r .m) sized,
-        lowest-none (r .m) (λ j. tableOut (r .n) (getD (found .tables) j 0)) (λ j l. nleb (2 ^ (2 ^ r .n)) (getD (found .tables) j 0) (in-range j l)),
+        lowest-none (r .m) (λ j. isBeyond (2 ^ r .n) (getD (found .tables) j 0)) (λ j l. nleb (2 ^ (2 ^ r .n)) (getD (found .tables) j 0) (in-range j l)),
         le-ltb (r .m) (r .m) (le-refl (r .m)),
       )
     where

@@ -1,8 +1,9 @@
 -- Document 01, "Stage sheet": the bytes of a stage, one decision tree for each wire.
-use Prim.Native.Nat.{ℕ, zero, suc, _+_}
+use Prim.Native.Nat.{ℕ, zero, suc, _+_, _-_, _*_}
 use mathlib.Core.Bool.{cond}
 use mathlib.Core.List.{List, [], _∷_, _++_}
 use lib.Dec.{eqb}
+use Rattle.sheet.specs.Limits.{maxWires, maxPatterns}
 use Rattle.table.specs.Tree.{Tree, con, sel, Ordered, selectors}
 
 -- a constant is one byte
@@ -37,6 +38,10 @@ unfoldable pub size : List Tree → ℕ
 size [] = zero
 size (x ∷ xs) = selectors x + size xs
 
--- the length of the longest stage: four wires of 15 selectors each
+-- no stage has more cells: a tree has fewer selectors than there are patterns
+abbrev pub mostCells : ℕ
+mostCells = maxWires * (maxPatterns - 1)
+
+-- the length of the longest stage
 abbrev pub longestStage : ℕ
-longestStage = 196
+longestStage = 4 + 3 * maxWires + 3 * mostCells
