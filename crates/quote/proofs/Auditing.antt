@@ -21,7 +21,6 @@ use Rattle.relation.specs.Tests.{ofSets}
 use Rattle.table.specs.Cells.{cells, wires}
 use Rattle.relation.specs.Handed.{relationOf}
 use Rattle.relation.proofs.Sets.{value-four}
-use Rattle.stage_reader.specs.declared.Answer.the-variants.{Accepted, Refused}
 use Rattle.stage_reader.specs.declared.StageRead.{StageRead}
 use Rattle.stage_reader.specs.Cases.{stageReply}
 use Rattle.base.specs.Each.{Each}
@@ -35,7 +34,7 @@ use Rattle.stage.specs.Read.{readStage}
 use Rattle.stage.specs.Reply.{tableOf, stageTables, replyToStage}
 use Rattle.stage_reader.proofs.Replies.{told-refused, Got, told-got}
 use Rattle.stage.proofs.Sheets.{accepted}
-use Rattle.base.specs.declared.Verdict.the-variants.{Accepted as Taken, Refused as NotTaken}
+use Rattle.base.specs.declared.Verdict.the-variants.{Accepted, Refused}
 use Rattle.unit.specs.declared.Formed.{Formed}
 use Rattle.unit.specs.Cases.{formedReply}
 use Rattle.unit.specs.Formed.{formedOf}
@@ -104,10 +103,10 @@ module _ (r : Relation) (bytes : List ℕ) (rd : StageRead) (e : stageReply rd �
 
 -- the whole audit, from what forming the relation gave
 module _ (sheet stage : List ℕ) (f : Formed) (ef : formedReply f ≡ formedOf sheet) where
-  pub formed-audit : f .answer ≡ Taken → auditedStage (f .relation) (readStage stage) ≡ auditedOf sheet stage
+  pub formed-audit : f .answer ≡ Accepted → auditedStage (f .relation) (readStage stage) ≡ auditedOf sheet stage
   unfolding auditedOf auditedFrom
   formed-audit h = rw (← ef, h)
 
-  pub turned-audit : (x : Refusal) → f .answer ≡ NotTaken x → refusing refusedOutcome x ≡ auditedOf sheet stage
+  pub turned-audit : (x : Refusal) → f .answer ≡ Refused x → refusing refusedOutcome x ≡ auditedOf sheet stage
   unfolding auditedOf auditedFrom
   turned-audit x h = rw (← ef, h)

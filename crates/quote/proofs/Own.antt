@@ -11,6 +11,7 @@ use lib.ListN.{length, getD}
 use Rattle.base.specs.Cases.{accepting, acceptedOutcome, acceptedCase, refusedCase}
 use Rattle.base.specs.Refusals.{refusalAt, shortBuffer}
 use Rattle.base.proofs.Lowest.{lowest-none}
+use Rattle.sheet.specs.Limits.{isBeyond}
 use Rattle.sheet.specs.Inner.Sized.{Sized}
 use Rattle.sheet.proofs.Sizes.{sizes-fit}
 use Rattle.table.specs.Drawing.{got, drawnCells}
@@ -28,7 +29,7 @@ use Rattle.branch_bound.proofs.Families.{fair, smallest}
 use Rattle.branch_bound.proofs.Treating.{run-promise}
 use Rattle.stage.specs.Trees.{treeDrawing}
 use Rattle.stage.specs.Read.{readStage}
-use Rattle.stage.specs.Written.{stageTrees, stageOf, firstOut, tableOut, writtenOf}
+use Rattle.stage.specs.Written.{stageTrees, stageOf, firstOut, writtenOf}
 use Rattle.stage.proofs.Sheets.{written-back}
 use Rattle.stage.proofs.TreeCounts.{tree-counts}
 
@@ -92,7 +93,7 @@ module _ (r : Relation) (passes : checkOf r ≡ acceptedCase) (budget : ℕ) whe
   written room =
       rw (
         sizes-fit (r .n) (r .m) sized,
-        lowest-none (r .m) (λ j. tableOut (r .n) (getD (found .tables) j 0)) (λ j l. nleb (2 ^ (2 ^ r .n)) (getD (found .tables) j 0) (in-range j l)),
+        lowest-none (r .m) (λ j. isBeyond (2 ^ r .n) (getD (found .tables) j 0)) (λ j l. nleb (2 ^ (2 ^ r .n)) (getD (found .tables) j 0) (in-range j l)),
         le-ltb (r .m) (r .m) (le-refl (r .m)),
       )
     where

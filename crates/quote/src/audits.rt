@@ -1,12 +1,12 @@
 // The audit: whether a stage keeps to a sheet.
 use crate::Audited;
 use base::Refusal;
+use base::Verdict;
 use relation::Relation;
 use relation::patterns::value_of;
 use relation::values::contains;
 use sheet::Sheet;
 use sheet::limits::patterns_of;
-use stage_reader::Answer;
 use stage_reader::read_stage;
 ghost use mathlib.Core.Path.{_≡_};
 ghost use Prim.Native.Nat.{_≤_, _^_};
@@ -17,7 +17,7 @@ ghost use Rattle.relation.specs.Tests.{ofSets};
 ghost use Rattle.table.specs.Cells.{wires};
 ghost use Rattle.stage.specs.Read.{readStage};
 ghost use Rattle.base.specs.declared.Refusal.{Refusal};
-ghost use Rattle.stage_reader.specs.declared.Answer.the-variants.{Refused as NotTaken};
+ghost use Rattle.base.specs.declared.Verdict.the-variants.{Refused as NotTaken};
 ghost use Rattle.quote.specs.declared.Audited.the-variants.{StageRefused};
 ghost use Rattle.quote.specs.Cases.{auditedCase};
 ghost use Rattle.quote.specs.Audit.{auditedStage};
@@ -38,12 +38,12 @@ fn allowed_everywhere(n: u8, sets: [u16; Sheet::MAX_PATTERNS], tables: [u16; She
 }
 
 // What the refusal of a stage sheet is to the audit. `audit_stage` asks it of no accepted one; sizes are all that could be wrong with that.
-fn refused_stage(answer: Answer) -> Audited
+fn refused_stage(answer: Verdict) -> Audited
     ensures { λ r. ⌜ ((f : Refusal) → answer ≡ NotTaken f → r ≡ StageRefused f) ⌝ }
 {
     match answer {
-        Answer::Refused(refusal) => Audited::StageRefused(refusal),
-        Answer::Accepted => Audited::StageRefused(Refusal::at(Refusal::SIZES_DIFFER, 0)),
+        Verdict::Refused(refusal) => Audited::StageRefused(refusal),
+        Verdict::Accepted => Audited::StageRefused(Refusal::at(Refusal::SIZES_DIFFER, 0)),
     }
 }
 
@@ -53,7 +53,7 @@ pub fn audit_stage(relation: Relation, s: &[u8]) -> Audited
 {
     let read = read_stage(s);
     let answer = read.answer;
-    let Answer::Accepted = answer else {
+    let Verdict::Accepted = answer else {
         return refused_stage(answer);
     };
     if read.n != relation.n {

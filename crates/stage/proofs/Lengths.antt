@@ -1,5 +1,5 @@
 -- Laws of the length of a stage (document 01, "Stage sheet"): four bytes for the head and the end, three for each wire and three for each cell.
-use Prim.Native.Nat.{ℕ, zero, suc, _+_, _*_, _^_, _≤_}
+use Prim.Native.Nat.{ℕ, zero, suc, _+_, _*_, _^_, _-_, _<_, _≤_}
 use mathlib.Core.Path.{_≡_, refl, _∙_}
 use mathlib.Core.List.{List, [], _∷_, _++_, map, map-append}
 use native.Mathlib.Omega.{arith}
@@ -7,6 +7,7 @@ use lib.ListN.{length, getD, take, length-append, length-map}
 use lib.Seq.{length-take-le, take-suc}
 use lib.Pow.{pow-mono}
 use Rattle.table.specs.Drawing.{drawnCells}
+use Rattle.sheet.specs.Limits.{maxInputs, maxWires, maxPatterns}
 use Rattle.table.specs.Bits.{sum}
 use Rattle.table.specs.Cells.{cells}
 use Rattle.table.specs.Tree.{Tree, con, sel, selectors, reduced}
@@ -56,15 +57,16 @@ unfolding stageOf
 stage-length n m tables h =
     omega (arith, stage-bytes-length n m (stageTrees n m tables), trees-length n m tables h, trees-size n m tables h)
 
--- a wire of at most four inputs has at most 15 cells
-pub cells-few : (n t : ℕ) → n ≤ 4 → cells n t ≤ 15
-cells-few n t h = let p : 2 ^ n ≤ 2 ^ 4 = pow-mono h in omega (arith, cells-lt n t)
+-- a wire has fewer cells than there are patterns
+pub cells-few : (n t : ℕ) → n ≤ maxInputs → cells n t < maxPatterns
+cells-few n t h = let p : 2 ^ n ≤ maxPatterns = pow-mono {j = maxInputs} h in omega (arith, cells-lt n t)
 
-pub stage-cells-few : (n m : ℕ) (tables : List ℕ) → n ≤ 4 → stageCells n m tables ≤ m * 15
+pub stage-cells-few : (n m : ℕ) (tables : List ℕ) → n ≤ maxInputs → stageCells n m tables ≤ m * (maxPatterns - 1)
 unfolding stageCells
-stage-cells-few n m tables h = sum-bound m 15 (λ j. cells n (getD tables j 0)) (λ j _. cells-few n (getD tables j 0) h)
+stage-cells-few n m tables h =
+    sum-bound m (maxPatterns - 1) (λ j. cells n (getD tables j 0)) (λ j _. omega (arith, cells-few n (getD tables j 0) h))
 
-pub stage-length-most : (n m : ℕ) (tables : List ℕ) → m ≤ length tables → n ≤ 4 → m ≤ 4 → length (stageOf n m tables) ≤ longestStage
+pub stage-length-most : (n m : ℕ) (tables : List ℕ) → m ≤ length tables → n ≤ maxInputs → m ≤ maxWires → length (stageOf n m tables) ≤ longestStage
 stage-length-most n m tables h a b = omega (arith, stage-length n m tables h, stage-cells-few n m tables a)
 
 -- a wire that is written

@@ -1,4 +1,3 @@
-pub mod Sizes
 pub mod Lengths
 pub mod Tables
 pub mod Reading

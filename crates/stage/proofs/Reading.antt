@@ -13,7 +13,7 @@ use Rattle.base.proofs.Tests.{cond-has, cond-has₂, test-no}
 use Rattle.table.specs.Tree.{Tree, con, sel, Ordered}
 use Rattle.stage.specs.Bytes.{treeBytes}
 use Rattle.stage.specs.Read.{Read, taken, fault, andThen, misplaced, operand, branchesAt, selectorAt, treeFrom, treeWithin, treeAt}
-use Rattle.stage.proofs.Sizes.{count-in, count-fits}
+use Rattle.sheet.proofs.Sizes.{count-in, count-fits}
 
 abbrev Branch : Type 0
 Branch = ℕ → ℕ → List ℕ → Read Tree

@@ -21,7 +21,8 @@ use Rattle.stage.specs.Read.{readStage}
 use Rattle.stage.specs.Reply.{tableOf, stageTables, replyToStage}
 use Rattle.stage.specs.RoundTrip.{bytesWritten, givenBack, RoundTrip}
 use Rattle.stage.proofs.Lengths.{trees-size}
-use Rattle.stage.proofs.Sizes.{Sized, sizes-in}
+use Rattle.sheet.specs.Inner.Sized.{Sized}
+use Rattle.sheet.proofs.Sizes.{sizes-in}
 use Rattle.stage.proofs.Sheets.{taken-in, written-back}
 use Rattle.stage.proofs.Written.{tables-in}
 

@@ -2,6 +2,7 @@
 use Prim.Native.Nat.{ℕ}
 use mathlib.Core.Path.{_≡_, refl}
 use mathlib.Core.List.{List, [], _∷_}
+use Rattle.table.specs.Drawing.{drawnCells, got, noStage}
 use Rattle.base.specs.Cases.{accepting, acceptedOutcome, refusedCase}
 use Rattle.base.specs.Refusals.{refusalAt, cutShort, unknown, outOfRange, trailing, outOfTurn, notAscending, shortBuffer}
 use Rattle.base.specs.Lowest.{lowest}
@@ -12,7 +13,6 @@ use Rattle.stage.specs.Bytes.{treeBytes, wiresBytes, stageBytes}
 use Rattle.stage.specs.Trees.{size}
 use Rattle.stage.specs.Written.{stageTrees, stageOf, firstOut, writtenOf}
 use Rattle.stage.specs.Read.{andThen, misplaced, dueNumber, due, operand, branchesAt, selectorAt, treeFrom, treeWithin, treeAt, wireAt, wiresAt, nothingAfter, endAt, closed, readStage}
-use Rattle.table.specs.Drawing.{got, noStage, drawnCells}
 use Rattle.stage.specs.Reply.{tableOf, stageTables}
 
 -- all meanings of reading, and of writing, open
@@ -45,18 +45,12 @@ pub a-bytes : stageOf 2 2 (3 ∷ 10 ∷ 0 ∷ 0 ∷ []) ≡ stage-a
 unfolding writing
 a-bytes = refl
 
--- its writing, in a buffer that lacks one byte and in one that has just enough
-pub a-short : writtenOf 2 2 (3 ∷ 10 ∷ 0 ∷ 0 ∷ []) 15 ≡ refusedCase (refusalAt shortBuffer 16)
+-- its writing: in a buffer that lacks one byte, in one that has just enough, and with a table that has a bit too many
+pub a-written : (writtenOf 2 2 (3 ∷ 10 ∷ 0 ∷ 0 ∷ []) 15 ≡ refusedCase (refusalAt shortBuffer 16))
+    × (writtenOf 2 2 (3 ∷ 10 ∷ 0 ∷ 0 ∷ []) 16 ≡ accepting acceptedOutcome 16)
+    × (writtenOf 2 2 (3 ∷ 16 ∷ 0 ∷ 0 ∷ []) 16 ≡ refusedCase (refusalAt outOfRange 1))
 unfolding writing
-a-short = refl
-
-pub a-fits : writtenOf 2 2 (3 ∷ 10 ∷ 0 ∷ 0 ∷ []) 16 ≡ accepting acceptedOutcome 16
-unfolding writing
-a-fits = refl
-
-pub too-large : writtenOf 2 2 (3 ∷ 16 ∷ 0 ∷ 0 ∷ []) 16 ≡ refusedCase (refusalAt outOfRange 1)
-unfolding writing
-too-large = refl
+a-written = (refl, refl, refl)
 
 -- the refusals of a stage sheet
 pub empty-sheet : readStage [] ≡ noStage (refusalAt cutShort 0)

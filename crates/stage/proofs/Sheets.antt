@@ -9,11 +9,11 @@ use lib.Dec.{leb, eqb, eqb→eq}
 use lib.ListN.{length, getD, take, length-append}
 use lib.Seq.{getD-take, length-take-le}
 use borrow.Author.Tests.{eq-eqb, lt-leb}
+use Rattle.base.specs.Each.{Each}
 use Rattle.base.specs.declared.Refusal.{Refusal}
 use Rattle.base.specs.Refusals.{refusalAt, outOfTurn}
 use Rattle.sheet.specs.Limits.{sizesOut}
 use Rattle.base.proofs.Tests.{cond-has, test-no}
-use Rattle.base.specs.Each.{Each}
 use Rattle.table.specs.Tree.{Tree, Ordered, reduced}
 use Rattle.table.proofs.Trees.{reduced-ordered}
 use Rattle.stage.specs.Bytes.{treeBytes, wiresBytes, stageBytes}
@@ -21,7 +21,8 @@ use Rattle.stage.specs.Written.{stageTrees, stageOf}
 use Rattle.stage.specs.Read.{Read, taken, fault, andThen, known, misplaced, dueNumber, due, operand, treeAt, wireAt, wiresAt, nothingAfter, endAt, closed, readStage}
 use Rattle.table.specs.Drawing.{StageSheet, got, noStage}
 use Rattle.stage.proofs.Lengths.{trees-length}
-use Rattle.stage.proofs.Sizes.{Sized, sizes-in, sizes-fit}
+use Rattle.sheet.specs.Inner.Sized.{Sized}
+use Rattle.sheet.proofs.Sizes.{sizes-in, sizes-fit}
 use Rattle.stage.proofs.Reading.{ToldTree, tree-told, tree-back}
 
 -- a command that is due: it is refused, or it stands there
@@ -119,7 +120,8 @@ abbrev ToldSheet : List ℕ → StageSheet Tree → Type 0
 ToldSheet bytes (got n m trees) = SheetOf bytes n m trees
 ToldSheet bytes (noStage f) = Unit {0}
 
-end-told : (n m at : ℕ) (trees : List Tree) (bytes rest : List ℕ) → (rest ≡ 0x2F ∷ [] → SheetOf bytes n m trees) → ToldSheet bytes (endAt noStage (got n m trees) at rest)
+end-told : (n m at : ℕ) (trees : List Tree) (bytes rest : List ℕ) → (rest ≡ 0x2F ∷ [] → SheetOf bytes n m trees)
+    → ToldSheet bytes (endAt noStage (got n m trees) at rest)
 unfolding endAt nothingAfter
 end-told n m at trees bytes rest h =
     due-has (ToldSheet bytes) noStage 0x2F at (nothingAfter noStage (got n m trees) at) (λ _. tt) rest (λ q e. go q e)

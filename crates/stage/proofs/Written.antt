@@ -12,11 +12,11 @@ use lib.Seq.{sets, sets-eq}
 use borrow.Author.Tests.{lt-ltb, le-ltb}
 use Rattle.base.specs.Cases.{accepting, acceptedOutcome, refusedCase}
 use Rattle.base.specs.Refusals.{refusalAt, outOfRange, shortBuffer}
-use Rattle.sheet.specs.Limits.{sizesOut}
+use Rattle.sheet.specs.Limits.{sizesOut, isBeyond}
 use Rattle.base.specs.declared.Refusal.{Refusal}
 use Rattle.base.proofs.Tests.{decide}
 use Rattle.base.proofs.Lowest.{lowest-below}
-use Rattle.stage.specs.Written.{stageOf, tableOut, firstOut, writtenOf, bufferAfter}
+use Rattle.stage.specs.Written.{stageOf, firstOut, writtenOf, bufferAfter}
 
 -- what the writer answers, test by test
 module _ (n m : ℕ) (tables : List ℕ) (room : ℕ) where
@@ -43,9 +43,9 @@ pub tables-in : (n m : ℕ) (tables : List ℕ) → m ≤ firstOut n m tables �
 unfolding firstOut
 tables-in n m tables h j l =
     ⊎-elim
-    (λ t. absurd (omega (arith, lowest-below m (λ i. tableOut n (getD tables i 0)) j l t)))
+    (λ t. absurd (omega (arith, lowest-below m (λ i. isBeyond (2 ^ n) (getD tables i 0)) j l t)))
     (λ u. nleb→lt (2 ^ (2 ^ n)) (getD tables j 0) u)
-    (decide (tableOut n (getD tables j 0)))
+    (decide (isBeyond (2 ^ n) (getD tables j 0)))
 
 -- a run of bytes stored at the start of a buffer that is long enough: the bytes, and what was behind their places
 pub front : (l b s : List ℕ) → length s ≤ length l → b ≡ sets l 0 s → b ≡ s ++ drop (length s) l
@@ -57,7 +57,8 @@ module _ (n m : ℕ) (tables b : List ℕ) where
   unfolding bufferAfter
   buffer-kept f e = rw e refl
 
-  pub buffer-written : (c : List ℕ) → writtenOf n m tables (length b) ≡ accepting acceptedOutcome (length (stageOf n m tables)) → length (stageOf n m tables) ≤ length b
+  pub buffer-written : (c : List ℕ) → writtenOf n m tables (length b) ≡ accepting acceptedOutcome (length (stageOf n m tables))
+      → length (stageOf n m tables) ≤ length b
       → c ≡ sets b 0 (stageOf n m tables) → c ≡ bufferAfter n m tables b
   unfolding bufferAfter
   buffer-written c e h s = rw e (front b c (stageOf n m tables) h s)

@@ -1,8 +1,9 @@
 -- Document 01, "Stage sheet": the bytes of a stage, one decision tree for each wire.
-use Prim.Native.Nat.{ℕ, zero, suc, _+_}
+use Prim.Native.Nat.{ℕ, zero, suc, _+_, _-_, _*_}
 use mathlib.Core.Bool.{cond}
 use mathlib.Core.List.{List, [], _∷_, _++_}
 use lib.Dec.{eqb}
+use Rattle.sheet.specs.Limits.{maxWires, maxPatterns}
 use Rattle.table.specs.Tree.{Tree, con, sel, Ordered, selectors}
 
 -- a constant is one byte
@@ -27,6 +28,10 @@ wiresBytes j (x ∷ xs) = wireBytes j x ++ wiresBytes (suc j) xs
 unfoldable pub stageBytes : ℕ → ℕ → List Tree → List ℕ
 stageBytes n m trees = 0x20 ∷ n ∷ m ∷ wiresBytes 0 trees ++ 0x2F ∷ []
 
--- the length of the longest stage: four wires of 15 selectors each
+-- no stage has more cells: a tree has fewer selectors than there are patterns
+abbrev pub mostCells : ℕ
+mostCells = maxWires * (maxPatterns - 1)
+
+-- the length of the longest stage
 abbrev pub longestStage : ℕ
-longestStage = 196
+longestStage = 4 + 3 * maxWires + 3 * mostCells

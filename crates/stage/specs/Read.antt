@@ -1,5 +1,6 @@
 -- Document 01, "Stage sheet" and "Refusals": what reading a stage sheet gives, one command after the other.
--- For one command the refusals come in the order 2, 5, 1, 3, 11; after the end comes 4. A refusal's place is where its command starts, but 4 names the byte that is too much.
+-- For one command the refusals come in the order 2, 5, 1, 3, 11; after the end comes 4. A refusal's place is where its command starts, but 4 names the byte
+-- that is too much.
 use Prim.Native.Nat.{ℕ, zero, suc, _+_, _-_}
 use mathlib.Core.Bool.{Bool, cond, _||_}
 use mathlib.Core.List.{List, [], _∷_}

@@ -6,21 +6,20 @@ use native.Mathlib.Omega.{arith}
 use native.Mathlib.Nat.{add-assoc, zero-add}
 use native.Mathlib.Numerals.{add-one}
 use lib.ListN.{length, set, drop, replicate}
-use Rattle.base.specs.Cases.{acceptedCase, refusedCase}
+use Rattle.table.specs.Drawing.{drawnCells, StageSheet, got, noStage}
+use Rattle.base.specs.Cases.{acceptedCase, refusedCase, verdictCase}
 use Rattle.base.specs.declared.Refusal.{Refusal}
-use Rattle.sheet.specs.Limits.{maxWires}
+use Rattle.sheet.specs.Limits.{maxInputs, maxWires, maxPatterns}
 use Rattle.table.specs.Bits.{tabulate}
 use Rattle.table.specs.Tree.{Tree, selectors}
-use Rattle.stage.specs.Bytes.{treeBytes}
+use Rattle.stage.specs.Bytes.{wireBytes}
 use Rattle.stage.specs.Trees.{size}
 use Rattle.stage.specs.Reply.{StageReply, tableOf, stageTables, refusedReply, replyToStage}
-use Rattle.stage_reader.specs.Cases.{answerCase}
 use Rattle.stage_reader.specs.Inner.Trees.{takenTree, refusedTree, stepOf}
 use Rattle.stage.specs.Read.{Read, taken, fault, andThen, wireAt, wiresAt, endAt, closed}
-use Rattle.table.specs.Drawing.{StageSheet, got, noStage, drawnCells}
-use Rattle.stage_reader.specs.declared.Answer.{Answer}
+use Rattle.base.specs.declared.Verdict.{Verdict}
 use Rattle.stage.proofs.Sheets.{ToldWire, wire-told, ToldWires, wires-told}
-use Rattle.stage_reader.proofs.Ends.{end-map, told, end-answer}
+use Rattle.stage_reader.proofs.Ends.{end-map, byVerdict, end-verdict}
 use Rattle.stage_reader.proofs.Taken.{selectors-few, Took, GoesOn, after-part, took, fell}
 
 -- the tree of a wire that was read
@@ -29,13 +28,13 @@ wire-goes-on s n m j at = go (wireAt n m j at (drop at s)) (wire-told n m j at (
   where
     go : (y : Read Tree) → ToldWire n j at (drop at s) y → GoesOn s n 0 y
     go (fault f) h = tt
-    go (taken x next rest) h = (after-part s at next (0x21 ∷ j ∷ treeBytes x) rest (h .0) (omega (arith, h .1)), h .2)
+    go (taken x next rest) h = (after-part s at next (wireBytes j x) rest (h .0) (omega (arith, h .1)), h .2)
 
 module _ (s : List ℕ) (n m j at t c next : ℕ) (e : takenTree t c next ≡ stepOf n (wireAt n m j at (drop at s))) where
   wire-took : Took (wireAt n m j at (drop at s)) s n 0 t c next
   wire-took = took s n 0 t c next (wireAt n m j at (drop at s)) (wire-goes-on s n m j at) e
 
-  pub wire-few : n ≤ 4 → c ≤ 15
+  pub wire-few : n ≤ maxInputs → c < maxPatterns
   wire-few h = rw (wire-took .cells) (selectors-few n 0 (wire-took .tree) (omega arith) h (wire-took .ordered))
 
 -- the tables of the wires from j on, put into their places
@@ -69,7 +68,8 @@ closed-more tables cells n m j x (taken xs at rest) = end-more tables cells n m 
 abbrev pub wiresLeft : List ℕ → ℕ → ℕ → ℕ → ℕ → Read (List Tree)
 wiresLeft s n m j at = wiresAt (m - j) n m j at (drop at s)
 
-module _ (s : List ℕ) (n m j at : ℕ) (tables : List ℕ) (cells : ℕ) (g : StageReply) (so-far : replyWith tables cells j (closed n m (wiresLeft s n m j at)) ≡ g) where
+module _ (s : List ℕ) (n m j at : ℕ) (tables : List ℕ) (cells : ℕ) (g : StageReply)
+    (so-far : replyWith tables cells j (closed n m (wiresLeft s n m j at)) ≡ g) where
   step : j < m → m - j ≡ suc (m - (j + 1))
   step h = omega arith
 
@@ -90,16 +90,16 @@ module _ (s : List ℕ) (n m j at : ℕ) (tables : List ℕ) (cells : ℕ) (g : 
   unfolding wiresAt andThen closed replyWith
   stops f l e = rw (step l, fell n f (wireAt n m j at (drop at s)) e) at so-far
 
-  pub ends : (a : Answer) → m ≤ j → answerCase a ≡ endAt refusedCase acceptedCase at (drop at s)
-      → told refusedReply (replyWith tables cells j (got n m [])) a ≡ g
+  pub ends : (v : Verdict) → m ≤ j → verdictCase v ≡ endAt refusedCase acceptedCase at (drop at s)
+      → byVerdict refusedReply (replyWith tables cells j (got n m [])) v ≡ g
   unfolding wiresAt closed replyWith
-  ends a l e =
+  ends v l e =
       let z : m - j ≡ 0 = omega arith in
       let reply = replyWith tables cells j in
-      end-answer refusedReply (reply (got n m [])) at (drop at s) a e ∙ sym (end-map reply noStage (got n m []) at (drop at s)) ∙ rw z at so-far
+      end-verdict refusedReply (reply (got n m [])) at (drop at s) v e ∙ sym (end-map reply noStage (got n m []) at (drop at s)) ∙ rw z at so-far
 
 -- all wires are gathered: from nothing, the reply itself
-filled-all : (n : ℕ) (trees : List Tree) → length trees ≤ 4 → filled n (replicate maxWires 0) 0 trees ≡ stageTables n trees
+filled-all : (n : ℕ) (trees : List Tree) → length trees ≤ maxWires → filled n (replicate maxWires 0) 0 trees ≡ stageTables n trees
 unfolding filled stageTables tabulate
 filled-all n [] h = refl
 filled-all n (a ∷ []) h = refl
@@ -108,18 +108,20 @@ filled-all n (a ∷ b ∷ c ∷ []) h = refl
 filled-all n (a ∷ b ∷ c ∷ d ∷ []) h = refl
 filled-all n (a ∷ b ∷ c ∷ d ∷ e ∷ xs) h = absurd (omega arith)
 
-end-all : (n m : ℕ) (trees : List Tree) (at : ℕ) (rest : List ℕ) → length trees ≤ 4
+end-all : (n m : ℕ) (trees : List Tree) (at : ℕ) (rest : List ℕ) → length trees ≤ maxWires
     → replyWith (replicate maxWires 0) 0 0 (endAt noStage (got n m trees) at rest) ≡ replyToStage (endAt noStage (got n m trees) at rest)
 unfolding replyWith replyToStage
 end-all n m trees at rest h =
     end-map (replyWith (replicate maxWires 0) 0 0) noStage (got n m trees) at rest
     ∙ rw (filled-all n trees h, zero-add (size trees)) (sym (end-map replyToStage noStage (got n m trees) at rest))
 
-closed-all : (n m : ℕ) → m ≤ 4 → (bytes : List ℕ) (y : Read (List Tree)) → ToldWires m n 0 3 bytes y
+closed-all : (n m : ℕ) → m ≤ maxWires → (bytes : List ℕ) (y : Read (List Tree)) → ToldWires m n 0 3 bytes y
     → replyWith (replicate maxWires 0) 0 0 (closed n m y) ≡ replyToStage (closed n m y)
 unfolding replyWith replyToStage closed
 closed-all n m h bytes (fault f) t = refl
 closed-all n m h bytes (taken trees at rest) t = end-all n m trees at rest (rw (t .2) h)
 
-pub from-nothing : (s : List ℕ) (n m : ℕ) → m ≤ 4 → replyWith (replicate maxWires 0) 0 0 (closed n m (wiresAt m n m 0 3 (drop 3 s))) ≡ replyToStage (closed n m (wiresAt m n m 0 3 (drop 3 s)))
+pub from-nothing : (s : List ℕ) (n m : ℕ) → m ≤ maxWires
+    → replyWith (replicate maxWires 0) 0 0 (closed n m (wiresAt m n m 0 3 (drop 3 s)))
+    ≡ replyToStage (closed n m (wiresAt m n m 0 3 (drop 3 s)))
 from-nothing s n m h = closed-all n m h (drop 3 s) (wiresAt m n m 0 3 (drop 3 s)) (wires-told m n m 0 3 (drop 3 s))

@@ -1,4 +1,3 @@
-pub mod Cases
 pub mod Places
 pub mod Selecting
 pub mod Taken

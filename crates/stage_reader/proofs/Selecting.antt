@@ -1,5 +1,5 @@
 -- Laws of truth tables as the stage reader makes them: of a constant, and of a selector from the tables of its trees.
-use Prim.Native.Nat.{ℕ, zero, suc, _*_, _^_, _-_, _/_, _%_, _<_, _≤_}
+use Prim.Native.Nat.{ℕ, zero, suc, _*_, _^_, _-_, _/_, _%_, _<_, _≤_, min}
 use mathlib.Core.Path.{_≡_, refl, sym, ap, ap₂, _∙_}
 use mathlib.Core.Logic.{_⊎_, inl, inr}
 use mathlib.Core.Bool.{cond}
@@ -7,8 +7,9 @@ use native.Mathlib.Omega.{arith}
 use native.Mathlib.Nat.{lt-of-le-of-lt, lt-of-lt-of-le}
 use lib.Dec.{eqb}
 use lib.Bits.{bitAnd, bitXor, xor-shr, xor-mod, xor-lt, and-le-l}
-use lib.Pow.{pow-mono}
+use lib.Pow.{pow-pos, pow-mono}
 use Rattle.base.proofs.Tests.{cond-has}
+use Rattle.sheet.specs.Limits.{maxInputs, maxPatterns, maxValues, allOnes}
 use Rattle.table.specs.Bits.{bit, ofBits, sum}
 use Rattle.table.specs.Tree.{Tree, con, sel, Ordered, follow}
 use Rattle.table.proofs.Bits.{bit-lt, bit-ext, bit-cases, bit-and, ofBits-lt, bit-ofBits, sum-cong}
@@ -16,7 +17,7 @@ use Rattle.stage.specs.Reply.{tableOf}
 use Rattle.stage.proofs.Tables.{table-bit}
 use Rattle.stage_reader.specs.Inner.Tables.{inputTable, selectOf}
 
--- the table of constant 0
+-- the tables of the constants
 no-bits : (k : ℕ) → ofBits k (λ p. 0) ≡ 0
 unfolding ofBits sum
 no-bits zero = refl
@@ -25,6 +26,18 @@ no-bits (suc k) = omega (arith, no-bits k)
 pub table-zero : (n : ℕ) → tableOf n (con 0) ≡ 0
 unfolding tableOf follow
 table-zero n = no-bits (2 ^ n)
+
+every-bit : (k : ℕ) → ofBits k (λ p. 1) ≡ 2 ^ k - 1
+unfolding ofBits sum
+every-bit zero = refl
+every-bit (suc k) = omega (arith, every-bit k, pow-pos k)
+
+pub table-one : (n : ℕ) → n ≤ maxInputs → allOnes n ≡ tableOf n (con 1)
+unfolding tableOf follow
+table-one n h =
+    let room : 2 ^ n ≤ maxValues = pow-mono {j = maxInputs} h in
+    let all : min maxValues (2 ^ n) ≡ 2 ^ n = omega arith in
+    ap (λ (k : ℕ). 2 ^ k - 1) all ∙ sym (every-bit (2 ^ n))
 
 -- the selector's table by its trees' tables
 choice-lt : (p j a b : ℕ) → a < 2 → b < 2 → cond (eqb (bit p j) 0) a b < 2
@@ -52,15 +65,16 @@ turned x y c (inr e) (inl d) (inr f) = rw (e, d, f)
 turned x y c (inr e) (inr d) (inl f) = rw (e, d, f)
 turned x y c (inr e) (inr d) (inr f) = rw (e, d, f)
 
-module _ (n i off on col : ℕ) (least : 1 ≤ i) (most : i ≤ n) (small : n ≤ 4) (fits-off : off < 2 ^ (2 ^ n)) (fits-on : on < 2 ^ (2 ^ n)) (is : col ≡ inputTable (n - i)) where
+module _ (n i off on col : ℕ) (least : 1 ≤ i) (most : i ≤ n) (small : n ≤ maxInputs)
+    (fits-off : off < 2 ^ (2 ^ n)) (fits-on : on < 2 ^ (2 ^ n)) (is : col ≡ inputTable (n - i)) where
   merged-lt : bitXor off (bitAnd (bitXor off on) col) < 2 ^ (2 ^ n)
   merged-lt = xor-lt (2 ^ n) off _ fits-off (lt-of-le-of-lt (and-le-l (bitXor off on) col) (xor-lt (2 ^ n) off on fits-off fits-on))
 
   column-bit : (p : ℕ) → p < 2 ^ n → bit col p ≡ bit p (n - i)
   unfolding inputTable
   column-bit p l =
-      let w : 2 ^ n ≤ 2 ^ 4 = pow-mono small in
-      ap (λ x. bit x p) is ∙ bit-ofBits (λ p. bit p (n - i)) 16 (λ q _. bit-lt q (n - i)) p (lt-of-lt-of-le l w)
+      let w : 2 ^ n ≤ maxPatterns = pow-mono {j = maxInputs} small in
+      ap (λ x. bit x p) is ∙ bit-ofBits (λ p. bit p (n - i)) maxPatterns (λ q _. bit-lt q (n - i)) p (lt-of-lt-of-le l w)
 
   pub merged : bitXor off (bitAnd (bitXor off on) col) ≡ selectOf n i off on
   unfolding selectOf

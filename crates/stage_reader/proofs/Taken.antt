@@ -6,6 +6,7 @@ use native.Mathlib.Omega.{arith}
 use lib.ListN.{length, drop}
 use lib.Seq.{drop-drop, drop-append-seam}
 use Rattle.base.specs.declared.Refusal.{Refusal}
+use Rattle.sheet.specs.Limits.{maxInputs, maxPatterns}
 use Rattle.table.specs.Tree.{Tree, sel, Ordered, selectors}
 use Rattle.base.specs.Cases.{refusedOutcome}
 use Rattle.base.proofs.Cases.{same-refusal}
@@ -19,8 +20,13 @@ use Rattle.stage.proofs.Tables.{table-lt, selectors-lt}
 use lib.Pow.{pow-mono}
 use Rattle.stage_reader.proofs.Selecting.{table-select}
 
-pub selectors-few : (n k : ℕ) (x : Tree) → k ≤ n → n ≤ 4 → Ordered n k x → selectors x ≤ 15
-selectors-few n k x l h o = let p : 2 ^ (n - k) ≤ 2 ^ 4 = pow-mono {j = 4} (omega arith) in omega (arith, selectors-lt n k x l o)
+-- a tree has fewer selectors than there are patterns
+pub selectors-few : (n k : ℕ) (x : Tree) → k ≤ n → n ≤ maxInputs → Ordered n k x → selectors x < maxPatterns
+selectors-few n k x l h o = let p : 2 ^ (n - k) ≤ maxPatterns = pow-mono {j = maxInputs} (omega arith) in omega (arith, selectors-lt n k x l o)
+
+-- a tree's table, its selectors and the place after it, as the code hands them over
+abbrev pub handed : ℕ × (ℕ × (ℕ × Unit {0})) → TreeReply
+handed x = takenTree (x .0) (x .1 .0) (x .1 .1 .0)
 
 -- the tree behind what the reader of trees hands back
 pub record Took (y : Read Tree) (s : List ℕ) (n k t c next : ℕ) : Type 0 where
@@ -58,13 +64,19 @@ took s n k t c next (taken x past rest) h e =
     let q : rest ≡ drop next s = h .0 ∙ ap (λ (p : ℕ). drop p s) (sym p) in
     record { tree = x; is = cc; table = ap (λ (r : TreeReply). r .table) e; cells = ap (λ (r : TreeReply). r .cells) e; ordered = h .1 }
 
+-- a refusal is handed on
+pub step-refused : (n : ℕ) (y : Read Tree) (f g : Refusal) → y ≡ fault f → g ≡ f → refusedTree g ≡ stepOf n y
+unfolding stepOf
+step-refused n y f g e d = rw (e, d)
+
 pub fell : (n : ℕ) (f : Refusal) (y : Read Tree) → refusedTree f ≡ stepOf n y → y ≡ fault f
 unfolding stepOf
 fell n f (fault g) e = ap fault (sym (same-refusal refusedOutcome f g (ap (λ (r : TreeReply). r .answer) e)))
 fell n f (taken x past rest) e = never f _ _ _ (sym e)
 
 -- the bounds of what the reader of trees hands back
-pub tree-bounds : (s : List ℕ) (n k at t c next : ℕ) → k ≤ n → n ≤ 4 → takenTree t c next ≡ stepOf n (treeAt n k at (drop at s)) → (t < 2 ^ (2 ^ n)) × (c ≤ 15)
+pub tree-bounds : (s : List ℕ) (n k at t c next : ℕ) → k ≤ n → n ≤ maxInputs → takenTree t c next ≡ stepOf n (treeAt n k at (drop at s))
+    → (t < 2 ^ (2 ^ n)) × (c < maxPatterns)
 tree-bounds s n k at t c next l h e =
     let z = took s n k t c next (treeAt n k at (drop at s)) (tree-goes-on s n k at) e in
     (rw (z .table) (table-lt n k (z .tree) (z .ordered)), rw (z .cells) (selectors-few n k (z .tree) l h (z .ordered)))
@@ -89,7 +101,7 @@ module _ (s : List ℕ) (n i at : ℕ) where
     unfolding branchesAt andThen stepOf selectors
     both-taken u d past r second e =
         let o = took s n i u d past (treeAt n i next (drop next s)) (tree-goes-on s n i next) second in
-        let a : r ≡ tableOf n (sel i (z .tree) (o .tree)) =
-        e ∙ ap (selectOf n i t) (o .table) ∙ ap (λ (x : ℕ). selectOf n i x (tableOf n (o .tree))) (z .table) ∙ table-select n i (z .tree) (o .tree) (z .ordered) (o .ordered) in
+        let tables = ap (selectOf n i t) (o .table) ∙ ap (λ (x : ℕ). selectOf n i x (tableOf n (o .tree))) (z .table) in
+        let a : r ≡ tableOf n (sel i (z .tree) (o .tree)) = e ∙ tables ∙ table-select n i (z .tree) (o .tree) (z .ordered) (o .ordered) in
         let b : 1 + c + d ≡ suc (selectors (z .tree) + selectors (o .tree)) = omega (arith, z .cells, o .cells) in
         rw (z .is, o .is) (cc)

@@ -1,48 +1,45 @@
 // The stage reader: any ordered tree for each wire, to its truth table and its selectors.
 use base::Refusal;
+use base::Verdict;
 use due::due_number;
+use sheet::Sheet;
 use sheet::limits::sizes_out;
 use trees::TreeStep;
 use trees::read_wire;
 ghost use mathlib.Core.Path.{_≡_};
 ghost use Prim.Native.Nat.{_≤_};
 ghost use lib.ListN.{drop};
-ghost use Rattle.base.specs.Cases.{acceptedCase, refusedCase};
+ghost use Rattle.base.specs.Cases.{acceptedCase, refusedCase, verdictCase};
+ghost use Rattle.sheet.specs.Limits.{maxInputs, maxWires};
 ghost use Rattle.stage.specs.Read.{wiresAt, endAt, closed, readStage};
 ghost use Rattle.stage.specs.Reply.{refusedReply, replyToStage};
-ghost use Rattle.stage_reader.specs.Cases.{answerCase, stageReply};
+ghost use Rattle.stage_reader.specs.Cases.{stageReply};
 
 mod due; // where a command is due
 mod tables; // truth tables
 mod trees; // one wire's tree
 
-// Whether a stage sheet is accepted.
-pub enum Answer {
-    Accepted,
-    Refused(Refusal),
-}
-
 // What a stage sheet says. A wire that it does not have is given table 0; after a refusal all numbers are 0.
 pub struct StageRead {
     pub n: u8,
     pub m: u8,
-    pub tables: [u16; 4],
+    pub tables: [u16; Sheet::WIRES],
     pub cells: u8,
-    pub answer: Answer,
+    pub answer: Verdict,
 }
 
 // 2F, and nothing after it.
-fn read_end(s: &[u8], at: usize) -> Answer
-    ensures { λ r. ⌜ answerCase r ≡ endAt refusedCase acceptedCase at (drop at (now (s .entry))) ⌝ }
+fn read_end(s: &[u8], at: usize) -> Verdict
+    ensures { λ r. ⌜ verdictCase r ≡ endAt refusedCase acceptedCase at (drop at (now (s .entry))) ⌝ }
 {
     let f = due_number(s, at, 0x2F);
     if f != 0 {
-        return Answer::Refused(Refusal::at(f, at));
+        return Verdict::Refused(Refusal::at(f, at));
     }
     if at + 1 < s.len() {
-        return Answer::Refused(Refusal::at(Refusal::TRAILING, at + 1));
+        return Verdict::Refused(Refusal::at(Refusal::TRAILING, at + 1));
     }
-    Answer::Accepted
+    Verdict::Accepted
 }
 
 // A refused sheet leaves nothing of what was read.
@@ -52,18 +49,18 @@ fn no_stage(f: Refusal) -> StageRead
     StageRead {
         n: 0,
         m: 0,
-        tables: [0u16; 4],
+        tables: [0u16; Sheet::WIRES],
         cells: 0,
-        answer: Answer::Refused(f),
+        answer: Verdict::Refused(f),
     }
 }
 
 // The wires of a stage sheet from place 3 on, and its end.
 fn read_wires(s: &[u8], n: u8, m: u8) -> StageRead
-    requires { ⌜ (n ≤ 4) × (m ≤ 4) ⌝ }
+    requires { ⌜ (n ≤ maxInputs) × (m ≤ maxWires) ⌝ }
     ensures { λ r. ⌜ stageReply r ≡ replyToStage (closed n m (wiresAt m n m 0 3 (drop 3 (now (s .entry))))) ⌝ }
 {
-    let mut tables = [0u16; 4];
+    let mut tables = [0u16; Sheet::WIRES];
     let mut cells: u8 = 0;
     let mut at: usize = 3;
     let mut j: u8 = 0;
@@ -85,14 +82,14 @@ fn read_wires(s: &[u8], n: u8, m: u8) -> StageRead
     }
     let answer = read_end(s, at);
     match answer {
-        Answer::Accepted => StageRead {
+        Verdict::Accepted => StageRead {
             n,
             m,
             tables,
             cells,
-            answer: Answer::Accepted,
+            answer: Verdict::Accepted,
         },
-        Answer::Refused(f) => no_stage(f),
+        Verdict::Refused(f) => no_stage(f),
     }
 }
 

@@ -1,27 +1,12 @@
-// Truth tables of trees: of a constant, of an input, and of a selector from the tables of its trees.
+// Truth tables of an input, and of a selector from the tables of its trees.
 ghost use mathlib.Core.Path.{_≡_};
 ghost use Prim.Native.Nat.{_^_, _<_, _≤_};
-ghost use Rattle.table.specs.Tree.{con};
-ghost use Rattle.stage.specs.Reply.{tableOf};
+ghost use Rattle.sheet.specs.Limits.{maxInputs};
 ghost use Rattle.stage_reader.specs.Inner.Tables.{inputTable, selectOf};
-
-// The table of constant 1.
-pub fn constant_one(n: u8) -> u16
-    requires { ⌜ n ≤ 4 ⌝ }
-    ensures { λ r. ⌜ r ≡ tableOf n (con 1) ⌝ }
-{
-    match n {
-        0 => 1,
-        1 => 3,
-        2 => 15,
-        3 => 255,
-        _ => 65535,
-    }
-}
 
 // The table of the input whose bit of a pattern is bit j.
 fn input_table(j: u8) -> u16
-    requires { ⌜ j < 4 ⌝ }
+    requires { ⌜ j < maxInputs ⌝ }
     ensures { λ r. ⌜ r ≡ inputTable j ⌝ }
 {
     match j {
@@ -34,7 +19,7 @@ fn input_table(j: u8) -> u16
 
 // The table of a selector on input i, of the tables of its trees for 0 and 1: where the input is 1, each bit of `off` that differs is turned.
 pub fn select(n: u8, i: u8, off: u16, on: u16) -> u16
-    requires { ⌜ (1 ≤ i) × (i ≤ n) × (n ≤ 4) × (off < 2 ^ (2 ^ n)) × (on < 2 ^ (2 ^ n)) ⌝ }
+    requires { ⌜ (1 ≤ i) × (i ≤ n) × (n ≤ maxInputs) × (off < 2 ^ (2 ^ n)) × (on < 2 ^ (2 ^ n)) ⌝ }
     ensures { λ r. ⌜ r ≡ selectOf n i off on ⌝ }
 {
     off ^ ((off ^ on) & input_table(n - i))

@@ -1,12 +1,13 @@
 // The trees of a stage sheet, each read to its truth table and its selectors.
 use crate::due::due_number;
 use crate::due::misplaced_number;
-use crate::tables::constant_one;
 use crate::tables::select;
 use base::Refusal;
+use sheet::limits::all_ones;
 ghost use mathlib.Core.Path.{_≡_};
 ghost use Prim.Native.Nat.{_+_, _<_, _≤_};
 ghost use lib.ListN.{length, drop};
+ghost use Rattle.sheet.specs.Limits.{maxInputs};
 ghost use Rattle.stage.specs.Read.{branchesAt, treeAt, selectorAt, wireAt};
 ghost use Rattle.stage_reader.specs.Inner.Trees.{treeReply, stepOf};
 
@@ -18,7 +19,7 @@ pub enum TreeStep {
 
 // A tree below a selector on input k, or below none where k is 0.
 fn read_tree(s: &[u8], at: usize, n: u8, k: u8) -> TreeStep
-    requires { ⌜ (k ≤ n) × (n ≤ 4) ⌝ }
+    requires { ⌜ (k ≤ n) × (n ≤ maxInputs) ⌝ }
     ensures { λ r. ⌜ treeReply r ≡ stepOf n (treeAt n k at (drop at (now (s .entry)))) ⌝ }
 {
     if s.len() <= at {
@@ -33,7 +34,7 @@ fn read_tree(s: &[u8], at: usize, n: u8, k: u8) -> TreeStep
             next: at + 1,
         },
         0x24 => TreeStep::Tree {
-            table: constant_one(n),
+            table: all_ones(n),
             cells: 0,
             next: at + 1,
         },
@@ -43,7 +44,7 @@ fn read_tree(s: &[u8], at: usize, n: u8, k: u8) -> TreeStep
 
 // The same at a byte 22: its input is judged, then its two trees are read.
 fn read_selector(s: &[u8], at: usize, n: u8, k: u8) -> TreeStep
-    requires { ⌜ (k ≤ n) × (n ≤ 4) × (at < length (now s)) ⌝ }
+    requires { ⌜ (k ≤ n) × (n ≤ maxInputs) × (at < length (now s)) ⌝ }
     ensures { λ r. ⌜ treeReply r ≡ stepOf n (selectorAt (treeAt n) n k at (drop (at + 1) (now (s .entry)))) ⌝ }
 {
     let input_at = at + 1;
@@ -65,7 +66,7 @@ fn read_selector(s: &[u8], at: usize, n: u8, k: u8) -> TreeStep
 
 // The two trees of a selector on input i, the one for 0 at a place and the one for 1 after it.
 fn read_branches(s: &[u8], at: usize, n: u8, i: u8) -> TreeStep
-    requires { ⌜ (1 ≤ i) × (i ≤ n) × (n ≤ 4) ⌝ }
+    requires { ⌜ (1 ≤ i) × (i ≤ n) × (n ≤ maxInputs) ⌝ }
     ensures { λ r. ⌜ treeReply r ≡ stepOf n (branchesAt (treeAt n i) i at (drop at (now (s .entry)))) ⌝ }
 {
     let for_zero = read_tree(s, at, n, i);
@@ -95,7 +96,7 @@ fn read_branches(s: &[u8], at: usize, n: u8, i: u8) -> TreeStep
 
 // 21 j and the tree of wire j.
 pub fn read_wire(s: &[u8], at: usize, j: u8, n: u8, m: u8) -> TreeStep
-    requires { ⌜ n ≤ 4 ⌝ }
+    requires { ⌜ n ≤ maxInputs ⌝ }
     ensures { λ r. ⌜ treeReply r ≡ stepOf n (wireAt n m j at (drop at (now (s .entry)))) ⌝ }
 {
     let f = due_number(s, at, 0x21);

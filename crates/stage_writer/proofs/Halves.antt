@@ -11,13 +11,11 @@ use Rattle.table.specs.Cells.{low, high}
 use Rattle.table.specs.Tree.{Tree, sel, reduced}
 use Rattle.stage.specs.Bytes.{treeBytes}
 
--- the reduced tree of a table of w inputs by the table's halves
-abbrev byHalves : Tree → Tree → ℕ → ℕ → ℕ → Tree
-byHalves z o k a b = cond (eqb a b) z (sel (k + 1) z o)
+-- the reduced tree of a table of w inputs by the trees of the table's halves
+abbrev byHalves : (ℕ → Tree) → ℕ → ℕ → ℕ → Tree
+byHalves tree k a b = cond (eqb a b) (tree a) (sel (k + 1) (tree a) (tree b))
 
-reduced-step : (w k t : ℕ) → (w ≡ 0 → ⊥)
-    → reduced w k t
-    ≡ byHalves (reduced (w - 1) (k + 1) (t % 2 ^ (2 ^ (w - 1)))) (reduced (w - 1) (k + 1) (t / 2 ^ (2 ^ (w - 1)))) k (t % 2 ^ (2 ^ (w - 1))) (t / 2 ^ (2 ^ (w - 1)))
+reduced-step : (w k t : ℕ) → (w ≡ 0 → ⊥) → reduced w k t ≡ byHalves (reduced (w - 1) (k + 1)) k (t % 2 ^ (2 ^ (w - 1))) (t / 2 ^ (2 ^ (w - 1)))
 unfolding reduced low high
 reduced-step zero k t h = absurd (h refl)
 reduced-step (suc v) k t h = let d : suc v - 1 ≡ v = omega arith in simp (d, add-one k)

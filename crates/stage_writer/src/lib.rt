@@ -1,5 +1,6 @@
 // The stage writer: the reduced tree of each wire's table, at the start of a lent buffer.
 use base::Refusal;
+use sheet::Sheet;
 use sheet::limits::sizes_out;
 use stores::put_sheet;
 use tables::first_out;
@@ -20,8 +21,9 @@ pub enum Written {
 }
 
 // Writes a stage at the start of a buffer and changes nothing behind it; a refusal changes nothing at all.
-pub fn write_stage(n: u8, m: u8, tables: [u16; 4], buffer: &mut [u8]) -> Written
-    ensures { λ r. ⌜ (writtenCase r ≡ writtenOf n m tables (length (now (buffer .entry)))) × (now (buffer .exit) ≡ bufferAfter n m tables (now (buffer .entry))) ⌝ }
+pub fn write_stage(n: u8, m: u8, tables: [u16; Sheet::WIRES], buffer: &mut [u8]) -> Written
+    ensures { λ r.
+        ⌜ (writtenCase r ≡ writtenOf n m tables (length (now (buffer .entry)))) × (now (buffer .exit) ≡ bufferAfter n m tables (now (buffer .entry))) ⌝ }
 {
     if sizes_out(n, m) {
         return Written::Refused(Refusal::at(Refusal::OUT_OF_RANGE, 0));

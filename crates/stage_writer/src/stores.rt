@@ -1,25 +1,24 @@
 // The bytes of a stage, stored part by part at the start of a buffer.
 use base::put;
+use sheet::Sheet;
+use sheet::limits::patterns_of;
 ghost use mathlib.Core.Path.{_≡_};
 ghost use mathlib.Core.List.{[], _∷_};
 ghost use Prim.Native.Nat.{_+_, _^_, _<_, _≤_};
 ghost use lib.ListN.{length};
 ghost use lib.Seq.{sets};
+ghost use Rattle.sheet.specs.Limits.{maxInputs, maxWires};
 ghost use Rattle.table.specs.Tree.{reduced};
 ghost use Rattle.stage.specs.Bytes.{constantByte, treeBytes, wireBytes, wiresBytes, longestStage};
+ghost use Rattle.stage_writer.specs.Inner.Stores.{StoredAt};
 ghost use Rattle.stage.specs.Written.{stageTrees, stageOf};
 
 // The number of tables of v inputs: what halves a table of one input more.
 fn half_of(v: u8) -> u16
-    requires { ⌜ v < 4 ⌝ }
+    requires { ⌜ v < maxInputs ⌝ }
     ensures { λ r. ⌜ r ≡ 2 ^ (2 ^ v) ⌝ }
 {
-    match v {
-        0 => 2,
-        1 => 4,
-        2 => 16,
-        _ => 256,
-    }
+    1 << patterns_of(v)
 }
 
 // The byte of a constant.
@@ -33,7 +32,7 @@ fn constant(t: u16) -> u8
 // The bound on the place is only there for the sums: no stage is longer.
 fn put_command(buffer: &mut [u8], at: usize, command: u8, operand: u8) -> usize
     requires { ⌜ at + 2 ≤ longestStage ⌝ }
-    ensures { λ r. ⌜ (now (buffer .exit) ≡ sets (now (buffer .entry)) at (command ∷ operand ∷ [])) × (r ≡ at + 2) ⌝ }
+    ensures { λ r. ⌜ StoredAt at r (command ∷ operand ∷ []) (now (buffer .entry)) (now (buffer .exit)) ⌝ }
 {
     put(buffer, at, command);
     put(buffer, at + 1, operand);
@@ -42,8 +41,8 @@ fn put_command(buffer: &mut [u8], at: usize, command: u8, operand: u8) -> usize
 
 // Writes the reduced tree of a table of w inputs, which stand after k others, and hands back the place after it.
 fn put_tree(buffer: &mut [u8], at: usize, w: u8, k: u8, t: u16) -> usize
-    requires { ⌜ (w + k ≤ 4) × (at + length (treeBytes (reduced w k t)) ≤ longestStage) ⌝ }
-    ensures { λ r. ⌜ (now (buffer .exit) ≡ sets (now (buffer .entry)) at (treeBytes (reduced w k t))) × (r ≡ at + length (treeBytes (reduced w k t))) ⌝ }
+    requires { ⌜ (w + k ≤ maxInputs) × (at + length (treeBytes (reduced w k t)) ≤ longestStage) ⌝ }
+    ensures { λ r. ⌜ StoredAt at r (treeBytes (reduced w k t)) (now (buffer .entry)) (now (buffer .exit)) ⌝ }
 {
     if w == 0 {
         put(buffer, at, constant(t));
@@ -65,17 +64,17 @@ fn put_tree(buffer: &mut [u8], at: usize, w: u8, k: u8, t: u16) -> usize
 
 // Writes wire j's part of a stage, and hands back the place after it.
 fn put_wire(buffer: &mut [u8], at: usize, n: u8, j: u8, t: u16) -> usize
-    requires { ⌜ (n ≤ 4) × (at + length (wireBytes j (reduced n 0 t)) ≤ longestStage) ⌝ }
-    ensures { λ r. ⌜ (now (buffer .exit) ≡ sets (now (buffer .entry)) at (wireBytes j (reduced n 0 t))) × (r ≡ at + length (wireBytes j (reduced n 0 t))) ⌝ }
+    requires { ⌜ (n ≤ maxInputs) × (at + length (wireBytes j (reduced n 0 t)) ≤ longestStage) ⌝ }
+    ensures { λ r. ⌜ StoredAt at r (wireBytes j (reduced n 0 t)) (now (buffer .entry)) (now (buffer .exit)) ⌝ }
 {
     let tree_at = put_command(buffer, at, 0x21, j);
     put_tree(buffer, tree_at, n, 0, t)
 }
 
 // Writes the wires of a stage from place 3 on, and hands back the place after them.
-fn put_wires(buffer: &mut [u8], n: u8, m: u8, tables: [u16; 4]) -> usize
-    requires { ⌜ (n ≤ 4) × (m ≤ 4) ⌝ }
-    ensures { λ r. ⌜ (now (buffer .exit) ≡ sets (now (buffer .entry)) 3 (wiresBytes 0 (stageTrees n m tables))) × (r ≡ 3 + length (wiresBytes 0 (stageTrees n m tables))) ⌝ }
+fn put_wires(buffer: &mut [u8], n: u8, m: u8, tables: [u16; Sheet::WIRES]) -> usize
+    requires { ⌜ (n ≤ maxInputs) × (m ≤ maxWires) ⌝ }
+    ensures { λ r. ⌜ StoredAt 3 r (wiresBytes 0 (stageTrees n m tables)) (now (buffer .entry)) (now (buffer .exit)) ⌝ }
 {
     let mut at: usize = 3;
     let mut j: u8 = 0;
@@ -87,8 +86,8 @@ fn put_wires(buffer: &mut [u8], n: u8, m: u8, tables: [u16; 4]) -> usize
 }
 
 // Writes a stage at the start of a buffer that is long enough.
-pub fn put_sheet(buffer: &mut [u8], n: u8, m: u8, tables: [u16; 4])
-    requires { ⌜ (n ≤ 4) × (m ≤ 4) ⌝ }
+pub fn put_sheet(buffer: &mut [u8], n: u8, m: u8, tables: [u16; Sheet::WIRES])
+    requires { ⌜ (n ≤ maxInputs) × (m ≤ maxWires) ⌝ }
     ensures { λ _. ⌜ now (buffer .exit) ≡ sets (now (buffer .entry)) 0 (stageOf n m tables) ⌝ }
 {
     put(buffer, 0, 0x20);

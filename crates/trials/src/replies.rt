@@ -12,6 +12,7 @@ use crate::records::part;
 use crate::records::u16_at;
 use crate::records::u32_at;
 use base::Refusal;
+use base::Verdict;
 use base::byte_at;
 use quote::Audited;
 use quote::Quoted;
@@ -21,7 +22,6 @@ use report::text::put_hex_pairs;
 use report::text::put_text;
 use search::Mark;
 use stage::LONGEST_STAGE;
-use stage_reader::Answer;
 use stage_reader::StageRead;
 use stage_reader::read_stage;
 use stage_writer::Written;
@@ -265,8 +265,8 @@ fn put_read(out: &mut [u8], at: usize, s: &[u8], from: usize) -> usize
     let read = read_stage(stage);
     let answer = read.answer;
     match answer {
-        Answer::Accepted => put_stage_read(out, at, read),
-        Answer::Refused(refusal) => put_refusal_line(out, at, refusal),
+        Verdict::Accepted => put_stage_read(out, at, read),
+        Verdict::Refused(refusal) => put_refusal_line(out, at, refusal),
     }
 }
 

@@ -1,14 +1,25 @@
-use mathlib.Core.Path.{sym, ap, _∙_}
+use Prim.Native.Nat.{_+_}
+use mathlib.Core.Path.{_≡_, ap}
 use native.Mathlib.Omega.{arith}
 use borrow.Author.Needs.{needs}
-use Prim.Native.Nat.{_+_}
 use lib.ListN.{drop}
-use lib.Seq.{drop-drop}
+use Rattle.base.specs.Cases.{acceptedCase, refusedCase}
 use Rattle.stage.specs.Read.{endAt, nothingAfter}
-use Rattle.base.specs.Cases.{refusedCase}
-use Rattle.stage_reader.proofs.Places.{here, out, due-in, due-stops, due-goes}
+use Rattle.stage_reader.proofs.Places.{byte-there, no-byte, due-within, due-refused, due-goes}
 use Rattle.stage_reader.proofs.read_end.Statement.{statement}
 use Rattle.stage_reader.proofs.read_end.Tie as tie
+
+abbrev from : tie.After-due-number → tie.Start
+from c = c .before .before
+
+-- where 2F stands, what comes after it decides
+stands : (c : tie.Else1)
+    → endAt refusedCase acceptedCase (from (c .before) .args .at) (drop (from (c .before) .args .at) (from (c .before) .args .s .now))
+    ≡ nothingAfter refusedCase acceptedCase (from (c .before) .args .at) (drop (from (c .before) .args .at + 1) (from (c .before) .args .s .now))
+unfolding endAt
+stands c =
+    let a = from (c .before) .args in
+    due-goes (a .s .now) 0x2F (a .at) _ (c .before .due-number .ensures) refusedCase _ (c .if1 .left)
 
 due-number-requires : tie.Need-due-number-requires
 due-number-requires c κs = search needs
@@ -20,16 +31,12 @@ returns : tie.Need-returns
 unfolding endAt
 returns c =
     let d = c .before .before in
-    let a = d .before .before .args in
-    let h = d .due-number .ensures in
-    rw (due-stops refusedCase 0x2F (a .at) _ (drop (a .at) (a .s .now)) (λ e. c .before .if1 .taken (h ∙ e)), ← h) (ap refusedCase (c .at .ensures))
+    due-refused (from d .args .s .now) 0x2F (from d .args .at) _ (d .due-number .ensures) refusedCase _ _ (c .before .if1 .taken) (c .at .ensures)
 
 add-if2 : tie.Need-add-if2
 add-if2 c =
-    let e1 = c in
-    let d = e1 .before in
-    let a = d .before .before .args in
-    omega (arith, due-in (a .s .now) 0x2F (a .at) (sym (d .due-number .ensures) ∙ e1 .if1 .left))
+    let a = from (c .before) .args in
+    omega (arith, due-within (a .s .now) 0x2F (a .at) _ (c .before .due-number .ensures) (c .if1 .left))
 
 add-at : tie.Need-add-at
 add-at c = search needs
@@ -38,29 +45,14 @@ at-requires-2 : tie.Need-at-requires-2
 at-requires-2 c κs = search needs
 
 returns-2 : tie.Need-returns-2
-unfolding endAt nothingAfter
+unfolding nothingAfter
 returns-2 c =
-    let e1 = c .before .before in
-    let d = e1 .before in
-    let a = d .before .before .args in
-    rw (
-      due-goes refusedCase 0x2F (a .at) _ (drop (a .at) (a .s .now)) (sym (d .due-number .ensures) ∙ e1 .if1 .left),
-      drop-drop 1 (a .at) (a .s .now),
-      here (a .s .now) (a .at + 1) (c .before .if2 .taken),
-    )
-    (ap refusedCase (c .at2 .ensures))
+    let e = c .before .before in
+    rw (stands e, byte-there _ _ (c .before .if2 .taken)) (ap refusedCase (c .at2 .ensures))
 
 returns-3 : tie.Need-returns-3
-unfolding endAt nothingAfter
-returns-3 c =
-    let e1 = c .before in
-    let d = e1 .before in
-    let a = d .before .before .args in
-    rw (
-      due-goes refusedCase 0x2F (a .at) _ (drop (a .at) (a .s .now)) (sym (d .due-number .ensures) ∙ e1 .if1 .left),
-      drop-drop 1 (a .at) (a .s .now),
-      out (a .s .now) (a .at + 1) (c .if2 .left),
-    )
+unfolding nothingAfter
+returns-3 c = rw (stands (c .before), no-byte _ _ (c .if2 .left))
 
 pub read-end-spec : {M : Type 1} → statement M
 read-end-spec =

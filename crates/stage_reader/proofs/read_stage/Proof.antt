@@ -1,19 +1,20 @@
 -- `read_stage` meets its contract: the head judged, then the wires and the end.
-use mathlib.Core.Path.{_≡_, sym, ap, _∙_}
+use mathlib.Core.Path.{_≡_, refl, sym, _∙_}
 use mathlib.Core.Bool.{true, false}
-use native.Mathlib.Omega.{arith}
-use lib.ListN.{getD, drop}
 use borrow.Author.Needs.{needs}
-use Rattle.base.specs.Refusals.{refusalAt, cutShort, outOfRange}
+use lib.ListN.{getD, drop}
 use Rattle.sheet.specs.Limits.{sizesOut}
+use Rattle.sheet.proofs.Sizes.{sizes-in}
+use Rattle.stage.specs.Read.{wiresAt, closed}
+use Rattle.stage.specs.Reply.{replyToStage}
 use Rattle.stage_reader.specs.Cases.{stageReply}
-use Rattle.stage.specs.Read.{wiresAt, readStage, closed}
-use Rattle.table.specs.Drawing.{noStage}
-use Rattle.stage.specs.Reply.{refusedReply, replyToStage}
-use Rattle.stage.proofs.Sizes.{sizes-in}
-use Rattle.stage_reader.proofs.Places.{due-stops, head-short, head-goes}
+use Rattle.stage_reader.proofs.Places.{head-refused, head-cut, head-out, head-goes}
+use Rattle.stage_reader.proofs.Replies.{reply-refused}
 use Rattle.stage_reader.proofs.read_stage.Statement.{statement}
 use Rattle.stage_reader.proofs.read_stage.Tie as tie
+
+abbrev from : tie.Else2 → tie.Start
+from c = c .before .before .before .before
 
 due-number-requires : tie.Need-due-number-requires
 due-number-requires c κs = search needs
@@ -25,12 +26,9 @@ no-stage-requires : tie.Need-no-stage-requires
 no-stage-requires c κs = search needs
 
 returns : tie.Need-returns
-unfolding readStage replyToStage
 returns c =
-    let d = c .before .before .before in
-    let a = d .before .before .args in
-    let h = d .due-number .ensures in
-    rw (due-stops noStage 0x20 0 _ (a .s .now) (λ e. c .before .before .if1 .taken (h ∙ e)), ← h) (c .no-stage .ensures ∙ ap refusedReply (c .before .at .ensures))
+    let t = c .before .before in
+    reply-refused _ _ _ _ (head-refused _ _ (t .before .due-number .ensures) _ (t .if1 .taken) (c .before .at .ensures)) refl (c .no-stage .ensures)
 
 at-requires-2 : tie.Need-at-requires-2
 at-requires-2 c κs = search needs
@@ -39,13 +37,10 @@ no-stage-requires-2 : tie.Need-no-stage-requires-2
 no-stage-requires-2 c κs = search needs
 
 returns-2 : tie.Need-returns-2
-unfolding replyToStage
 returns-2 c =
-    let e1 = c .before .before .before in
-    let d = e1 .before in
-    let a = d .before .before .args in
-    let told : c .before .at2 .result ≡ refusalAt cutShort 0 = c .before .at2 .ensures in
-    rw (head-short (a .s .now) (sym (d .due-number .ensures) ∙ e1 .if1 .left) (c .before .before .if2 .taken)) (c .no-stage2 .ensures ∙ ap refusedReply told)
+    let t = c .before .before in
+    let e = t .before in
+    reply-refused _ _ _ _ (head-cut _ _ (e .before .due-number .ensures) (e .if1 .left) (t .if2 .taken)) (c .before .at2 .ensures) (c .no-stage2 .ensures)
 
 shared-slice-read-n : tie.Need-shared-slice-read-n
 shared-slice-read-n c = search needs
@@ -63,31 +58,30 @@ no-stage-requires-3 : tie.Need-no-stage-requires-3
 no-stage-requires-3 c κs = search needs
 
 returns-3 : tie.Need-returns-3
-unfolding replyToStage
 returns-3 c =
-    let e2 = c .before .before .before .before .before .before in
+    let t = c .before .before in
+    let e2 = t .before .before .before .before in
     let e1 = e2 .before in
-    let d = e1 .before in
-    let a = d .before .before .args in
-    let out : sizesOut (getD (a .s .now) 1 0) (getD (a .s .now) 2 0) ≡ true = sym (c .before .before .before .sizes-out .ensures) ∙ c .before .before .if3 .taken in
-    let told : c .before .at3 .result ≡ refusalAt outOfRange 0 = c .before .at3 .ensures in
-    rw (head-goes (a .s .now) (sym (d .due-number .ensures) ∙ e1 .if1 .left) (e2 .if2 .left), out) (c .no-stage3 .ensures ∙ ap refusedReply told)
+    let s = from e2 .args .s .now in
+    let out : sizesOut (getD s 1 0) (getD s 2 0) ≡ true = sym (t .before .sizes-out .ensures) ∙ t .if3 .taken in
+    reply-refused _ _ _ _ (head-out _ _ (e1 .before .due-number .ensures) (e1 .if1 .left) (e2 .if2 .left) out) (c .before .at3 .ensures) (c .no-stage3 .ensures)
 
 read-wires-requires : tie.Need-read-wires-requires
 read-wires-requires c κs =
-    let s = c .before .before .before .before .before .before .before .before .args .s .now in
+    let s = from (c .before .before .before .before) .args .s .now in
     let z = sizes-in (getD s 1 0) (getD s 2 0) (sym (c .before .sizes-out .ensures) ∙ c .if3 .left) in
-    (omega (arith, z), omega (arith, z))
+    (z .n-most, z .m-most)
 
 returns-4 : tie.Need-returns-4
 returns-4 c =
     let e2 = c .before .before .before .before .before in
     let e1 = e2 .before in
-    let d = e1 .before in
-    let s = d .before .before .args .s .now in
-    let in-range : sizesOut (getD s 1 0) (getD s 2 0) ≡ false = sym (c .before .before .sizes-out .ensures) ∙ c .before .if3 .left in
-    let read : stageReply (c .read-wires .result) ≡ replyToStage (closed (getD s 1 0) (getD s 2 0) (wiresAt (getD s 2 0) (getD s 1 0) (getD s 2 0) 0 3 (drop 3 s))) = c .read-wires .ensures in
-    rw (head-goes s (sym (d .due-number .ensures) ∙ e1 .if1 .left) (e2 .if2 .left), in-range) read
+    let s = from e2 .args .s .now in
+    let n = getD s 1 0 in
+    let m = getD s 2 0 in
+    let in-range : sizesOut n m ≡ false = sym (c .before .before .sizes-out .ensures) ∙ c .before .if3 .left in
+    let read : stageReply (c .read-wires .result) ≡ replyToStage (closed n m (wiresAt m n m 0 3 (drop 3 s))) = c .read-wires .ensures in
+    rw (head-goes s _ (e1 .before .due-number .ensures) (e1 .if1 .left) (e2 .if2 .left) in-range) read
 
 pub read-stage-spec : {M : Type 1} → statement M
 read-stage-spec =

@@ -2,11 +2,12 @@
 use Prim.Native.Nat.{ℕ, _^_, _-_}
 use mathlib.Core.Bool.{cond}
 use lib.Dec.{eqb}
+use Rattle.sheet.specs.Limits.{maxPatterns}
 use Rattle.table.specs.Bits.{bit, ofBits}
 
 -- the truth table of the input whose bit of a pattern is bit j
 unfoldable pub inputTable : ℕ → ℕ
-inputTable j = ofBits 16 (λ p. bit p j)
+inputTable j = ofBits maxPatterns (λ p. bit p j)
 
 -- the truth table of a selector on input i, from the tables of its two trees
 unfoldable pub selectOf : ℕ → ℕ → ℕ → ℕ → ℕ

@@ -7,11 +7,12 @@ use lib.ListN.{length}
 use borrow.Author.Needs.{needs}
 use Rattle.base.specs.Cases.{accepting, acceptedOutcome, refusedCase}
 use Rattle.base.specs.Refusals.{refusalAt, outOfRange, shortBuffer}
-use Rattle.sheet.specs.Limits.{sizesOut}
+use Rattle.sheet.specs.Limits.{maxWires, sizesOut}
 use Rattle.base.specs.declared.Refusal.{Refusal}
 use Rattle.stage.specs.Written.{stageOf, firstOut, writtenOf, bufferAfter}
 use Rattle.stage.proofs.Lengths.{stage-length}
-use Rattle.stage.proofs.Sizes.{Sized, sizes-in}
+use Rattle.sheet.specs.Inner.Sized.{Sized}
+use Rattle.sheet.proofs.Sizes.{sizes-in}
 use Rattle.stage.proofs.Written.{tables-in, sizes-refused, table-refused, short-refused, room-accepted, buffer-kept, buffer-written}
 use Rattle.stage_writer.proofs.write_stage.Statement.{statement}
 use Rattle.stage_writer.proofs.write_stage.Tie as tie
@@ -40,7 +41,7 @@ in-range c = rw (c .before .first-out .ensures) at (c .if2 .left)
 length-is : (c : tie.After-stage-length) → c .stage-length .result ≡ length (stageOf (from3 c .args .n) (from3 c .args .m) (from3 c .args .tables))
 length-is c =
     let a = from3 c .args in
-    let l : length (a .tables) ≡ 4 = search needs in
+    let l : length (a .tables) ≡ maxWires = search needs in
     let z = sized (c .before .before .before .before) in
     let h : a .m ≤ length (a .tables) = omega arith in
     omega (arith, c .stage-length .ensures, c .before .stage-cells .ensures .0, stage-length (a .n) (a .m) (a .tables) h)

@@ -1,7 +1,7 @@
 use borrow.Author.Needs.{needs}
 use borrow.Author.Tests.{eq-eqb, ne-eqb}
 use Rattle.stage.specs.Read.{dueNumber}
-use Rattle.stage_reader.proofs.Places.{here, out}
+use Rattle.stage_reader.proofs.Places.{byte-there, no-byte}
 use Rattle.stage_reader.proofs.due.due_number.Statement.{statement}
 use Rattle.stage_reader.proofs.due.due_number.Tie as tie
 
@@ -9,7 +9,7 @@ returns : tie.Need-returns
 unfolding dueNumber
 returns c =
     let a = c .before .before .args in
-    rw (out (a .s .now) (a .at) (c .if1 .taken))
+    rw (no-byte (a .s .now) (a .at) (c .if1 .taken))
 
 shared-slice-read-b : tie.Need-shared-slice-read-b
 shared-slice-read-b c = search needs
@@ -22,7 +22,7 @@ unfolding dueNumber
 returns-2 c =
     let e1 = c .before .before in
     let a = e1 .before .before .args in
-    rw (here (a .s .now) (a .at) (e1 .if1 .left), eq-eqb _ _ (c .if2 .taken))
+    rw (byte-there (a .s .now) (a .at) (e1 .if1 .left), eq-eqb _ _ (c .if2 .taken))
 
 returns-3 : tie.Need-returns-3
 unfolding dueNumber
@@ -30,7 +30,7 @@ returns-3 c =
     let e2 = c .before in
     let e1 = e2 .before .before in
     let a = e1 .before .before .args in
-    rw (here (a .s .now) (a .at) (e1 .if1 .left), ne-eqb _ _ (e2 .if2 .left)) (c .misplaced-number .ensures)
+    rw (byte-there (a .s .now) (a .at) (e1 .if1 .left), ne-eqb _ _ (e2 .if2 .left)) (c .misplaced-number .ensures)
 
 pub due-number-spec : {M : Type 1} → statement M
 due-number-spec =

@@ -1,369 +1,335 @@
 -- `read_tree`, `read_selector` and `read_branches` meet their contracts: what they hand back is told by the tree that the meaning takes.
--- The measure: the inputs that are left fall at each selector.
-use Prim.Native.Nat.{_+_, _*_, _-_, _≤_, ℕ, _<_}
-use mathlib.Core.Path.{sym, ap, _∙_}
+use Prim.Native.Nat.{ℕ, _+_, _*_, _-_, _^_, _<_, _≤_}
+use mathlib.Core.Path.{_≡_, sym, ap, _∙_}
 use native.Mathlib.Omega.{arith}
 use borrow.Author.Needs.{needs}
-use borrow.Author.Tests.{lt-ltb, le-ltb, le-leb, eq-eqb, ne-eqb}
-use lib.ListN.{getD, drop}
-use Rattle.table.specs.Tree.{selectors}
-use Rattle.stage.specs.Read.{fault, selectorAt, treeFrom}
-use Rattle.stage_reader.specs.Inner.Trees.{stepOf, refusedTree, treeReply}
-use Rattle.stage.proofs.Reading.{tree-is}
-use Rattle.stage_reader.proofs.Selecting.{table-zero}
-use Rattle.stage_reader.proofs.Places.{here, out, operand-stops, selector-goes, selector-in}
-use Rattle.stage_reader.proofs.Taken.{tree-bounds, first-fault, second-fault, both-taken}
-use borrow.Fn.Kinds.{In}
+use borrow.Fn.Kinds.{In, Out}
 use borrow.Fn.PlainCycle.{Measures, is, falls, and}
-use Rattle.stage_reader.proofs.trees.read_branches.Reads as read-branches
-use Rattle.stage_reader.proofs.trees.read_branches.Kinds as read-branches-kinds
-use Rattle.stage_reader.proofs.trees.+read_branches+read_selector+read_tree.Lts-read_branches as read-branches-lts
-use Rattle.stage_reader.proofs.trees.read_selector.Reads as read-selector
-use Rattle.stage_reader.proofs.trees.read_selector.Kinds as read-selector-kinds
-use Rattle.stage_reader.proofs.trees.+read_branches+read_selector+read_tree.Lts-read_selector as read-selector-lts
-use Rattle.stage_reader.proofs.trees.read_tree.Reads as read-tree
-use Rattle.stage_reader.proofs.trees.read_tree.Kinds as read-tree-kinds
-use Rattle.stage_reader.proofs.trees.+read_branches+read_selector+read_tree.Lts-read_tree as read-tree-lts
+use mathlib.Core.Bool.{cond}
+use borrow.Author.Tests.{le-leb, lt-leb}
+use lib.Dec.{leb}
+use lib.ListN.{getD, drop}
+use Rattle.base.specs.Refusals.{refusalAt, notAscending}
 use Rattle.base.proofs.Refusal.at.Reads as at-reads
-use Rattle.stage_reader.proofs.tables.constant_one.Reads as constant-one-reads
+use Rattle.sheet.specs.Limits.{maxPatterns}
+use Rattle.sheet.proofs.limits.all_ones.Reads as all-ones-reads
+use Rattle.table.specs.Tree.{selectors}
+use Rattle.stage.specs.Read.{fault, branchesAt, selectorAt, treeAt}
+use Rattle.stage_reader.specs.Inner.Trees.{treeReply, stepOf}
+use Rattle.stage_reader.proofs.Places.{tree-cut, tree-selects, tree-zero, tree-one, tree-misplaced, selector-cut, selector-none, selector-past, selector-input}
+use Rattle.stage_reader.proofs.Selecting.{table-zero, table-one}
+use Rattle.stage_reader.proofs.Taken.{handed, step-refused, tree-bounds, first-fault, second-fault, both-taken}
 use Rattle.stage_reader.proofs.due.misplaced_number.Reads as misplaced-number-reads
 use Rattle.stage_reader.proofs.tables.select.Reads as select-reads
+use Rattle.stage_reader.proofs.trees.read_branches.Reads as branches
+use Rattle.stage_reader.proofs.trees.read_selector.Reads as selector
+use Rattle.stage_reader.proofs.trees.read_tree.Reads as tree
+use Rattle.stage_reader.proofs.trees.read_tree.Kinds as kinds
+use Rattle.stage_reader.proofs.trees.+read_branches+read_selector+read_tree.Lts-read_branches as branches-lts
+use Rattle.stage_reader.proofs.trees.+read_branches+read_selector+read_tree.Lts-read_selector as selector-lts
+use Rattle.stage_reader.proofs.trees.+read_branches+read_selector+read_tree.Lts-read_tree as tree-lts
 use Rattle.stage_reader.proofs.trees.+read_branches+read_selector+read_tree.{statement}
 use Rattle.stage_reader.proofs.trees.+read_branches+read_selector+read_tree.Tie.{close}
 
-abbrev μ-read-branches : Measures 1 read-branches-kinds.ps ℕ
-μ-read-branches κs a = 3 * (a .1 .1 .0 - a .1 .1 .1 .0) + 3
+-- The inputs that are left fall at each selector. A tree calls a selector, a selector its branches, and these the trees below.
+abbrev μ : ℕ → Measures 1 kinds.ps ℕ
+μ rank κs a = 3 * (a .1 .1 .0 - a .1 .1 .1 .0) + rank
 
-abbrev μ-read-selector : Measures 1 read-selector-kinds.ps ℕ
-μ-read-selector κs a = 3 * (a .1 .1 .0 - a .1 .1 .1 .0) + 1
+module _ (t : ℕ) where
+  abbrev here : ℕ → In 1 kinds.ps → In 1 kinds.ps
+  here rank pre = and 1 kinds.ps (is 1 kinds.ps (μ rank) t) pre
 
-abbrev μ-read-tree : Measures 1 read-tree-kinds.ps ℕ
-μ-read-tree κs a = 3 * (a .1 .1 .0 - a .1 .1 .1 .0) + 2
+  abbrev below : ℕ → In 1 kinds.ps → In 1 kinds.ps
+  below rank pre = and 1 kinds.ps (falls 1 kinds.ps _<_ (μ rank) t) pre
 
-abbrev read-branches-at : ℕ → In 1 read-branches-kinds.ps
-read-branches-at t =
-    and 1 read-branches-kinds.ps (is 1 read-branches-kinds.ps μ-read-branches t) read-branches.Pre
+  -- the two trees of a selector
+  abbrev branches-claims : branches-lts.Claims
+  branches-claims = (below 2 tree.Pre, tree.Post, select-reads.Asked, select-reads.Learnt)
 
-abbrev read-branches-below : ℕ → In 1 read-branches-kinds.ps
-read-branches-below t =
-    and
-    1
-    read-branches-kinds.ps
-    (falls 1 read-branches-kinds.ps _<_ μ-read-branches t)
-    read-branches.Pre
+  abbrev Branches : (branches-lts.Claims → In 1 kinds.ps → Out 1 kinds.ps kinds.r → Type 0) → Type 0
+  Branches N = N branches-claims (here 3 branches.Pre) branches.Post
 
-abbrev read-selector-at : ℕ → In 1 read-selector-kinds.ps
-read-selector-at t =
-    and 1 read-selector-kinds.ps (is 1 read-selector-kinds.ps μ-read-selector t) read-selector.Pre
+  -- what was read of the tree for 0, then of the tree for 1
+  abbrev from : Branches branches-lts.After-for-zero → Branches branches-lts.Start
+  from c = c .before .before .before .before
 
-abbrev read-selector-below : ℕ → In 1 read-selector-kinds.ps
-read-selector-below t =
-    and
-    1
-    read-selector-kinds.ps
-    (falls 1 read-selector-kinds.ps _<_ μ-read-selector t)
-    read-selector.Pre
+  first : (c : Branches branches-lts.After-for-zero)
+      → handed (c .for-zero .given .0)
+      ≡ stepOf (from c .args .n) (treeAt (from c .args .n) (from c .args .i) (from c .args .at) (drop (from c .args .at) (from c .args .s .now)))
+  first c = ap treeReply (sym (c .for-zero .given .1)) ∙ c .before .before .read-tree .ensures
 
-abbrev read-tree-at : ℕ → In 1 read-tree-kinds.ps
-read-tree-at t = and 1 read-tree-kinds.ps (is 1 read-tree-kinds.ps μ-read-tree t) read-tree.Pre
+  abbrev earlier : Branches branches-lts.After-for-one → Branches branches-lts.After-for-zero
+  earlier c = c .before .before .before .before
 
-abbrev read-tree-below : ℕ → In 1 read-tree-kinds.ps
-read-tree-below t =
-    and 1 read-tree-kinds.ps (falls 1 read-tree-kinds.ps _<_ μ-read-tree t) read-tree.Pre
+  abbrev between : Branches branches-lts.After-for-one → ℕ
+  between c = handed (earlier c .for-zero .given .0) .next
 
-abbrev read-branches-claims : ℕ → read-branches-lts.Claims
-read-branches-claims t = (read-tree-below t, read-tree.Post, select-reads.Asked, select-reads.Learnt)
+  second : (c : Branches branches-lts.After-for-one)
+      → handed (c .for-one .given .0)
+      ≡ stepOf (from (earlier c) .args .n)
+      (treeAt (from (earlier c) .args .n) (from (earlier c) .args .i) (between c) (drop (between c) (from (earlier c) .args .s .now)))
+  second c = ap treeReply (sym (c .for-one .given .1)) ∙ c .before .before .read-tree2 .ensures
 
-abbrev read-selector-claims : ℕ → read-selector-lts.Claims
-read-selector-claims t = (at-reads.Asked, at-reads.Learnt, read-branches-below t, read-branches.Post)
+  bounds : (c : Branches branches-lts.After-for-one)
+      → (handed (earlier c .for-zero .given .0) .table < 2 ^ (2 ^ from (earlier c) .args .n)) × (handed (earlier c .for-zero .given .0) .cells < maxPatterns)
+      × (handed (c .for-one .given .0) .table < 2 ^ (2 ^ from (earlier c) .args .n)) × (handed (c .for-one .given .0) .cells < maxPatterns)
+  bounds c =
+      let s = from (earlier c) in
+      let a = s .args in
+      let p = s .pre .1 in
+      let off = tree-bounds (a .s .now) (a .n) (a .i) (a .at) _ _ _ (p .1) (p .2) (first (earlier c)) in
+      let on = tree-bounds (a .s .now) (a .n) (a .i) (between c) _ _ _ (p .1) (p .2) (second c) in
+      (off .0, off .1, on .0, on .1)
 
-abbrev read-tree-claims : ℕ → read-tree-lts.Claims
-read-tree-claims t = (at-reads.Asked, at-reads.Learnt, read-selector-below t, read-selector.Post, constant-one-reads.Asked, constant-one-reads.Learnt, misplaced-number-reads.Asked, misplaced-number-reads.Learnt)
+  branches-tree-requires : Branches branches-lts.Need-read-tree-requires
+  branches-tree-requires c κs = omega arith
 
-read-branches-read-tree-requires : (t : ℕ) → read-branches-lts.Need-read-tree-requires (read-branches-claims t) (read-branches-at t) read-branches.Post
-read-branches-read-tree-requires t c κs = omega arith
+  branches-for-zero : Branches branches-lts.Need-enum-known-for-zero
+  branches-for-zero c = c .match .keys1
 
-read-branches-enum-known-for-zero : (t : ℕ) → read-branches-lts.Need-enum-known-for-zero (read-branches-claims t) (read-branches-at t) read-branches.Post
-read-branches-enum-known-for-zero t c = c .match .keys1
+  branches-told : Branches branches-lts.Need-enum-told
+  branches-told c = c .match .keys2
 
-read-branches-enum-told : (t : ℕ) → read-branches-lts.Need-enum-told (read-branches-claims t) (read-branches-at t) read-branches.Post
-read-branches-enum-told t c = c .match .keys2
+  branches-returns : Branches branches-lts.Need-returns
+  branches-returns c =
+      let r = c .before .before in
+      let a = r .before .before .args in
+      let refused = ap treeReply (c .enum-told .given .1) in
+      refused ∙ first-fault (a .s .now) (a .n) (a .i) (a .at) _ (sym refused ∙ r .read-tree .ensures)
 
-read-branches-returns : (t : ℕ) → read-branches-lts.Need-returns (read-branches-claims t) (read-branches-at t) read-branches.Post
-read-branches-returns t c =
-    let r = c .before .before in
-    let a = r .before .before .args in
-    ap treeReply (c .enum-told .given .1) ∙ first-fault (a .s .now) (a .n) (a .i) (a .at) _ (ap treeReply (sym (c .enum-told .given .1)) ∙ r .read-tree .ensures)
+  branches-tree-requires-2 : Branches branches-lts.Need-read-tree-requires-2
+  branches-tree-requires-2 c κs = omega arith
 
-read-branches-read-tree-requires-2 : (t : ℕ) → read-branches-lts.Need-read-tree-requires-2 (read-branches-claims t) (read-branches-at t) read-branches.Post
-read-branches-read-tree-requires-2 t c κs = omega arith
+  branches-for-one : Branches branches-lts.Need-enum-known-for-one
+  branches-for-one c = c .match2 .keys1
 
-read-branches-enum-known-for-one : (t : ℕ) → read-branches-lts.Need-enum-known-for-one (read-branches-claims t) (read-branches-at t) read-branches.Post
-read-branches-enum-known-for-one t c = c .match2 .keys1
+  branches-told-2 : Branches branches-lts.Need-enum-told-2
+  branches-told-2 c = c .match2 .keys2
 
-read-branches-enum-told-2 : (t : ℕ) → read-branches-lts.Need-enum-told-2 (read-branches-claims t) (read-branches-at t) read-branches.Post
-read-branches-enum-told-2 t c = c .match2 .keys2
+  branches-returns-2 : Branches branches-lts.Need-returns-2
+  branches-returns-2 c =
+      let z = c .before .before .before .before in
+      let a = from z .args in
+      let refused = ap treeReply (c .enum-told2 .given .1) in
+      refused ∙ second-fault (a .s .now) (a .n) (a .i) (a .at) _ _ _ (first z) _ (sym refused ∙ c .before .before .read-tree2 .ensures)
 
-read-branches-returns-2 : (t : ℕ) → read-branches-lts.Need-returns-2 (read-branches-claims t) (read-branches-at t) read-branches.Post
-read-branches-returns-2 t c =
-    let fz = c .before .before .before .before in
-    let r = fz .before .before in
-    let s = r .before .before in
-    let a = s .args in
-    let first = ap treeReply (sym (fz .for-zero .given .1)) ∙ r .read-tree .ensures in
-    ap treeReply (c .enum-told2 .given .1)
-    ∙ second-fault (a .s .now) (a .n) (a .i) (a .at) _ _ _ first _ (ap treeReply (sym (c .enum-told2 .given .1)) ∙ c .before .before .read-tree2 .ensures)
+  branches-select-requires : Branches branches-lts.Need-select-requires
+  branches-select-requires c κs = omega (arith, bounds (c .before), from (earlier (c .before)) .pre .1)
 
-read-branches-select-requires : (t : ℕ) → read-branches-lts.Need-select-requires (read-branches-claims t) (read-branches-at t) read-branches.Post
-read-branches-select-requires t c κs =
-    let fz = c .before .before .before .before .before in
-    let r = fz .before .before in
-    let s = r .before .before in
-    let a = s .args in
-    let first = ap treeReply (sym (fz .for-zero .given .1)) ∙ r .read-tree .ensures in
-    let fo = c .before in
-    let second = ap treeReply (sym (fo .for-one .given .1)) ∙ fo .before .before .read-tree2 .ensures in
-    let p = s .pre .1 in
-    let fits-off = tree-bounds (a .s .now) (a .n) (a .i) (a .at) _ _ _ (p .1) (p .2) first .0 in
-    let fits-on = tree-bounds (a .s .now) (a .n) (a .i) _ _ _ _ (p .1) (p .2) second .0 in
-    (p .0, p .1, p .2, omega (arith, fits-off, fits-on), omega (arith, fits-off, fits-on))
+  branches-add-t14 : Branches branches-lts.Need-add-t14
+  branches-add-t14 c = omega (arith, bounds (c .before .before))
 
-read-branches-add-t14 : (t : ℕ) → read-branches-lts.Need-add-t14 (read-branches-claims t) (read-branches-at t) read-branches.Post
-read-branches-add-t14 t c =
-    let fz = c .before .before .before .before .before .before in
-    let r = fz .before .before in
-    let s = r .before .before in
-    let a = s .args in
-    let first = ap treeReply (sym (fz .for-zero .given .1)) ∙ r .read-tree .ensures in
-    omega (arith, tree-bounds (a .s .now) (a .n) (a .i) (a .at) _ _ _ (s .pre .1 .1) (s .pre .1 .2) first .1)
+  branches-add-t15 : Branches branches-lts.Need-add-t15
+  branches-add-t15 c = omega (arith, bounds (c .before .before))
 
-read-branches-add-t15 : (t : ℕ) → read-branches-lts.Need-add-t15 (read-branches-claims t) (read-branches-at t) read-branches.Post
-read-branches-add-t15 t c =
-    let fz = c .before .before .before .before .before .before in
-    let r = fz .before .before in
-    let s = r .before .before in
-    let a = s .args in
-    let first = ap treeReply (sym (fz .for-zero .given .1)) ∙ r .read-tree .ensures in
-    let fo = c .before .before in
-    let second = ap treeReply (sym (fo .for-one .given .1)) ∙ fo .before .before .read-tree2 .ensures in
-    omega (arith, tree-bounds (a .s .now) (a .n) (a .i) (a .at) _ _ _ (s .pre .1 .1) (s .pre .1 .2) first .1, tree-bounds (a .s .now) (a .n) (a .i) _ _ _ _ (s .pre .1 .1) (s .pre .1 .2) second .1)
+  branches-returns-3 : Branches branches-lts.Need-returns-3
+  branches-returns-3 c =
+      let o = c .before .before in
+      let a = from (earlier o) .args in
+      both-taken (a .s .now) (a .n) (a .i) (a .at) _ _ _ (first (earlier o)) _ _ _ _ (second o) (c .select .ensures)
 
-read-branches-returns-3 : (t : ℕ) → read-branches-lts.Need-returns-3 (read-branches-claims t) (read-branches-at t) read-branches.Post
-read-branches-returns-3 t c =
-    let fz = c .before .before .before .before .before .before in
-    let r = fz .before .before in
-    let s = r .before .before in
-    let a = s .args in
-    let first = ap treeReply (sym (fz .for-zero .given .1)) ∙ r .read-tree .ensures in
-    let fo = c .before .before in
-    let second = ap treeReply (sym (fo .for-one .given .1)) ∙ fo .before .before .read-tree2 .ensures in
-    both-taken (a .s .now) (a .n) (a .i) (a .at) _ _ _ first _ _ _ _ second (c .select .ensures)
+  pub branches-meet : {M : Type 1} → branches-lts.Closed branches-claims (here 3 branches.Pre) branches.Post M
+  branches-meet =
+      branches-lts.spec
+      branches-claims
+      (here 3 branches.Pre)
+      branches.Post
+      branches-tree-requires
+      branches-for-zero
+      branches-told
+      branches-returns
+      branches-tree-requires-2
+      branches-for-one
+      branches-told-2
+      branches-returns-2
+      branches-select-requires
+      branches-add-t14
+      branches-add-t15
+      branches-returns-3
 
-read-selector-add-input-at : (t : ℕ) → read-selector-lts.Need-add-input-at (read-selector-claims t) (read-selector-at t) read-selector.Post
-read-selector-add-input-at t c = omega arith
+  -- a selector
+  abbrev selector-claims : selector-lts.Claims
+  selector-claims = (at-reads.Asked, at-reads.Learnt, below 3 branches.Pre, branches.Post)
 
-read-selector-at-requires : (t : ℕ) → read-selector-lts.Need-at-requires (read-selector-claims t) (read-selector-at t) read-selector.Post
-read-selector-at-requires t c κs = search needs
+  abbrev Selector : (selector-lts.Claims → In 1 kinds.ps → Out 1 kinds.ps kinds.r → Type 0) → Type 0
+  Selector N = N selector-claims (here 1 selector.Pre) selector.Post
 
-read-selector-returns : (t : ℕ) → read-selector-lts.Need-returns (read-selector-claims t) (read-selector-at t) read-selector.Post
-unfolding selectorAt stepOf
-read-selector-returns t c =
-    let a = c .before .before .before .args in
-    rw (operand-stops fault (a .at) _ (a .s .now) (a .at + 1) (c .before .if1 .taken)) (ap refusedTree (c .at .ensures))
+  selector-add-input-at : Selector selector-lts.Need-add-input-at
+  selector-add-input-at c = omega arith
 
-read-selector-shared-slice-read-i : (t : ℕ) → read-selector-lts.Need-shared-slice-read-i (read-selector-claims t) (read-selector-at t) read-selector.Post
-read-selector-shared-slice-read-i t c = omega arith
+  selector-at-requires : Selector selector-lts.Need-at-requires
+  selector-at-requires c κs = search needs
 
-read-selector-at-requires-2 : (t : ℕ) → read-selector-lts.Need-at-requires-2 (read-selector-claims t) (read-selector-at t) read-selector.Post
-read-selector-at-requires-2 t c κs = search needs
+  selector-returns : Selector selector-lts.Need-returns
+  selector-returns c = step-refused _ _ _ _ (selector-cut _ _ _ _ (c .before .if1 .taken)) (c .at .ensures)
 
-read-selector-returns-2 : (t : ℕ) → read-selector-lts.Need-returns-2 (read-selector-claims t) (read-selector-at t) read-selector.Post
-unfolding stepOf
-read-selector-returns-2 t c =
-    let i2 = c .before in
-    let e1 = i2 .before .before in
-    let a = e1 .before .before .args in
-    rw (selector-goes (a .s .now) (a .n) (a .k) (a .at) (e1 .if1 .left), eq-eqb _ _ (i2 .if2 .taken)) (ap refusedTree (c .at2 .ensures))
+  selector-read-i : Selector selector-lts.Need-shared-slice-read-i
+  selector-read-i c = omega arith
 
-read-selector-at-requires-3 : (t : ℕ) → read-selector-lts.Need-at-requires-3 (read-selector-claims t) (read-selector-at t) read-selector.Post
-read-selector-at-requires-3 t c κs = search needs
+  selector-at-requires-2 : Selector selector-lts.Need-at-requires-2
+  selector-at-requires-2 c κs = search needs
 
-read-selector-returns-3 : (t : ℕ) → read-selector-lts.Need-returns-3 (read-selector-claims t) (read-selector-at t) read-selector.Post
-unfolding stepOf
-read-selector-returns-3 t c =
-    let i3 = c .before in
-    let i2 = i3 .before in
-    let e1 = i2 .before .before in
-    let a = e1 .before .before .args in
-    rw (selector-goes (a .s .now) (a .n) (a .k) (a .at) (e1 .if1 .left), ne-eqb _ _ (i2 .if2 .left), lt-ltb _ _ (i3 .if3 .taken)) (ap refusedTree (c .at3 .ensures))
+  selector-returns-2 : Selector selector-lts.Need-returns-2
+  selector-returns-2 c =
+      let i2 = c .before in
+      step-refused _ _ _ _ (selector-none _ _ _ _ (i2 .before .before .if1 .left) (i2 .if2 .taken)) (c .at2 .ensures)
 
-read-selector-at-requires-4 : (t : ℕ) → read-selector-lts.Need-at-requires-4 (read-selector-claims t) (read-selector-at t) read-selector.Post
-read-selector-at-requires-4 t c κs = search needs
+  selector-at-requires-3 : Selector selector-lts.Need-at-requires-3
+  selector-at-requires-3 c κs = search needs
 
-read-selector-returns-4 : (t : ℕ) → read-selector-lts.Need-returns-4 (read-selector-claims t) (read-selector-at t) read-selector.Post
-unfolding stepOf
-read-selector-returns-4 t c =
-    let i4 = c .before in
-    let i3 = i4 .before in
-    let i2 = i3 .before in
-    let e1 = i2 .before .before in
-    let a = e1 .before .before .args in
-    let not-above : getD (a .s .now) (a .at + 1) 0 ≤ a .k = i4 .if4 .taken in
-    rw (selector-goes (a .s .now) (a .n) (a .k) (a .at) (e1 .if1 .left), ne-eqb _ _ (i2 .if2 .left), le-ltb _ _ (i3 .if3 .left), le-leb _ _ not-above)
-    (ap refusedTree (c .at4 .ensures))
+  selector-returns-3 : Selector selector-lts.Need-returns-3
+  selector-returns-3 c =
+      let i3 = c .before in
+      let i2 = i3 .before in
+      step-refused _ _ _ _ (selector-past _ _ _ _ (i2 .before .before .if1 .left) (i2 .if2 .left) (i3 .if3 .taken)) (c .at3 .ensures)
 
-read-selector-add-read-branches : (t : ℕ) → read-selector-lts.Need-add-read-branches (read-selector-claims t) (read-selector-at t) read-selector.Post
-read-selector-add-read-branches t c = omega arith
+  selector-at-requires-4 : Selector selector-lts.Need-at-requires-4
+  selector-at-requires-4 c κs = search needs
 
-read-selector-read-branches-requires : (t : ℕ) → read-selector-lts.Need-read-branches-requires (read-selector-claims t) (read-selector-at t) read-selector.Post
-read-selector-read-branches-requires t c κs = omega arith
+  -- an input of the sheet: whether it comes after the parent's decides
+  abbrev from-selector : Selector selector-lts.Else3 → Selector selector-lts.Start
+  from-selector c = c .before .before .before .before .before
 
-read-selector-returns-5 : (t : ℕ) → read-selector-lts.Need-returns-5 (read-selector-claims t) (read-selector-at t) read-selector.Post
-read-selector-returns-5 t c =
-    let i4 = c .before in
-    let i3 = i4 .before in
-    let i2 = i3 .before in
-    let e1 = i2 .before .before in
-    let a = e1 .before .before .args in
-    rw (selector-in (a .s .now) (a .n) (a .k) (a .at) (e1 .if1 .left) (i2 .if2 .left) (i3 .if3 .left) (i4 .if4 .left)) (c .read-branches .ensures)
+  abbrev input-at : Selector selector-lts.Else3 → ℕ
+  input-at c = getD (from-selector c .args .s .now) (from-selector c .args .at + 1) 0
 
-read-tree-at-requires : (t : ℕ) → read-tree-lts.Need-at-requires (read-tree-claims t) (read-tree-at t) read-tree.Post
-read-tree-at-requires t c κs = search needs
+  ascends : (c : Selector selector-lts.Else3)
+      → selectorAt (treeAt (from-selector c .args .n)) (from-selector c .args .n) (from-selector c .args .k) (from-selector c .args .at)
+      (drop (from-selector c .args .at + 1) (from-selector c .args .s .now))
+      ≡ cond (leb (input-at c) (from-selector c .args .k)) (fault (refusalAt notAscending (from-selector c .args .at)))
+      (branchesAt (treeAt (from-selector c .args .n) (input-at c)) (input-at c) (from-selector c .args .at + 2)
+      (drop (from-selector c .args .at + 2) (from-selector c .args .s .now)))
+  ascends c = selector-input _ _ _ _ (c .before .before .before .if1 .left) (c .before .if2 .left) (c .if3 .left)
 
-read-tree-returns : (t : ℕ) → read-tree-lts.Need-returns (read-tree-claims t) (read-tree-at t) read-tree.Post
-unfolding treeFrom stepOf
-read-tree-returns t c =
-    let s = c .before .before .before in
-    let a = s .args in
-    rw (tree-is (a .n) (a .k) (s .pre .1 .0) (a .at) (drop (a .at) (a .s .now)), out (a .s .now) (a .at) (c .before .if1 .taken)) (ap refusedTree (c .at .ensures))
+  selector-returns-4 : Selector selector-lts.Need-returns-4
+  selector-returns-4 c =
+      let i3 = c .before .before in
+      let not-above : input-at i3 ≤ from-selector i3 .args .k = c .before .if4 .taken in
+      step-refused _ _ _ _ (ascends i3 ∙ rw (le-leb _ _ not-above)) (c .at4 .ensures)
 
-read-tree-shared-slice-read-b : (t : ℕ) → read-tree-lts.Need-shared-slice-read-b (read-tree-claims t) (read-tree-at t) read-tree.Post
-read-tree-shared-slice-read-b t c = omega arith
+  selector-add-read-branches : Selector selector-lts.Need-add-read-branches
+  selector-add-read-branches c = omega arith
 
-read-tree-read-selector-requires : (t : ℕ) → read-tree-lts.Need-read-selector-requires (read-tree-claims t) (read-tree-at t) read-tree.Post
-read-tree-read-selector-requires t c κs = omega arith
+  selector-branches-requires : Selector selector-lts.Need-read-branches-requires
+  selector-branches-requires c κs = omega arith
 
-read-tree-add-t12 : (t : ℕ) → read-tree-lts.Need-add-t12 (read-tree-claims t) (read-tree-at t) read-tree.Post
-read-tree-add-t12 t c = omega arith
+  selector-returns-5 : Selector selector-lts.Need-returns-5
+  selector-returns-5 c = rw (ascends (c .before .before), lt-leb _ _ (c .before .if4 .left)) (c .read-branches .ensures)
 
-read-tree-constant-one-requires : (t : ℕ) → read-tree-lts.Need-constant-one-requires (read-tree-claims t) (read-tree-at t) read-tree.Post
-read-tree-constant-one-requires t c κs = omega arith
+  pub selector-meets : {M : Type 1} → selector-lts.Closed selector-claims (here 1 selector.Pre) selector.Post M
+  selector-meets =
+      selector-lts.spec
+      selector-claims
+      (here 1 selector.Pre)
+      selector.Post
+      selector-add-input-at
+      selector-at-requires
+      selector-returns
+      selector-read-i
+      selector-at-requires-2
+      selector-returns-2
+      selector-at-requires-3
+      selector-returns-3
+      selector-at-requires-4
+      selector-returns-4
+      selector-add-read-branches
+      selector-branches-requires
+      selector-returns-5
 
-read-tree-add-t14 : (t : ℕ) → read-tree-lts.Need-add-t14 (read-tree-claims t) (read-tree-at t) read-tree.Post
-read-tree-add-t14 t c = omega arith
+  -- a tree
+  abbrev tree-claims : tree-lts.Claims
+  tree-claims = (
+    at-reads.Asked,
+    at-reads.Learnt,
+    below 1 selector.Pre,
+    selector.Post,
+    all-ones-reads.Asked,
+    all-ones-reads.Learnt,
+    misplaced-number-reads.Asked,
+    misplaced-number-reads.Learnt,
+  )
 
-read-tree-misplaced-number-requires : (t : ℕ) → read-tree-lts.Need-misplaced-number-requires (read-tree-claims t) (read-tree-at t) read-tree.Post
-read-tree-misplaced-number-requires t c κs = search needs
+  abbrev Tree : (tree-lts.Claims → In 1 kinds.ps → Out 1 kinds.ps kinds.r → Type 0) → Type 0
+  Tree N = N tree-claims (here 2 tree.Pre) tree.Post
 
-read-tree-at-requires-2 : (t : ℕ) → read-tree-lts.Need-at-requires-2 (read-tree-claims t) (read-tree-at t) read-tree.Post
-read-tree-at-requires-2 t c κs = search needs
+  tree-at-requires : Tree tree-lts.Need-at-requires
+  tree-at-requires c κs = search needs
 
-read-tree-returns-2 : (t : ℕ) → read-tree-lts.Need-returns-2 (read-tree-claims t) (read-tree-at t) read-tree.Post
-unfolding treeFrom
-read-tree-returns-2 t c =
-    let e1 = c .before .before .before in
-    let s = e1 .before .before in
-    let a = s .args in
-    let unfolded = tree-is (a .n) (a .k) (s .pre .1 .0) (a .at) (drop (a .at) (a .s .now)) in
-    let b = here (a .s .now) (a .at) (e1 .if1 .left) in
-    rw (unfolded, b, c .before .match .keys1) (c .read-selector .ensures)
+  tree-returns : Tree tree-lts.Need-returns
+  tree-returns c =
+      step-refused _ _ _ _ (tree-cut _ _ _ _ (c .before .before .before .pre .1 .0) (c .before .if1 .taken)) (c .at .ensures)
 
-read-tree-returns-3 : (t : ℕ) → read-tree-lts.Need-returns-3 (read-tree-claims t) (read-tree-at t) read-tree.Post
-unfolding treeFrom stepOf selectors
-read-tree-returns-3 t c =
-    let e1 = c .before .before in
-    let s = e1 .before .before in
-    let a = s .args in
-    let unfolded = tree-is (a .n) (a .k) (s .pre .1 .0) (a .at) (drop (a .at) (a .s .now)) in
-    let b = here (a .s .now) (a .at) (e1 .if1 .left) in
-    rw (unfolded, b, c .match .keys2, table-zero (a .n))
+  tree-read-b : Tree tree-lts.Need-shared-slice-read-b
+  tree-read-b c = omega arith
 
-read-tree-returns-4 : (t : ℕ) → read-tree-lts.Need-returns-4 (read-tree-claims t) (read-tree-at t) read-tree.Post
-unfolding treeFrom stepOf selectors
-read-tree-returns-4 t c =
-    let e1 = c .before .before .before in
-    let s = e1 .before .before in
-    let a = s .args in
-    let unfolded = tree-is (a .n) (a .k) (s .pre .1 .0) (a .at) (drop (a .at) (a .s .now)) in
-    let b = here (a .s .now) (a .at) (e1 .if1 .left) in
-    rw (unfolded, b, c .before .match .keys3, c .constant-one .ensures)
+  tree-selector-requires : Tree tree-lts.Need-read-selector-requires
+  tree-selector-requires c κs = omega arith
 
-read-tree-returns-5 : (t : ℕ) → read-tree-lts.Need-returns-5 (read-tree-claims t) (read-tree-at t) read-tree.Post
-unfolding treeFrom stepOf
-read-tree-returns-5 t c =
-    let e1 = c .before .before .before .before in
-    let s = e1 .before .before in
-    let a = s .args in
-    let unfolded = tree-is (a .n) (a .k) (s .pre .1 .0) (a .at) (drop (a .at) (a .s .now)) in
-    let b = here (a .s .now) (a .at) (e1 .if1 .left) in
-    let r = c .before .before .match .rest in
-    rw (unfolded, b, ne-eqb _ _ (r .0 .1), ne-eqb _ _ (r .1), ne-eqb _ _ (r .0 .0 .1), ← c .before .misplaced-number .ensures) (ap refusedTree (c .at2 .ensures))
+  tree-add-t12 : Tree tree-lts.Need-add-t12
+  tree-add-t12 c = omega arith
+
+  tree-all-ones-requires : Tree tree-lts.Need-all-ones-requires
+  tree-all-ones-requires c κs = search needs
+
+  tree-add-t14 : Tree tree-lts.Need-add-t14
+  tree-add-t14 c = omega arith
+
+  tree-misplaced-requires : Tree tree-lts.Need-misplaced-number-requires
+  tree-misplaced-requires c κs = search needs
+
+  tree-at-requires-2 : Tree tree-lts.Need-at-requires-2
+  tree-at-requires-2 c κs = search needs
+
+  abbrev from-tree : Tree tree-lts.Else1 → Tree tree-lts.Start
+  from-tree c = c .before .before
+
+  tree-returns-2 : Tree tree-lts.Need-returns-2
+  tree-returns-2 c =
+      let e = c .before .before .before in
+      let a = from-tree e .args in
+      rw (tree-selects (a .s .now) (a .n) (a .k) (a .at) (from-tree e .pre .1 .0) (e .if1 .left) (c .before .match .keys1)) (c .read-selector .ensures)
+
+  tree-returns-3 : Tree tree-lts.Need-returns-3
+  unfolding stepOf selectors
+  tree-returns-3 c =
+      let e = c .before .before in
+      let a = from-tree e .args in
+      rw (tree-zero (a .s .now) (a .n) (a .k) (a .at) (from-tree e .pre .1 .0) (e .if1 .left) (c .match .keys2), table-zero (a .n))
+
+  tree-returns-4 : Tree tree-lts.Need-returns-4
+  unfolding stepOf selectors
+  tree-returns-4 c =
+      let e = c .before .before .before in
+      let a = from-tree e .args in
+      let one = c .all-ones .ensures ∙ table-one (a .n) (from-tree e .pre .1 .1) in
+      rw (tree-one (a .s .now) (a .n) (a .k) (a .at) (from-tree e .pre .1 .0) (e .if1 .left) (c .before .match .keys3), one)
+
+  tree-returns-5 : Tree tree-lts.Need-returns-5
+  tree-returns-5 c =
+      let e = c .before .before .before .before in
+      let r = c .before .before .match .rest in
+      step-refused _ _ _ _ (tree-misplaced _ _ _ _ (from-tree e .pre .1 .0) (e .if1 .left) (r .0 .0 .1) (r .0 .1) (r .1))
+      (c .at2 .ensures ∙ ap (λ (k : ℕ). refusalAt k (from-tree e .args .at)) (c .before .misplaced-number .ensures))
+
+  pub tree-meets : {M : Type 1} → tree-lts.Closed tree-claims (here 2 tree.Pre) tree.Post M
+  tree-meets =
+      tree-lts.spec
+      tree-claims
+      (here 2 tree.Pre)
+      tree.Post
+      tree-at-requires
+      tree-returns
+      tree-read-b
+      tree-selector-requires
+      tree-add-t12
+      tree-all-ones-requires
+      tree-add-t14
+      tree-misplaced-requires
+      tree-at-requires-2
+      tree-returns-2
+      tree-returns-3
+      tree-returns-4
+      tree-returns-5
 
 pub +read-branches+read-selector+read-tree-spec : {M : Type 1} → statement M
-+read-branches+read-selector+read-tree-spec =
-    close μ-read-branches μ-read-selector μ-read-tree (λ t. read-branches-lts.spec (
-      read-tree-below t,
-      read-tree.Post,
-      select-reads.Asked,
-      select-reads.Learnt,
-    )
-    (read-branches-at t)
-    read-branches.Post
-    (read-branches-read-tree-requires t)
-    (read-branches-enum-known-for-zero t)
-    (read-branches-enum-told t)
-    (read-branches-returns t)
-    (read-branches-read-tree-requires-2 t)
-    (read-branches-enum-known-for-one t)
-    (read-branches-enum-told-2 t)
-    (read-branches-returns-2 t)
-    (read-branches-select-requires t)
-    (read-branches-add-t14 t)
-    (read-branches-add-t15 t)
-    (read-branches-returns-3 t))
-    (λ t. read-selector-lts.spec (
-      at-reads.Asked,
-      at-reads.Learnt,
-      read-branches-below t,
-      read-branches.Post,
-    )
-    (read-selector-at t)
-    read-selector.Post
-    (read-selector-add-input-at t)
-    (read-selector-at-requires t)
-    (read-selector-returns t)
-    (read-selector-shared-slice-read-i t)
-    (read-selector-at-requires-2 t)
-    (read-selector-returns-2 t)
-    (read-selector-at-requires-3 t)
-    (read-selector-returns-3 t)
-    (read-selector-at-requires-4 t)
-    (read-selector-returns-4 t)
-    (read-selector-add-read-branches t)
-    (read-selector-read-branches-requires t)
-    (read-selector-returns-5 t))
-    λ t. read-tree-lts.spec (
-      at-reads.Asked,
-      at-reads.Learnt,
-      read-selector-below t,
-      read-selector.Post,
-      constant-one-reads.Asked,
-      constant-one-reads.Learnt,
-      misplaced-number-reads.Asked,
-      misplaced-number-reads.Learnt,
-    )
-    (read-tree-at t)
-    read-tree.Post
-    (read-tree-at-requires t)
-    (read-tree-returns t)
-    (read-tree-shared-slice-read-b t)
-    (read-tree-read-selector-requires t)
-    (read-tree-add-t12 t)
-    (read-tree-constant-one-requires t)
-    (read-tree-add-t14 t)
-    (read-tree-misplaced-number-requires t)
-    (read-tree-at-requires-2 t)
-    (read-tree-returns-2 t)
-    (read-tree-returns-3 t)
-    (read-tree-returns-4 t)
-    (read-tree-returns-5 t)
++read-branches+read-selector+read-tree-spec = close (μ 3) (μ 1) (μ 2) (λ t. branches-meet t) (λ t. selector-meets t) (λ t. tree-meets t)

@@ -136,18 +136,23 @@ module _ (t : ℕ) where
       let a = h .before .before .before .args in
       rw (reduced-same (a .w) (a .k) (a .t) _ (h .before .if1 .left) (h .half-of .ensures) (e .if2 .taken)) (p .put-tree .ensures)
 
+  -- the tree for 0 is there before the tree for 1, and the selector before both
+  abbrev zero-done : Of lts.After-put-tree3 → Of lts.After-put-tree2
+  zero-done c = c .before .before .before .before
+
+  abbrev selector-done : Of lts.After-put-tree2 → Of lts.After-put-command
+  selector-done c = c .before .before .before .before
+
   length-kept-3 : Of lts.Need-same-length-3
   length-kept-3 c =
       let o = c .before .before in
-      let z = o .before .before .before .before in
-      let p = z .before .before .before .before in
-      o .put-tree3 .kept .0 ∙ z .put-tree2 .kept .0 ∙ p .put-command .kept .0
+      o .put-tree3 .kept .0 ∙ zero-done o .put-tree2 .kept .0 ∙ selector-done (zero-done o) .put-command .kept .0
 
   returns-3 : Of lts.Need-returns-3
   returns-3 c =
       let o = c .before .before in
-      let z = o .before .before .before .before in
-      let p = z .before .before .before .before in
+      let z = zero-done o in
+      let p = selector-done z in
       let e = p .before .before in
       let h = e .before in
       let a = h .before .before .before .args in

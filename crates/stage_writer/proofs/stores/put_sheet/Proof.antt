@@ -29,8 +29,8 @@ returns c =
     let p2 = p3 .before .before .before .before in
     let p1 = p2 .before .before .before .before in
     let a = p1 .before .before .before .args in
-    stage-stored (a .buffer .now) _ _ _ _ _ (a .tables) (a .n) (a .m) _ (p1 .put .ensures) (p2 .put2 .ensures) (p3 .put3 .ensures) (w .put-wires .ensures .0)
-    (w .put-wires .ensures .1) (p4 .put4 .ensures)
+    stage-stored (a .buffer .now) _ _ _ _ _ (a .tables) (a .n) (a .m) _ (p1 .put .ensures) (p2 .put2 .ensures) (p3 .put3 .ensures) (w .put-wires .ensures)
+    (p4 .put4 .ensures)
 
 pub put-sheet-spec : {M : Type 1} → statement M
 put-sheet-spec =

@@ -5,6 +5,7 @@ use native.Mathlib.Omega.{arith}
 use borrow.Author.Needs.{needs}
 use lib.ListN.{length, getD, length-append}
 use lib.Seq.{sets}
+use Rattle.sheet.specs.Limits.{maxWires}
 use Rattle.table.specs.Tree.{reduced}
 use Rattle.stage.specs.Bytes.{wireBytes, wiresBytes}
 use Rattle.stage.specs.Written.{stageTrees}
@@ -23,7 +24,7 @@ abbrev μ-loop : tie.MeasureT-loop
 μ-loop buffer₀ n m tables at₀ j₀ buffer at j = m - j
 
 within : (c : tie.Start Inv-loop μ-loop) → c .args .m ≤ length (c .args .t4)
-within c = let l : length (c .args .t4) ≡ 4 = search needs in omega arith
+within c = let l : length (c .args .t4) ≡ maxWires = search needs in omega arith
 
 loop-holds : tie.Need-loop-holds Inv-loop μ-loop
 unfolding stageTrees

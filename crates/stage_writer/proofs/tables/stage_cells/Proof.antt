@@ -5,6 +5,7 @@ use native.Mathlib.Omega.{arith}
 use native.Mathlib.Nat.{le-antisymm}
 use native.Mathlib.Numerals.{add-one}
 use lib.ListN.{getD}
+use Rattle.sheet.specs.Limits.{maxPatterns}
 use Rattle.table.specs.Bits.{sum}
 use Rattle.stage.specs.Written.{stageCells}
 use Rattle.stage.proofs.Lengths.{cells-few}
@@ -12,7 +13,7 @@ use Rattle.stage_writer.proofs.tables.stage_cells.Statement.{statement}
 use Rattle.stage_writer.proofs.tables.stage_cells.Tie as tie
 
 abbrev Inv-loop : tie.InvT-loop
-Inv-loop n m tables cells₀ j₀ cells j = (j ≤ m) × (cells ≡ stageCells n j tables) × (cells ≤ j * 15)
+Inv-loop n m tables cells₀ j₀ cells j = (j ≤ m) × (cells ≡ stageCells n j tables) × (cells ≤ j * (maxPatterns - 1))
 
 abbrev μ-loop : tie.MeasureT-loop
 μ-loop n m tables cells₀ j₀ cells j = m - j
