@@ -1,5 +1,5 @@
 pub mod Tests
 pub mod Lowest
 pub mod Table
-pub mod Rows
+pub mod Tabulate
 pub mod Cases

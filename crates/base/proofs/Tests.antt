@@ -98,3 +98,8 @@ denied e t = subst T (sym t ∙ ap not e) tt
 pub granted : {r s : Bool} → r ≡ s → not r ≡ false → T s
 granted {r = true} e t = subst T e tt
 granted {r = false} e t = absurd (subst T t tt)
+
+-- of two tests neither passes
+pub neither : (a b : Bool) → a || b ≡ false → (a ≡ false) × (b ≡ false)
+neither true b e = absurd (subst T e tt)
+neither false b e = (refl, e)

@@ -4,6 +4,8 @@ use Prim.Native.Nat.{ℕ}
 use mathlib.Core.Bool.{Bool}
 use lib.Dec.{leb}
 use Rattle.base.specs.declared.Refusal.{Refusal}
+use Rattle.base.specs.declared.Verdict.{Verdict}
+use Rattle.base.specs.declared.Verdict.the-variants.{Accepted, Refused}
 
 -- the outcome, which tells a case from the other cases of its enum; the number and the place of its refusal, 0 where it refuses nothing; and its own value (cells,
 -- a length), 0 where it has none
@@ -40,3 +42,8 @@ refusedCase f = refusing refusedOutcome f
 
 abbrev pub isRefused : Case → Bool
 isRefused c = leb refusedOutcome (c .outcome)
+
+-- what was accepted stands beside the verdict
+abbrev pub verdictCase : Verdict → Case
+verdictCase Accepted = acceptedCase
+verdictCase (Refused f) = refusedCase f

@@ -1,13 +1,7 @@
-// What every format shares: refusals, total access to bytes, and the test of sizes.
+// What every format shares: refusals, whether something is accepted, and total access to bytes.
 ghost use mathlib.Core.Path.{_≡_};
 ghost use lib.ListN.{getD, set};
 ghost use Rattle.base.specs.Refusals.{refusalAt};
-ghost use Rattle.base.specs.Sizes.{countOut, sizesOut};
-
-// The largest number of input lines and of wires. The sheet names both with its other limits.
-pub const MAX_INPUTS: u8 = 4;
-
-pub const MAX_WIRES: u8 = 4;
 
 // A refusal: document 01's number, and the place that it names.
 pub struct Refusal {
@@ -51,6 +45,12 @@ impl Refusal {
     }
 }
 
+// Whether what was handed in is accepted.
+pub enum Verdict {
+    Accepted,
+    Refused(Refusal),
+}
+
 // The byte at a place, or 0 past the end.
 pub fn byte_at(s: &[u8], at: usize) -> u8
     ensures { λ r. ⌜ r ≡ getD (now (s .entry)) at 0 ⌝ }
@@ -64,23 +64,5 @@ pub fn put(s: &mut [u8], at: usize, b: u8)
 {
     if at < s.len() {
         s[at] = b;
-    }
-}
-
-// A count outside 1 to most.
-fn count_out(x: u8, most: u8) -> bool
-    ensures { λ r. ⌜ r ≡ countOut x most ⌝ }
-{
-    if x == 0 { true } else { most < x }
-}
-
-// Too few or too many inputs or wires.
-pub fn sizes_out(n: u8, m: u8) -> bool
-    ensures { λ r. ⌜ r ≡ sizesOut n m ⌝ }
-{
-    if count_out(n, MAX_INPUTS) {
-        true
-    } else {
-        count_out(m, MAX_WIRES)
     }
 }

@@ -5,7 +5,7 @@ use mathlib.Core.List.{List, [], _∷_}
 use Rattle.base.specs.Cases.{accepting, acceptedCase}
 use Rattle.base.specs.Lowest.{lowest}
 use Rattle.base.specs.Refusals.{refusalAt, cutShort, outOfTurn, empty}
-use Rattle.table.specs.Bits.{bit, all, any, sum, ofBits, row}
+use Rattle.table.specs.Bits.{bit, all, any, sum, ofBits, tabulate}
 use Rattle.table.specs.Cells.{low, high, cells}
 use Rattle.table.specs.Tree.{reduced}
 use Rattle.table.specs.Pick.{suits, nearer, least, orZero, leastOf}
@@ -17,8 +17,8 @@ use Rattle.search.specs.Cases.{bestOutcome, stoppedOutcome, SearchReply}
 use Rattle.search.specs.Search.{tablesOf, total, pick, picks, floor, left, quick, start, split, expand, charge, treat, visit, searchPart, run}
 use Rattle.search.specs.TreeBoard.{tree}
 use Rattle.search.specs.Reply.{markOf, answerOf, refusedWith, afterCheck, searchOf}
-use Rattle.sheet.specs.Reading.{readingOf}
-use Rattle.sheet.proofs.Rows.{sheetA}
+use Rattle.reader.specs.Reading.{readingOf}
+use Rattle.reader.proofs.Rows.{sheetA}
 use Rattle.stage.specs.Bytes.{treeBytes, wireBytes, stageBytes}
 use Rattle.stage.specs.Written.{stageTrees, stageOf, firstOut, writtenOf, bufferAfter}
 use Rattle.unit.specs.Formed.{formedOf}
@@ -32,7 +32,7 @@ use Rattle.printed.specs.Printed.{budget, printedOf}
 
 -- all that a search computes by: tables and picks, relations, the search itself,
 unfoldable tables-opened : ℕ
-unfolding bit all any sum ofBits row low high cells reduced suits nearer least orZero leastOf
+unfolding bit all any sum ofBits tabulate low high cells reduced suits nearer least orZero leastOf
 tables-opened = 0
 
 unfoldable relations-opened : ℕ
@@ -43,9 +43,13 @@ unfoldable search-opened : ℕ
 unfolding tablesOf total pick picks floor left quick start split expand charge treat visit searchPart run tree markOf answerOf refusedWith afterCheck searchOf
 search-opened = 0
 
--- a stage and a quote,
+-- a stage, a quote,
+unfoldable stage-opened : ℕ
+unfolding treeBytes wireBytes stageBytes stageTrees stageOf firstOut writtenOf bufferAfter presentTable presentTables presentCells
+stage-opened = 0
+
 unfoldable quote-opened : ℕ
-unfolding treeBytes wireBytes stageBytes stageTrees stageOf firstOut writtenOf bufferAfter presentTable presentTables presentCells withStage searched quotedOf bufferSearched bufferQuoted
+unfolding stage-opened withStage searched quotedOf bufferSearched bufferQuoted
 quote-opened = 0
 
 -- and the printed lines

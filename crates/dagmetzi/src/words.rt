@@ -1,5 +1,6 @@
 // The words of the program: a function for each, which takes the number of arguments after the word, reads the files that they name, and prints the reply.
-// A word hands nothing back and changes nothing that is lent to it, so that it has no equation of its own: those of what it prints stand in the crate `printed`.
+// A word hands nothing back and changes nothing that is lent to it, so that it has no equation of its own: those of what it prints
+// stand in the crate `printed`.
 use crate::files::read_named;
 use crate::files::read_open;
 use crate::messages;

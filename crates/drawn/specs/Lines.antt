@@ -4,6 +4,7 @@ use mathlib.Core.Bool.{Bool, true, false, cond}
 use mathlib.Core.List.{List, [], _∷_, _++_}
 use lib.Dec.{eqb}
 use lib.ListN.{getD, drop, length}
+use Rattle.sheet.specs.Limits.{maxWires}
 use Rattle.text.specs.Text.{space, decimal, longestDecimal}
 use Rattle.report.specs.Lines.{newline, longestCounts, longestPairs, longestWord}
 
@@ -40,7 +41,7 @@ abbrev pub longestSpaced : ℕ
 longestSpaced = longestDecimal + 1
 
 abbrev pub longestTables : ℕ
-longestTables = 4 * longestSpaced
+longestTables = maxWires * longestSpaced
 
 abbrev pub longestKept : ℕ
 longestKept = length plusText

@@ -4,7 +4,8 @@ use mathlib.Core.Bool.{cond}
 use mathlib.Core.List.{List, []}
 use lib.Dec.{eqb, leb}
 use lib.ListN.{length, getD, take, drop}
-use Rattle.base.specs.Rows.{row}
+use Rattle.sheet.specs.Limits.{maxPatterns, maxWires}
+use Rattle.base.specs.Tabulate.{tabulate}
 
 -- the byte at a place
 abbrev pub byteAt : List ℕ → ℕ → ℕ
@@ -20,7 +21,7 @@ fourAt s at = twoAt s at + 65536 * twoAt s (at + 2)
 
 -- so many numbers of two bytes, one after the other from a place on
 abbrev pub numbersAt : ℕ → List ℕ → ℕ → List ℕ
-numbersAt k s from = row k (λ i. twoAt s (from + 2 * i))
+numbersAt k s from = tabulate k (λ i. twoAt s (from + 2 * i))
 
 -- `count` bytes from a place on, or none where the bytes end before
 unfoldable pub partOf : List ℕ → ℕ → ℕ → List ℕ
@@ -32,7 +33,9 @@ recordLength s at =
     let kind = byteAt s at in
     cond (eqb kind 0x51) (8 + twoAt s (at + 6))
     (cond (eqb kind 0x41) (5 + twoAt s (at + 1) + twoAt s (at + 3))
-    (cond (eqb kind 0x53) 39 (cond (eqb kind 0x57) 12 (cond (eqb kind 0x52) (3 + twoAt s (at + 1)) 1))))
+    (cond (eqb kind 0x53) (7 + 2 * maxPatterns)
+    (cond (eqb kind 0x57) (4 + 2 * maxWires)
+    (cond (eqb kind 0x52) (3 + twoAt s (at + 1)) 1))))
 
 -- the most bytes of a part, whose length is a number of two bytes, and of a record: an audit has two parts
 abbrev pub longestPart : ℕ

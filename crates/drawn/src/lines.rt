@@ -1,5 +1,6 @@
 // The parts of which the reply lines are made, beside those of the report, put into a lent buffer at a place, each with the place after it.
 // Inner functions: the replies meet what they require, bounds on places that are there for the sums alone.
+use sheet::Sheet;
 use text::put_byte;
 use text::put_decimal;
 use text::put_text;
@@ -22,7 +23,7 @@ pub fn put_spaced(out: &mut [u8], at: usize, x: u64) -> usize
 }
 
 // The four tables, each with a space behind it.
-pub fn put_tables(out: &mut [u8], at: usize, tables: [u16; 4]) -> usize
+pub fn put_tables(out: &mut [u8], at: usize, tables: [u16; Sheet::WIRES]) -> usize
     requires { ⌜ at + longestTables ≤ lastPlace ⌝ }
     ensures { λ r. ⌜ Put (now (out .entry)) at (tablesText tables) (now (out .exit)) r × (r ≤ at + longestTables) ⌝ }
 {

@@ -2,11 +2,18 @@
 // Proved: each number, part and length is the one that the bytes say.
 // Inner functions: the main loop and the replies meet the bounds on places, which are there for the sums alone.
 use base::byte_at;
+use sheet::Sheet;
 ghost use mathlib.Core.Path.{_≡_};
 ghost use Prim.Native.Nat.{_+_, _*_, _≤_};
 ghost use lib.ListN.{length};
+ghost use Rattle.sheet.specs.Limits.{maxPatterns, maxWires};
 ghost use Rattle.text.specs.Inner.Put.{lastPlace};
 ghost use Rattle.drawn.specs.Records.{fourAt, longestPart, longestRecord, numbersAt, partOf, recordLength, twoAt};
+
+// The bytes of a record that has no part of its own length: n, m, a budget and the sets of a relation; n, m, a buffer's length and the tables of a stage.
+const SEARCH_RECORD: usize = 7 + 2 * Sheet::MAX_PATTERNS;
+
+const WRITE_RECORD: usize = 4 + 2 * Sheet::WIRES;
 
 // The number of two bytes at a place; bytes past the end count as 0.
 pub fn u16_at(s: &[u8], at: usize) -> u16
@@ -34,24 +41,24 @@ pub fn length_at(s: &[u8], at: usize) -> usize
     u16_at(s, at) as usize
 }
 
-// Sixteen sets from a place on.
-pub fn sets_at(s: &[u8], from: usize) -> [u16; 16]
-    requires { ⌜ from + 2 * 16 ≤ lastPlace ⌝ }
-    ensures { λ r. ⌜ r ≡ numbersAt 16 (now (s .entry)) from ⌝ }
+// The sets of a relation from a place on.
+pub fn sets_at(s: &[u8], from: usize) -> [u16; Sheet::MAX_PATTERNS]
+    requires { ⌜ from + 2 * maxPatterns ≤ lastPlace ⌝ }
+    ensures { λ r. ⌜ r ≡ numbersAt maxPatterns (now (s .entry)) from ⌝ }
 {
-    let mut sets = [0u16; 16];
+    let mut sets = [0u16; Sheet::MAX_PATTERNS];
     let mut i: usize = 0;
-    while i < 16 {
+    while i < Sheet::MAX_PATTERNS {
         sets[i] = u16_at(s, from + 2 * i);
         i += 1;
     }
     sets
 }
 
-// Four tables from a place on.
-pub fn tables_at(s: &[u8], from: usize) -> [u16; 4]
-    requires { ⌜ from + 2 * 4 ≤ lastPlace ⌝ }
-    ensures { λ r. ⌜ r ≡ numbersAt 4 (now (s .entry)) from ⌝ }
+// The tables of a stage from a place on.
+pub fn tables_at(s: &[u8], from: usize) -> [u16; Sheet::WIRES]
+    requires { ⌜ from + 2 * maxWires ≤ lastPlace ⌝ }
+    ensures { λ r. ⌜ r ≡ numbersAt maxWires (now (s .entry)) from ⌝ }
 {
     [
         u16_at(s, from),
@@ -82,8 +89,8 @@ pub fn record_length(s: &[u8], at: usize) -> usize
     match kind {
         b'Q' => 8 + length_at(s, at + 6),
         b'A' => 5 + length_at(s, at + 1) + length_at(s, at + 3),
-        b'S' => 39,
-        b'W' => 12,
+        b'S' => SEARCH_RECORD,
+        b'W' => WRITE_RECORD,
         b'R' => 3 + length_at(s, at + 1),
         _ => 1,
     }

@@ -20,7 +20,8 @@ use Rattle.relation.specs.Families.{Family}
 use Rattle.relation.specs.Handed.{relationOf}
 use Rattle.sheet.specs.declared.Command.{Command}
 use Rattle.sheet.specs.Commands.{inputsOf, wiresOf}
-use Rattle.sheet.specs.Reading.{Reading, holds, refused as unread, readingOf}
+use Rattle.sheet.specs.Judged.{Reading, holds, refused as unread}
+use Rattle.reader.specs.Reading.{readingOf}
 use Rattle.stage.specs.Bytes.{size}
 use Rattle.stage.specs.Read.{StageSheet, got, refused, readStage}
 use Rattle.stage.proofs.Sheets.{accepted}

@@ -10,9 +10,9 @@ use lib.ListN.{length, getD}
 use lib.Seq.{getD-take}
 use Rattle.base.specs.declared.Refusal.{Refusal}
 use Rattle.base.specs.Cases.{accepting, refusing, refusedOutcome, secondRefusedOutcome}
-use Rattle.base.specs.Sizes.{maxWires}
-use Rattle.base.proofs.Rows.{row-at, row-entry}
-use Rattle.table.specs.Bits.{bit, all, ofBits, row}
+use Rattle.sheet.specs.Limits.{maxWires}
+use Rattle.base.proofs.Tabulate.{tabulate-at, tabulate-entry}
+use Rattle.table.specs.Bits.{bit, all, ofBits, tabulate}
 use Rattle.table.specs.Tree.{Tree, Ordered, follow}
 use Rattle.table.proofs.Bits.{all-cong, sum-cong}
 use Rattle.relation.specs.declared.Relation.{Relation}
@@ -29,7 +29,7 @@ use Rattle.stage.specs.Reply.{tableOf, tablesOf, replyOf}
 use Rattle.stage.proofs.Replies.{told-refused, Got, told-got}
 use Rattle.stage.proofs.Sheets.{accepted}
 use Rattle.stage.proofs.Tables.{table-bit}
-use Rattle.sheet.specs.declared.Answer.the-variants.{Accepted as Taken, Refused as NotTaken}
+use Rattle.base.specs.declared.Verdict.the-variants.{Accepted as Taken, Refused as NotTaken}
 use Rattle.unit.specs.declared.Formed.{Formed}
 use Rattle.unit.specs.Cases.{formedReply}
 use Rattle.unit.specs.Formed.{formedOf}
@@ -60,12 +60,12 @@ pub value-trees : (n : ℕ) (trees : List Tree) → length trees ≤ maxWires �
 unfolding tablesOf value valueOn ofBits
 value-trees n trees few o p lp =
     let f : ℕ → ℕ = λ j. getD (map (tableOf n) trees) j 0 in
-    value-four (length trees) (row maxWires f) p few
-    (λ j l. row-entry maxWires f j ∙ past j (ltb j maxWires) (map-past (tableOf n) trees j l))
-    ∙ sum-cong (length trees) (λ j. bit (wires (row maxWires f) j) p * 2 ^ j) (λ j. follow n p (byWire trees j) * 2 ^ j)
+    value-four (length trees) (tabulate maxWires f) p few
+    (λ j l. tabulate-entry maxWires f j ∙ past j (ltb j maxWires) (map-past (tableOf n) trees j l))
+    ∙ sum-cong (length trees) (λ j. bit (wires (tabulate maxWires f) j) p * 2 ^ j) (λ j. follow n p (byWire trees j) * 2 ^ j)
     (λ j l.
     ap (λ b. b * 2 ^ j)
-    (ap (λ t. bit t p) (row-at maxWires f j (omega arith) ∙ map-at (tableOf n) trees j l) ∙ table-bit n 0 (byWire trees j) (ordered-at n trees o j l) p lp))
+    (ap (λ t. bit t p) (tabulate-at maxWires f j (omega arith) ∙ map-at (tableOf n) trees j l) ∙ table-bit n 0 (byWire trees j) (ordered-at n trees o j l) p lp))
   where
     past : (j : ℕ) (b : Bool) → getD (map (tableOf n) trees) j 0 ≡ 0 → cond b (getD (map (tableOf n) trees) j 0) 0 ≡ 0
     past j true e = e

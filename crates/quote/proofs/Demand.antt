@@ -9,14 +9,15 @@ use lib.ListN.{length}
 use Rattle.base.specs.declared.Refusal.{Refusal}
 use Rattle.base.specs.Refusals.{refusalAt, empty}
 use Rattle.base.proofs.Tests.{decide}
-use Rattle.base.proofs.Rows.{row-length}
+use Rattle.base.proofs.Tabulate.{tabulate-length}
 use Rattle.relation.specs.Tests.{emptyPattern}
 use Rattle.sheet.specs.declared.Command.{Command}
 use Rattle.sheet.specs.Commands.{inputsOf, wiresOf}
-use Rattle.sheet.specs.Gathered.{maxPatterns}
-use Rattle.sheet.specs.Reading.{Reading, holds, refused, readingOf}
-use Rattle.sheet.proofs.Numbers.{reading-early}
-use Rattle.sheet.proofs.Sound.{sound}
+use Rattle.sheet.specs.Limits.{maxPatterns}
+use Rattle.sheet.specs.Judged.{Reading, holds, refused}
+use Rattle.reader.specs.Reading.{readingOf}
+use Rattle.reader.proofs.Numbers.{reading-early}
+use Rattle.reader.proofs.Sound.{sound}
 use Rattle.unit.specs.Relation.{unitRelation}
 use Rattle.unit.specs.Formed.{relationIn, turnedAway, formedOf}
 use Rattle.unit.proofs.Forming.{formed-refused, formed-empty, formed-whole}
@@ -57,7 +58,7 @@ module _ (sheet : List ℕ) (budget : ℕ) (buffer : List ℕ) where
     whole : 2 ^ inputsOf cs ≤ lowest-empty → Kept
     unfolding quotedOf bufferQuoted relationIn
     whole l =
-        let p = searched-promise sheet cs e (relationIn cs) refl refl (row-length maxPatterns _) (passes-whole cs (sound sheet cs e) l) (rival-told sheet cs e) budget buffer in
+        let p = searched-promise sheet cs e (relationIn cs) refl refl (tabulate-length maxPatterns _) (passes-whole cs (sound sheet cs e) l) (rival-told sheet cs e) budget buffer in
         rw (formed-whole sheet cs e l)
         (record { best = p .best; stopped = p .stopped; own = p .own; within = p .within; spent = p .spent; refused = p .refused })
 

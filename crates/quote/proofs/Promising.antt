@@ -24,7 +24,8 @@ use Rattle.search.specs.Reply.{markOf, answerOf}
 use Rattle.search.proofs.Entry.{answered}
 use Rattle.sheet.specs.declared.Command.{Command}
 use Rattle.sheet.specs.Commands.{inputsOf, wiresOf}
-use Rattle.sheet.specs.Reading.{holds, readingOf}
+use Rattle.sheet.specs.Judged.{holds}
+use Rattle.reader.specs.Reading.{readingOf}
 use Rattle.stage.specs.Read.{got, readStage}
 use Rattle.stage.specs.Written.{stageOf, writtenOf, bufferWith, bufferAfter}
 use Rattle.unit.specs.Rival.{Rival}

@@ -11,7 +11,7 @@ use Rattle.search.specs.declared.Answer.{Answer}
 use Rattle.search.specs.declared.Mark.the-variants.{Refused}
 use Rattle.search.specs.Cases.{markCase, searchReply}
 use Rattle.search.specs.Reply.{searchOf}
-use Rattle.sheet.specs.declared.Answer.the-variants.{Accepted, Refused as SheetRefused}
+use Rattle.base.specs.declared.Verdict.the-variants.{Accepted, Refused as SheetRefused}
 use Rattle.stage.specs.declared.writer.Written.{Written}
 use Rattle.stage.specs.declared.writer.Written.the-variants.{Length, Refused as NotWritten}
 use Rattle.stage.specs.Cases.{writtenCase}

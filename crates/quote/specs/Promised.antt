@@ -10,7 +10,8 @@ use Rattle.table.specs.Tree.{Tree}
 use Rattle.search.specs.Cases.{bestOutcome, stoppedOutcome}
 use Rattle.sheet.specs.declared.Command.{Command}
 use Rattle.sheet.specs.Commands.{inputsOf, wiresOf}
-use Rattle.sheet.specs.Reading.{holds, readingOf}
+use Rattle.sheet.specs.Judged.{holds}
+use Rattle.reader.specs.Reading.{readingOf}
 use Rattle.stage.specs.Bytes.{size}
 use Rattle.stage.specs.Read.{got, readStage}
 use Rattle.unit.specs.Rival.{Rival}

@@ -1,7 +1,7 @@
 // The quote, from a unit sheet to the smallest stage, and the audit of a stage.
 use base::Refusal;
+use base::Verdict;
 use search::Mark;
-use sheet::Answer;
 ghost use mathlib.Core.Path.{_≡_};
 ghost use lib.ListN.{length};
 ghost use Rattle.quote.specs.Cases.{quoteReply, auditedCase};
@@ -40,8 +40,8 @@ pub fn quote(sheet: &[u8], budget: u32, buffer: &mut [u8]) -> Quoted
     let answer = formed.answer;
     let relation = formed.relation;
     match answer {
-        Answer::Accepted => quotes::quote_relation(relation, budget, buffer),
-        Answer::Refused(refusal) => quotes::refused_quote(refusal),
+        Verdict::Accepted => quotes::quote_relation(relation, budget, buffer),
+        Verdict::Refused(refusal) => quotes::refused_quote(refusal),
     }
 }
 
@@ -53,7 +53,7 @@ pub fn audit(sheet: &[u8], stage: &[u8]) -> Audited
     let answer = formed.answer;
     let relation = formed.relation;
     match answer {
-        Answer::Accepted => audits::audit_stage(relation, stage),
-        Answer::Refused(refusal) => Audited::SheetRefused(refusal),
+        Verdict::Accepted => audits::audit_stage(relation, stage),
+        Verdict::Refused(refusal) => Audited::SheetRefused(refusal),
     }
 }

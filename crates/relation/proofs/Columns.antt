@@ -10,11 +10,10 @@ use lib.Dec.{T, T-not, not-T, eqb, ltb, ltb→lt, nltb→le, eqb→eq}
 use lib.Bits.{and-le-l}
 use Rattle.base.proofs.Tests.{decide, eq-test, test-ext}
 use Rattle.table.specs.Bits.{bit, any, ofBits}
-use Rattle.table.proofs.Bits.{any-at, any-intro, any-cong, bit-cases, bit-ofBits, ofBits-lt, bit-ext, bit-past, test-and}
+use Rattle.table.proofs.Bits.{any-at, any-intro, any-cong, bit-cases, bit-ofBits, ofBits-lt, bit-ext, bit-past, test-and, zero-bit}
 use Rattle.relation.specs.Tests.{ofSets, occurs, isOne}
 use Rattle.relation.specs.Masks.{member, columnOf, withBit}
 use Rattle.relation.proofs.Splits.{isOne-small}
-use Rattle.table.proofs.Bits.{zero-bit}
 
 pub one-test : (c : Bool) → eqb (isOne c) 1 ≡ c
 unfolding isOne

@@ -12,9 +12,9 @@ use borrow.Author.Tests.{ne-eqb, lt-ltb, le-ltb}
 use Rattle.base.proofs.Tests.{decide, eq-test, test-no}
 use Rattle.base.specs.Refusals.{refusalAt, outOfRange, empty}
 use Rattle.base.specs.Cases.{acceptedCase, refusedCase}
-use Rattle.base.specs.Sizes.{countOut, sizesOut}
+use Rattle.sheet.specs.Limits.{countOut, sizesOut}
 use Rattle.base.specs.Lowest.{lowest}
-use Rattle.base.proofs.Lowest.{lowest-or, lowest-none}
+use Rattle.base.proofs.Lowest.{lowest-or, lowest-none, lowest-cong}
 use Rattle.base.specs.declared.Refusal.{Refusal}
 use Rattle.table.specs.Bits.{any}
 use Rattle.relation.specs.declared.Relation.{Relation}
@@ -24,7 +24,6 @@ use Rattle.relation.specs.Tests.{ofSets, emptyPattern}
 use Rattle.relation.specs.Masks.{member}
 use Rattle.relation.proofs.Decide.{well-defined-or, empty-not}
 use Rattle.relation.proofs.Columns.{any-member}
-use Rattle.base.proofs.Lowest.{lowest-cong}
 
 -- a relation that passes the test
 pub record Fit (r : Relation) : Type 0 where

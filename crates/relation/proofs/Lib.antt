@@ -4,4 +4,3 @@ pub mod Columns
 pub mod Fits
 pub mod Sets
 pub mod Side
-pub mod Cases

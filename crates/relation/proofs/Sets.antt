@@ -13,16 +13,15 @@ use lib.ListN.{length, getD, set, take, length-set, List·getD-eq-default}
 use lib.Seq.{getD-set-same, getD-set-other}
 use borrow.Author.Tests.{le-ltb}
 use Rattle.base.proofs.Tests.{decide, eq-test, cond-has, test-ext, test-yes, test-no, and-true, and-left}
-use Rattle.table.specs.Bits.{bit, ofBits, row, sum}
+use Rattle.table.specs.Bits.{bit, ofBits, tabulate, sum}
 use Rattle.table.specs.Pick.{masked}
-use Rattle.table.proofs.Bits.{bit-cases, bit-ofBits, row-length, row-at, sum-cong, sum-but-one}
+use Rattle.table.proofs.Bits.{bit-cases, bit-ofBits, tabulate-length, tabulate-at, sum-cong, sum-but-one, zero-bit, ofBits-short}
 use Rattle.relation.specs.Source.{WellDefined, value}
 use Rattle.relation.specs.Tests.{ofSets, wires, keep, agree, occurs, free, isOne}
 use Rattle.relation.specs.Masks.{member, withBit, maskOf, narrowed, agreed, cleared, NonePast, cut}
 use Rattle.relation.proofs.Decide.{occurs-intro, occurs-at}
 use Rattle.relation.proofs.Columns.{one-test, isOne-lt-two, no-member, member-lt, with-test, with-le, maskBit, found-lt}
-use Rattle.table.proofs.Bits.{zero-bit, ofBits-short}
-use Rattle.base.proofs.Rows.{row-entry, take-entry}
+use Rattle.base.proofs.Tabulate.{tabulate-entry, take-entry}
 pub use Rattle.relation.proofs.Fits.{Fit, check-well-formed, check-empty, fit-passes}
 
 pub member-sets : (sets : List ℕ) (p : ℕ) → ofSets sets p ≡ member (getD sets p 0)
@@ -64,13 +63,13 @@ agreed-agree sets j t len small = fun-ext (λ p. fun-ext (λ v. ⊎-elim (inside
     f : ℕ → ℕ
     f p = withBit (getD sets p 0) j (bit t p)
 
-    inside : (p v : ℕ) → T (ltb p 16) → eqb (bit (getD (row 16 f) p 0) v) 1 ≡ eqb (bit (getD sets p 0) v) 1 && eqb (bit v j) (bit t p)
-    inside p v l = rw (row-at 16 f p (ltb→lt p 16 l)) (with-test (getD sets p 0) j (bit t p) v (small p))
+    inside : (p v : ℕ) → T (ltb p 16) → eqb (bit (getD (tabulate 16 f) p 0) v) 1 ≡ eqb (bit (getD sets p 0) v) 1 && eqb (bit v j) (bit t p)
+    inside p v l = rw (tabulate-at 16 f p (ltb→lt p 16 l)) (with-test (getD sets p 0) j (bit t p) v (small p))
 
-    outside : (p v : ℕ) → T (not (ltb p 16)) → eqb (bit (getD (row 16 f) p 0) v) 1 ≡ eqb (bit (getD sets p 0) v) 1 && eqb (bit v j) (bit t p)
+    outside : (p v : ℕ) → T (not (ltb p 16)) → eqb (bit (getD (tabulate 16 f) p 0) v) 1 ≡ eqb (bit (getD sets p 0) v) 1 && eqb (bit v j) (bit t p)
     outside p v l =
         let h = nltb→le p 16 l in
-        let a : getD (row 16 f) p 0 ≡ 0 = List·getD-eq-default (row 16 f) 0 (omega (arith, row-length 16 f)) in
+        let a : getD (tabulate 16 f) p 0 ≡ 0 = List·getD-eq-default (tabulate 16 f) 0 (omega (arith, tabulate-length 16 f)) in
         let b : getD sets p 0 ≡ 0 = List·getD-eq-default sets 0 (omega arith) in
         rw (a, b, zero-bit v)
 
@@ -78,7 +77,7 @@ agreed-agree sets j t len small = fun-ext (λ p. fun-ext (λ v. ⊎-elim (inside
 cleared-entry : (n : ℕ) (sets : List ℕ) (p : ℕ) → n ≤ 4 → getD (cleared n sets) p 0 ≡ cond (ltb p (2 ^ n)) (getD sets p 0) 0
 unfolding cleared
 cleared-entry n sets p h =
-    row-entry 16 (λ p. cond (ltb p (2 ^ n)) (getD sets p 0) 0) p
+    tabulate-entry 16 (λ p. cond (ltb p (2 ^ n)) (getD sets p 0) 0) p
     ∙ ⊎-elim (λ (l : T (ltb p 16)). rw (test-yes (ltb p 16) l))
     (λ l. let b : 2 ^ n ≤ p = omega (arith, nltb→le p 16 l, pow-mono {i = n} {j = 4} h) in rw (test-no (ltb p 16) l, le-ltb p (2 ^ n) b))
     (decide (ltb p 16))
@@ -109,13 +108,13 @@ pub agreed-narrow : (n m : ℕ) (sets : List ℕ) (j t : ℕ) → Narrow n m set
 unfolding agreed
 agreed-narrow n m sets j t w =
     let f : ℕ → ℕ = λ p. withBit (getD sets p 0) j (bit t p) in
-    less-narrow n m sets (row 16 f) w (row-length 16 f)
-    (λ q. rw (row-entry 16 f q) (cond-has (λ x. x ≤ getD sets q 0) (ltb q 16) (λ _. with-le (getD sets q 0) j (bit t q)) (λ _. omega arith)))
+    less-narrow n m sets (tabulate 16 f) w (tabulate-length 16 f)
+    (λ q. rw (tabulate-entry 16 f q) (cond-has (λ x. x ≤ getD sets q 0) (ltb q 16) (λ _. with-le (getD sets q 0) j (bit t q)) (λ _. omega arith)))
 
 pub cleared-narrow : (n m : ℕ) (sets : List ℕ) → length sets ≡ 16 → n ≤ 4 → ((p : ℕ) → p < 2 ^ n → getD sets p 0 < 2 ^ (2 ^ m)) → Narrow n m (cleared n sets)
 unfolding cleared
 cleared-narrow n m sets len h small = record {
-  long = row-length 16 (λ p. cond (ltb p (2 ^ n)) (getD sets p 0) 0);
+  long = tabulate-length 16 (λ p. cond (ltb p (2 ^ n)) (getD sets p 0) 0);
   small = λ p. rw (cleared-entry n sets p h)
       (cond-has (λ x. x < 2 ^ (2 ^ m)) (ltb p (2 ^ n)) (λ l. small p (ltb→lt p (2 ^ n) l)) (λ _. pow-pos (2 ^ m)));
   past = λ p l. cleared-entry n sets p h ∙ ap (λ (c : Bool). cond c (getD sets p 0) 0) (le-ltb p (2 ^ n) l);

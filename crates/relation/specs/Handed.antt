@@ -6,7 +6,7 @@ use lib.Dec.{leb, ltb}
 use lib.ListN.{getD, take}
 use Rattle.base.specs.Refusals.{refusalAt, outOfRange, empty}
 use Rattle.base.specs.Cases.{Case, acceptedCase, refusedCase}
-use Rattle.base.specs.Sizes.{sizesOut}
+use Rattle.sheet.specs.Limits.{sizesOut}
 use Rattle.base.specs.Lowest.{lowest}
 use Rattle.relation.specs.declared.Relation.{Relation}
 use Rattle.relation.specs.Source.{Rel}

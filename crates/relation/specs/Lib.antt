@@ -4,4 +4,3 @@ pub mod Tests
 pub mod Masks
 pub mod Handed
 pub mod Families
-pub mod Cases

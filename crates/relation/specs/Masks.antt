@@ -6,7 +6,7 @@ use mathlib.Core.List.{List}
 use lib.Bits.{bitAnd}
 use lib.Dec.{eqb, ltb}
 use lib.ListN.{getD, set}
-use Rattle.table.specs.Bits.{bit, ofBits, row}
+use Rattle.table.specs.Bits.{bit, ofBits, tabulate}
 use Rattle.relation.specs.Tests.{ofSets, occurs, isOne}
 
 -- value v is in the set whose number is w
@@ -48,8 +48,8 @@ narrowed sets p j b = set sets p (withBit (getD sets p 0) j b)
 
 -- the sets once wire j has table t
 unfoldable pub agreed : List ℕ → ℕ → ℕ → List ℕ
-agreed sets j t = row 16 (λ p. withBit (getD sets p 0) j (bit t p))
+agreed sets j t = tabulate 16 (λ p. withBit (getD sets p 0) j (bit t p))
 
 -- the sets with those past the last pattern emptied
 unfoldable pub cleared : ℕ → List ℕ → List ℕ
-cleared n sets = row 16 (λ p. cond (ltb p (2 ^ n)) (getD sets p 0) 0)
+cleared n sets = tabulate 16 (λ p. cond (ltb p (2 ^ n)) (getD sets p 0) 0)

@@ -3,9 +3,10 @@ use crate::handed::empty_pattern;
 use crate::handed::wide_pattern;
 use crate::patterns::patterns_of;
 use base::Refusal;
-use base::sizes_out;
+use base::Verdict;
+use sheet::limits::sizes_out;
 ghost use mathlib.Core.Path.{_≡_};
-ghost use Rattle.relation.specs.Cases.{checkedCase};
+ghost use Rattle.base.specs.Cases.{verdictCase};
 ghost use Rattle.relation.specs.Handed.{checkOf};
 
 pub mod values; // sets of wire values
@@ -19,32 +20,26 @@ pub struct Relation {
     pub sets: [u16; 16],
 }
 
-// What the test of a relation says.
-pub enum Checked {
-    WellFormed,
-    Refused(Refusal),
-}
-
 impl Relation {
     // The test of a relation that is handed over as numbers: sizes, then bits past the last value, then empty sets.
-    pub fn check(self) -> Checked
-        ensures { λ r. ⌜ checkedCase r ≡ checkOf self ⌝ }
+    pub fn check(self) -> Verdict
+        ensures { λ r. ⌜ verdictCase r ≡ checkOf self ⌝ }
     {
         let n = self.n;
         let m = self.m;
         let sets = self.sets;
         if sizes_out(n, m) {
-            return Checked::Refused(Refusal::at(Refusal::OUT_OF_RANGE, 0));
+            return Verdict::Refused(Refusal::at(Refusal::OUT_OF_RANGE, 0));
         }
         let count = patterns_of(n);
         let wide = wide_pattern(n, m, sets);
         if wide < count {
-            return Checked::Refused(Refusal::at(Refusal::OUT_OF_RANGE, wide as usize));
+            return Verdict::Refused(Refusal::at(Refusal::OUT_OF_RANGE, wide as usize));
         }
         let none = empty_pattern(n, sets);
         if none < count {
-            return Checked::Refused(Refusal::at(Refusal::EMPTY, none as usize));
+            return Verdict::Refused(Refusal::at(Refusal::EMPTY, none as usize));
         }
-        Checked::WellFormed
+        Verdict::Accepted
     }
 }

@@ -111,9 +111,12 @@ longestPairs = 3 * longestStage
 abbrev pub longestReport : ℕ
 longestReport = longestCounts + longestWord + longestPairs + 1
 
--- "refused N at P" is shorter
+-- "refused N at P" is shorter, and so is its line
 abbrev pub longestRefusal : ℕ
 longestRefusal = length refusedText + length atText + 2 * longestDecimal
+
+abbrev pub longestRefusalLine : ℕ
+longestRefusalLine = longestWord + longestRefusal + 1
 
 -- what a report leaves in the buffer: its text at the start, all else as it was; its length is handed back
 abbrev pub Printed : (text before after : List ℕ) → ℕ → Type 0

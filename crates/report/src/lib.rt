@@ -1,5 +1,5 @@
-// What the program prints for a reply of the quote and of the audit, as bytes in a lent buffer. Each call puts its lines at the start of the buffer and hands back
-// the length of them. Bytes that find no room are dropped, and a length above the buffer's says so; what stands behind the lines is left as it was.
+// What the program prints for a reply of the quote and of the audit, as bytes in a lent buffer. Each call puts its lines at the start of the buffer and
+// hands back the length of them. Bytes that find no room are dropped, and a length above the buffer's says so; what stands behind the lines is left as it was.
 use lines::put_judged;
 use lines::put_result;
 use parts::put_refusal_line;

@@ -15,7 +15,8 @@ ghost use Rattle.report.specs.Lines.{longestReport, longestWord, resultL
 // Puts both lines of a quote with a stage, with the word of its mark.
 pub fn put_result(out: &mut [u8], word: &[u8], q: Quoted, stage: &[u8]) -> usize
     requires { ⌜ length (now word) ≤ longestWord ⌝ }
-    ensures { λ r. ⌜ Put (now (out .entry)) 0 (resultLines (now (word .entry)) (quoteReply q) (now (stage .entry))) (now (out .exit)) r × (r ≤ longestReport) ⌝ }
+    ensures { λ r. ⌜ Put (now (out .entry)) 0 (resultLines (now (word .entry)) (quoteReply q) (now (stage .entry))) (now (out .exit)) r
+        × (r ≤ longestReport) ⌝ }
 {
     let counts = put_counts(out, 0, q.cells, q.floor, q.visits);
     let line = put_text(out, counts, word);

@@ -11,7 +11,8 @@ ghost use Prim.Native.Nat.{_+_, _≤_, min};
 ghost use lib.ListN.{length};
 ghost use Rattle.stage.specs.Bytes.{longestStage};
 ghost use Rattle.text.specs.Inner.Put.{Put, lastPlace};
-ghost use Rattle.report.specs.Lines.{longestCounts, longestPairs, longestRefusal, longestWord, countsOf, stagePairs, refusalText, refusalLine};
+ghost use Rattle.report.specs.Lines.{longestCounts, longestPairs, longestRefusal, longestRefusalLine, longestWord};
+ghost use Rattle.report.specs.Lines.{countsOf, stagePairs, refusalText, refusalLine};
 
 // Puts the counts of a reply: "cells C floor F visits V".
 pub fn put_counts(out: &mut [u8], at: usize, cells: u32, floor: u32, visits: u32) -> usize
@@ -51,8 +52,9 @@ pub fn put_refusal(out: &mut [u8], at: usize, refusal: Refusal) -> usize
 
 // Puts its line, after the word for what is refused where several things were handed in.
 pub fn put_refusal_line(out: &mut [u8], at: usize, whose: &[u8], refusal: Refusal) -> usize
-    requires { ⌜ (length (now whose) ≤ longestWord) × (at + longestWord + longestRefusal + 1 ≤ lastPlace) ⌝ }
-    ensures { λ r. ⌜ Put (now (out .entry)) at (refusalLine (now (whose .entry)) (refusal .number) (refusal .place)) (now (out .exit)) r × (r ≤ at + longestWord + longestRefusal + 1) ⌝ }
+    requires { ⌜ (length (now whose) ≤ longestWord) × (at + longestRefusalLine ≤ lastPlace) ⌝ }
+    ensures { λ r. ⌜ Put (now (out .entry)) at (refusalLine (now (whose .entry)) (refusal .number) (refusal .place)) (now (out .exit)) r
+        × (r ≤ at + longestRefusalLine) ⌝ }
 {
     let start = put_text(out, at, whose);
     let end = put_refusal(out, start, refusal);

@@ -8,10 +8,10 @@ use lib.Dec.{T}
 use lib.ListN.{length, getD, set}
 use lib.Pow.{pow-mono}
 use lib.Seq.{getD-set-other, set-set}
-use Rattle.base.specs.Sizes.{maxWires}
+use Rattle.sheet.specs.Limits.{maxWires}
 use Rattle.table.specs.Bits.{bit, ofBits}
 use Rattle.table.specs.Pick.{tableSpace}
-use Rattle.table.proofs.Bits.{row-at, sum-cong}
+use Rattle.table.proofs.Bits.{tabulate-at, sum-cong}
 use Rattle.relation.specs.Source.{Rel, value}
 use Rattle.relation.specs.Tests.{ofSets, wires, keep, free, openPairs}
 use Rattle.relation.specs.Masks.{member, withBit, narrowed}
@@ -83,7 +83,7 @@ module _ (n m : ℕ) (S ws rs : List ℕ) (h : Held n m S ws rs) (p j : ℕ) (lp
       let ne : q ≡ p → ⊥ = λ d. absurd (omega arith) in
       let there : getD N q 0 ≡ getD S q 0 = ap (λ l. getD l q 0) eN ∙ getD-set-other S p q w 0 ne in
       let at : ofSets N q ≡ ofSets S q = member-sets N q ∙ ap member there ∙ sym (member-sets S q) in
-      let bits : (x : List ℕ) (i : ℕ) → i < maxWires → getD (tablesIn x) i 0 ≡ getD x i 0 % tableSpace = λ x i li. row-at maxWires (λ j. getD x j 0 % tableSpace) i li in
+      let bits : (x : List ℕ) (i : ℕ) → i < maxWires → getD (tablesIn x) i 0 ≡ getD x i 0 % tableSpace = λ x i li. tabulate-at maxWires (λ j. getD x j 0 % tableSpace) i li in
       let same : value m (wires (tablesIn rs)) q ≡ value m (wires (tablesIn r)) q =
       sum-cong m (λ i. bit (wires (tablesIn rs) i) q * 2 ^ i) (λ i. bit (wires (tablesIn r) i) q * 2 ^ i)
       (λ i li.

@@ -10,7 +10,7 @@ use lib.Bits.{bitOr, bitXor, or-shr, or-mod, xor-shr, xor-mod, or-add-and, xor-a
 use lib.Count.{trailingZeros, under}
 use lib.Dec.{T, T-not, not-T, eqb, eqb→eq}
 use lib.ListN.{getD}
-use Rattle.base.specs.Sizes.{maxWires}
+use Rattle.sheet.specs.Limits.{maxWires}
 use Rattle.base.proofs.Tests.{decide, eq-test}
 use Rattle.base.proofs.Lowest.{lowest-at, lowest-none}
 use Rattle.table.specs.Bits.{bit}

@@ -4,7 +4,7 @@ use mathlib.Core.Path.{_≡_, refl, ap, _∙_}
 use native.Mathlib.Omega.{arith}
 use native.Mathlib.Nat.{not-suc-le-zero}
 use lib.Dec.{T}
-use Rattle.base.specs.Sizes.{maxWires}
+use Rattle.sheet.specs.Limits.{maxWires}
 use Rattle.base.proofs.Tests.{cond-has₂}
 use Rattle.relation.specs.Source.{Rel, WellDefined}
 use Rattle.relation.specs.Tests.{wires, keep, free, freeWire, compatible, conflict, openPairs}

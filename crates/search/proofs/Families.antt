@@ -2,7 +2,7 @@
 use Prim.Native.Nat.{ℕ, _*_, _^_, _<_, _≤_}
 use mathlib.Core.Path.{_≡_, sym, ap, _∙_}
 use native.Mathlib.Nat.{mod-eq-of-lt, zero-add, le-trans}
-use Rattle.base.specs.Sizes.{maxWires}
+use Rattle.sheet.specs.Limits.{maxWires}
 use Rattle.table.specs.Bits.{bit, ofBits}
 use Rattle.table.specs.Cells.{cells}
 use Rattle.table.specs.Tree.{Tree, follow, selectors, reduced}

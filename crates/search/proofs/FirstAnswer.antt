@@ -12,18 +12,18 @@ use lib.Dec.{T-not, eqb, ltb, eqb→eq, ltb→lt, lt→ltb}
 use lib.ListN.{length, getD, set, length-set}
 use lib.Pow.{pow-mono}
 use lib.Seq.{getD-set-same, getD-set-other}
-use Rattle.base.specs.Sizes.{maxWires}
+use Rattle.sheet.specs.Limits.{maxWires}
 use Rattle.base.proofs.Tests.{decide, eq-test, test-ext}
-use Rattle.table.specs.Bits.{sum, row}
+use Rattle.table.specs.Bits.{sum, tabulate}
 use Rattle.table.specs.Cells.{cells}
 use Rattle.table.specs.Pick.{pickOf, rank, tableSpace}
-use Rattle.table.proofs.Bits.{row-at, row-length, sum-cong}
+use Rattle.table.proofs.Bits.{tabulate-at, tabulate-length, sum-cong}
 use Rattle.relation.specs.Source.{Tables}
 use Rattle.relation.specs.Tests.{ofSets, wires, agree}
 use Rattle.relation.specs.Masks.{maskOf, agreed}
 use Rattle.relation.proofs.Splits.{agree-well-defined}
 use Rattle.relation.proofs.Sets.{agreed-agree, agreed-narrow}
-use Rattle.base.proofs.Rows.{filled-row}
+use Rattle.base.proofs.Tabulate.{filled-tabulate}
 use Rattle.search.specs.declared.State.{State}
 use Rattle.search.specs.Search.{tablesOf, total, pick, left, quick, start}
 use Rattle.search.specs.TreeBoard.{tree}
@@ -45,7 +45,7 @@ pub record Taken (n m : ℕ) (sets : List ℕ) (j : ℕ) (rest tables : List ℕ
   pub few : sums ≤ j * tableSpace
 
 pub none-taken : (n m : ℕ) (sets : List ℕ) → Sets n m sets → Taken n m sets 0 sets (0 ∷ 0 ∷ 0 ∷ 0 ∷ []) 0
-unfolding left tablesOf row sum
+unfolding left tablesOf tabulate sum
 none-taken n m sets ok = record { reached = omega arith; kept = ok; is-left = refl; are-chosen = refl; counted = refl; few = omega arith }
 
 -- one table more in a row of tables
@@ -54,8 +54,8 @@ unfolding tablesOf
 more-tables j X tables lj e =
     let f : ℕ → ℕ = λ i. cond (ltb i j) (X i) 0 in
     let g : ℕ → ℕ = λ i. cond (ltb i (j + 1)) (X i) 0 in
-    let long : length tables ≡ maxWires = ap length e ∙ row-length maxWires f in
-    filled-row maxWires g (set tables j (X j)) (simp length-set long)
+    let long : length tables ≡ maxWires = ap length e ∙ tabulate-length maxWires f in
+    filled-tabulate maxWires g (set tables j (X j)) (simp length-set long)
     (λ q l.
     ⊎-elim
     (λ t.
@@ -63,7 +63,7 @@ more-tables j X tables lj e =
     rw d (getD-set-same tables j (X j) 0 (rw long lj) ∙ sym (rw (lt-ltb j (j + 1) (omega arith)))))
     (λ t.
     let ne : q ≡ j → ⊥ = λ d. T-not (eqb q j) t (eq-test d) in
-    getD-set-other tables j q (X j) 0 ne ∙ ap (λ ts. getD ts q 0) e ∙ row-at maxWires f q l
+    getD-set-other tables j q (X j) 0 ne ∙ ap (λ ts. getD ts q 0) e ∙ tabulate-at maxWires f q l
     ∙ ap (λ b. cond b (X q) 0) (test-ext (ltb q j) (ltb q (j + 1)) (λ h. lt→ltb q (j + 1) (omega (arith, ltb→lt q j h))) (λ h. lt→ltb q j (below q ne (ltb→lt q (j + 1) h)))))
     (decide (eqb q j)))
   where

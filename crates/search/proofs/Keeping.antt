@@ -12,14 +12,14 @@ use lib.Dec.{T, T-not, eqb, ltb, eqb→eq, nltb→le}
 use lib.ListN.{getD}
 use lib.Pow.{pow-pos, pow-mono}
 use lib.Seq.{getD-set-same, getD-set-other}
-use Rattle.base.specs.Sizes.{maxInputs, maxWires}
+use Rattle.sheet.specs.Limits.{maxInputs, maxWires}
 use Rattle.base.proofs.Tests.{cond-has, decide, eq-test}
 use Rattle.table.specs.Bits.{bit}
 use Rattle.table.specs.Cells.{cells}
 use Rattle.table.specs.Pick.{suits, leastOf, orZero, masked, pickOf, rank, tableSpace}
 use Rattle.table.specs.Blocks.{Covered}
 use Rattle.table.specs.Pairs.{zerosIn, onesIn}
-use Rattle.table.proofs.Bits.{bit-lt, bit-past, all-at, all-intro, row-at, row-cong, sum-cong, sum-short}
+use Rattle.table.proofs.Bits.{bit-lt, bit-past, all-at, all-intro, tabulate-at, tabulate-cong, sum-cong, sum-short, zero-bit}
 use Rattle.table.proofs.Cells.{constant-cells}
 use Rattle.table.proofs.Least.{Least, least-only}
 use Rattle.table.proofs.Halving.{IsBest, least-best}
@@ -28,7 +28,6 @@ use Rattle.relation.specs.Tests.{ofSets, wires, keep, projection, fits, occurs,
 use Rattle.relation.specs.Masks.{member, withBit, maskOf, narrowed}
 use Rattle.relation.proofs.Decide.{free-both, occurs-intro}
 use Rattle.relation.proofs.Splits.{keep-part, keep-well-defined, occurs-part}
-use Rattle.table.proofs.Bits.{zero-bit}
 use Rattle.relation.proofs.Sets.{Narrow, member-sets, narrow-keep, narrowed-narrow, occurs-four, mask-lt, mask-projection, mask-covers}
 use Rattle.search.specs.Search.{tablesOf, total, pick, picks, floor}
 use Rattle.search.specs.TreeBoard.{tree}
@@ -79,13 +78,13 @@ module _ (n m : ℕ) (sz : Sized n m) (sets : List ℕ) (ok : Sets n m sets) whe
 
   rank-at : (j : ℕ) → j < maxWires → getD (ranksOf n sets) j 0 ≡ rank n (pick (tree n m) (ofSets sets) j)
   unfolding ranksOf
-  rank-at j l = row-at maxWires (λ j. rank n (pickOf n (maskOf sets j 0) (maskOf sets j 1))) j l ∙ ap (rank n) (kept-pick j)
+  rank-at j l = tabulate-at maxWires (λ j. rank n (pickOf n (maskOf sets j 0) (maskOf sets j 1))) j l ∙ ap (rank n) (kept-pick j)
 
   -- the ranks' tables are the picks, and their cells the floor
   pub kept-tables : tablesIn (ranksOf n sets) ≡ picks (tree n m) (ofSets sets)
   unfolding tablesIn picks tablesOf tree
   kept-tables =
-      row-cong maxWires (λ j. getD (ranksOf n sets) j 0 % tableSpace) (λ j. cond (ltb j m) (pick (tree n m) (ofSets sets) j) 0)
+      tabulate-cong maxWires (λ j. getD (ranksOf n sets) j 0 % tableSpace) (λ j. cond (ltb j m) (pick (tree n m) (ofSets sets) j) 0)
       (λ j l.
       let t = pick (tree n m) (ofSets sets) j in
       ap (λ r. r % tableSpace) (rank-at j l) ∙ rank-parts n t (sz .inputs) (least j .0) .0
@@ -110,7 +109,7 @@ module _ (n m : ℕ) (sz : Sized n m) (sets : List ℕ) (ok : Sets n m sets) whe
 
   pub pairs-cover : PairsCover n (pairsOf sets)
   unfolding pairsOf
-  pairs-cover j l = rw (row-at maxWires (pairOf sets) j l) (pair-covers j)
+  pairs-cover j l = rw (tabulate-at maxWires (pairOf sets) j l) (pair-covers j)
 
 -- the pick between the masks of a pair is the pick of the wire
 pub rank-between : (n : ℕ) (sets : List ℕ) (j : ℕ) → rank n (pickOf n (zerosIn (pairOf sets j)) (onesIn (pairOf sets j))) ≡ rankOf n sets j
@@ -149,8 +148,8 @@ module _ (n m : ℕ) (sz : Sized n m) (sets : List ℕ) (ok : Sets n m sets) (p 
   unfolding cutPairs pairsOf
   with-pairs =
       let w = withBit (getD sets p 0) j b in
-      row-cong maxWires (λ i. cutPair (getD (pairsOf sets) i 0) p w i) (pairOf (narrowed sets p j b))
-      (λ i l. ap (λ x. cutPair x p w i) (row-at maxWires (pairOf sets) i l) ∙ sym (pair-cut sets p j b i sixteen (ok .long) small))
+      tabulate-cong maxWires (λ i. cutPair (getD (pairsOf sets) i 0) p w i) (pairOf (narrowed sets p j b))
+      (λ i l. ap (λ x. cutPair x p w i) (tabulate-at maxWires (pairOf sets) i l) ∙ sym (pair-cut sets p j b i sixteen (ok .long) small))
 
   -- a pick whose bit on p still occurs still suits, and so is still the pick
   module _ (i : ℕ) (still : T (occurs 4 (member (withBit (getD sets p 0) j b)) i (bit (pickOf n (maskOf sets i 0) (maskOf sets i 1)) p))) where
@@ -211,12 +210,12 @@ module _ (n m : ℕ) (sz : Sized n m) (sets : List ℕ) (ok : Sets n m sets) (p 
   with-ranks =
       let W = narrowed sets p j b in
       let w = withBit (getD sets p 0) j b in
-      row-cong maxWires (λ i. rankAgain n (getD (ranksOf n sets) i 0) p i w (getD (pairsOf W) i 0)) (rankOf n W)
+      tabulate-cong maxWires (λ i. rankAgain n (getD (ranksOf n sets) i 0) p i w (getD (pairsOf W) i 0)) (rankOf n W)
       (λ i l.
       let t = pickOf n (maskOf sets i 0) (maskOf sets i 1) in
       let lt : t < 2 ^ (2 ^ n) = rw (kept-pick n m sz sets ok i) (least n m sz sets ok i .0) in
-      let er = row-at maxWires (rankOf n sets) i l in
-      let ep = row-at maxWires (pairOf W) i l in
+      let er = tabulate-at maxWires (rankOf n sets) i l in
+      let ep = tabulate-at maxWires (pairOf W) i l in
       let et = rank-parts n t (sz .inputs) lt .0 in
       rw (er, ep, et)
       (cond-has (λ x. x ≡ rankOf n W i) (occurs 4 (member w) i (bit t p)) (λ h. ap (rank n) (sym (still-pick i h))) (λ _. rank-between n W i)))

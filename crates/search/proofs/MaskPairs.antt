@@ -11,12 +11,12 @@ use lib.Bits.{bitAnd, and-mask, and-zero-r, and-block}
 use lib.Dec.{T-not, eqb, eqb→eq}
 use lib.ListN.{length, getD}
 use lib.Pow.{pow-mono, pow-pos, pow-add}
-use Rattle.base.specs.Sizes.{maxWires}
+use Rattle.sheet.specs.Limits.{maxWires}
 use Rattle.base.proofs.Tests.{cond-has, below-suc, eq-test, eqb-yes, eqb-not}
-use Rattle.table.specs.Bits.{bit, sum, ofBits, row}
+use Rattle.table.specs.Bits.{bit, sum, ofBits, tabulate}
 use Rattle.table.specs.Pairs.{seat, zerosIn, onesIn, paired}
 use Rattle.table.proofs.Pairs.{ones-at, zeros-at, ones-lt, zeros-lt}
-use Rattle.table.proofs.Bits.{sum-cong, sum-le, sum-short, sum-but-one, bit-lt, bit-ofBits, ofBits-bit, row-at, row-cong}
+use Rattle.table.proofs.Bits.{sum-cong, sum-le, sum-short, sum-but-one, bit-lt, bit-ofBits, ofBits-bit, tabulate-at, tabulate-cong}
 use Rattle.relation.specs.Tests.{isOne, occurs}
 use Rattle.relation.specs.Masks.{member, withBit, narrowed, maskOf, cut, NonePast}
 use Rattle.relation.proofs.Columns.{isOne-lt-two, found-lt}
@@ -177,19 +177,19 @@ below-all n sets j h past =
 
 -- the pairs of all wires
 abbrev pub pairsBelow : ℕ → List ℕ → List ℕ
-pairsBelow p sets = row maxWires (pairBelow p sets)
+pairsBelow p sets = tabulate maxWires (pairBelow p sets)
 
 module _ (p : ℕ) (sets : List ℕ) (j : ℕ) {found : List ℕ} (l : j < maxWires) where
   pub pairs-room : p < 16 → found ≡ pairsBelow p sets → getD found j 0 + 17 * 2 ^ seat p < 2 ^ 32
-  pairs-room lp e = rw (e, row-at maxWires (pairBelow p sets) j l) (below-room p sets j lp)
+  pairs-room lp e = rw (e, tabulate-at maxWires (pairBelow p sets) j l) (below-room p sets j lp)
 
   pub pairs-more : found ≡ pairsBelow p sets → {r : ℕ} → r ≡ getD found j 0 + sidesOf (getD sets p 0) j * 2 ^ seat p → r ≡ pairBelow (p + 1) sets j
   pairs-more e er =
-      er ∙ ap (λ x. x + sidesOf (getD sets p 0) j * 2 ^ seat p) (ap (λ x. getD x j 0) e ∙ row-at maxWires (pairBelow p sets) j l) ∙ below-more p sets j
+      er ∙ ap (λ x. x + sidesOf (getD sets p 0) j * 2 ^ seat p) (ap (λ x. getD x j 0) e ∙ tabulate-at maxWires (pairBelow p sets) j l) ∙ below-more p sets j
 
 pub pairs-all : (n : ℕ) (sets : List ℕ) → n ≤ 4 → NonePast n sets → pairsBelow (2 ^ n) sets ≡ pairsOf sets
 unfolding pairsOf
-pairs-all n sets h past = row-cong maxWires (pairBelow (2 ^ n) sets) (pairOf sets) (λ j _. below-all n sets j h past)
+pairs-all n sets h past = tabulate-cong maxWires (pairBelow (2 ^ n) sets) (pairOf sets) (λ j _. below-all n sets j h past)
 
 -- what is shifted to a seat stays within the number
 pub shifted : (x s : ℕ) → x ≤ 17 → s < 28 → x * 2 ^ s % 2 ^ 32 ≡ x * 2 ^ s

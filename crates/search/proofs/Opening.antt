@@ -7,12 +7,12 @@ use mathlib.Core.List.{List}
 use native.Mathlib.Omega.{arith}
 use lib.Dec.{T, T-not, not-T, ltb, nltb→le, ltb→lt}
 use lib.ListN.{getD, List·getD-eq-default}
-use Rattle.base.specs.Sizes.{maxWires}
+use Rattle.sheet.specs.Limits.{maxWires}
 use Rattle.base.specs.Lowest.{lowest}
 use Rattle.base.proofs.Tests.{cond-has, decide, test-yes, test-no}
 use Rattle.base.proofs.Lowest.{lowest-at, lowest-below}
-use Rattle.table.specs.Bits.{row}
-use Rattle.table.proofs.Bits.{row-at, row-length}
+use Rattle.table.specs.Bits.{tabulate}
+use Rattle.table.proofs.Bits.{tabulate-at, tabulate-length}
 use Rattle.relation.specs.Source.{Rel, Tables, value}
 use Rattle.relation.specs.Tests.{ofSets, wires, free, freeWire, compatible, conflict}
 use Rattle.relation.specs.Masks.{member, sideBySide, valueIn}
@@ -31,9 +31,9 @@ unfolding tablesOf
 tables-past m X j l =
     let f : ℕ → ℕ = λ i. cond (ltb i m) (X i) 0 in
     ⊎-elim
-    (λ h. row-at maxWires f j (ltb→lt j maxWires h)
+    (λ h. tabulate-at maxWires f j (ltb→lt j maxWires h)
     ∙ cond-has (λ x. x ≡ 0) (ltb j m) (λ g. absurd (omega (arith, ltb→lt j m g))) (λ _. refl))
-    (λ h. List·getD-eq-default (row maxWires f) 0 (rw (row-length maxWires f) (nltb→le j maxWires h)))
+    (λ h. List·getD-eq-default (tabulate maxWires f) 0 (rw (tabulate-length maxWires f) (nltb→le j maxWires h)))
     (decide (ltb j maxWires))
 
 -- what a pair found tells

@@ -8,11 +8,11 @@ use native.Mathlib.Omega.{arith}
 use native.Mathlib.Nat.{not-suc-le-zero}
 use lib.Dec.{T, ltb}
 use lib.ListN.{length}
-use Rattle.base.specs.Sizes.{maxWires}
+use Rattle.sheet.specs.Limits.{maxWires}
 use Rattle.base.proofs.Tests.{below-suc}
 use Rattle.table.specs.Bits.{bit}
 use Rattle.table.specs.Pick.{suits, least, leastOf}
-use Rattle.table.proofs.Bits.{sum-cong, sum-le, row-at, row-length}
+use Rattle.table.proofs.Bits.{sum-cong, sum-le, tabulate-at, tabulate-length}
 use Rattle.table.proofs.Least.{Least, least-is, least-found}
 use Rattle.relation.specs.Source.{Rel, Tables, Part, Stage, WellDefined, Compatible}
 use Rattle.relation.specs.Tests.{wires, projection, fits}
@@ -29,7 +29,7 @@ total-cong b X Y h = sum-cong (b .m) (λ j. b .count (X j)) (λ j. b .count (Y j
 -- a reply has four tables
 pub tables-long : (m : ℕ) (X : Tables) → length (tablesOf m X) ≡ maxWires
 unfolding tablesOf
-tables-long m X = row-length maxWires (λ j. cond (ltb j m) (X j) 0)
+tables-long m X = tabulate-length maxWires (λ j. cond (ltb j m) (X j) 0)
 
 pub quick-long : (b : Board) (R : Rel) → length (quick b R) ≡ maxWires
 unfolding quick
@@ -39,7 +39,7 @@ quick-long b R = tables-long (b .m) (λ j. pick b (left b R j) j)
 module _ (n m : ℕ) (few : m ≤ maxWires) (X : Tables) where
   pub wires-tables : (j : ℕ) → j < m → wires (tablesOf m X) j ≡ X j
   unfolding tablesOf
-  wires-tables j l = row-at maxWires (λ j. cond (ltb j m) (X j) 0) j (omega arith) ∙ rw (lt-ltb j m l)
+  wires-tables j l = tabulate-at maxWires (λ j. cond (ltb j m) (X j) 0) j (omega arith) ∙ rw (lt-ltb j m l)
 
   pub tables-stage : Stage n m X → Stage n m (wires (tablesOf m X))
   tables-stage h j l = rw (wires-tables j l) (h j l)

@@ -4,10 +4,10 @@ use mathlib.Core.Path.{_≡_, ap, _∙_}
 use mathlib.Core.List.{List}
 use native.Mathlib.Omega.{arith}
 use lib.ListN.{getD}
-use Rattle.base.specs.Sizes.{maxWires}
+use Rattle.sheet.specs.Limits.{maxWires}
 use Rattle.table.specs.Pick.{pickOf, rank}
 use Rattle.table.specs.Pairs.{zerosIn, onesIn}
-use Rattle.table.proofs.Bits.{row-at, row-cong}
+use Rattle.table.proofs.Bits.{tabulate-at, tabulate-cong}
 use Rattle.search.specs.Kept.{rankOf, ranksOf, ranksBetween, pairOf, pairsOf}
 use Rattle.search.proofs.Keeping.{rank-between}
 
@@ -15,9 +15,9 @@ use Rattle.search.proofs.Keeping.{rank-between}
 pub ranks-between : (n : ℕ) (sets : List ℕ) → ranksBetween n (pairsOf sets) ≡ ranksOf n sets
 unfolding ranksBetween ranksOf pairsOf
 ranks-between n sets =
-    row-cong maxWires (λ j. rank n (pickOf n (zerosIn (getD (pairsOf sets) j 0)) (onesIn (getD (pairsOf sets) j 0)))) (rankOf n sets)
-    (λ j l. ap (λ x. rank n (pickOf n (zerosIn x) (onesIn x))) (row-at maxWires (pairOf sets) j l) ∙ rank-between n sets j)
+    tabulate-cong maxWires (λ j. rank n (pickOf n (zerosIn (getD (pairsOf sets) j 0)) (onesIn (getD (pairsOf sets) j 0)))) (rankOf n sets)
+    (λ j l. ap (λ x. rank n (pickOf n (zerosIn x) (onesIn x))) (tabulate-at maxWires (pairOf sets) j l) ∙ rank-between n sets j)
 
 pub rank-first : (n : ℕ) (sets : List ℕ) {ranks : List ℕ} → ranks ≡ ranksOf n sets → getD ranks 0 0 ≡ rankOf n sets 0
 unfolding ranksOf
-rank-first n sets e = ap (λ r. getD r 0 0) e ∙ row-at maxWires (rankOf n sets) 0 (omega arith)
+rank-first n sets e = ap (λ r. getD r 0 0) e ∙ tabulate-at maxWires (rankOf n sets) 0 (omega arith)

@@ -5,9 +5,9 @@ use mathlib.Core.Bool.{Bool, cond, not}
 use lib.Dec.{T, eqb}
 use mathlib.Core.List.{List}
 use lib.ListN.{length, getD}
-use Rattle.base.specs.Sizes.{maxInputs, maxWires}
+use Rattle.sheet.specs.Limits.{maxInputs, maxWires}
 use Rattle.base.specs.Lowest.{lowest}
-use Rattle.table.specs.Bits.{bit, any, sum, row}
+use Rattle.table.specs.Bits.{bit, any, sum, tabulate}
 use Rattle.table.specs.Pick.{pickOf, rank, tableSpace}
 use Rattle.table.specs.Blocks.{Covered}
 use Rattle.table.specs.Pairs.{zerosIn, onesIn, paired}
@@ -36,18 +36,18 @@ unfoldable pub pairOf : List ℕ → ℕ → ℕ
 pairOf sets j = paired (maskOf sets j 0) (maskOf sets j 1)
 
 unfoldable pub pairsOf : List ℕ → List ℕ
-pairsOf sets = row maxWires (pairOf sets)
+pairsOf sets = tabulate maxWires (pairOf sets)
 
 -- the ranks of the picks between the masks of pairs
 unfoldable pub ranksBetween : ℕ → List ℕ → List ℕ
-ranksBetween n pairs = row maxWires (λ j. rank n (pickOf n (zerosIn (getD pairs j 0)) (onesIn (getD pairs j 0))))
+ranksBetween n pairs = tabulate maxWires (λ j. rank n (pickOf n (zerosIn (getD pairs j 0)) (onesIn (getD pairs j 0))))
 
 -- the rank of a wire's pick, and of all wires' picks
 abbrev pub rankOf : ℕ → List ℕ → ℕ → ℕ
 rankOf n sets j = rank n (pickOf n (maskOf sets j 0) (maskOf sets j 1))
 
 unfoldable pub ranksOf : ℕ → List ℕ → List ℕ
-ranksOf n sets = row maxWires (rankOf n sets)
+ranksOf n sets = tabulate maxWires (rankOf n sets)
 
 pub record Held (n m : ℕ) (s w r : List ℕ) : Type 0 where
   pub sized : Sized n m
@@ -80,7 +80,7 @@ firstChange before ranks p = lowest p (changedOn before ranks)
 
 -- the tables and the cells of four ranks
 unfoldable pub tablesIn : List ℕ → List ℕ
-tablesIn ranks = row maxWires (λ j. getD ranks j 0 % tableSpace)
+tablesIn ranks = tabulate maxWires (λ j. getD ranks j 0 % tableSpace)
 
 unfoldable pub cellsIn : List ℕ → ℕ
 cellsIn ranks = sum maxWires (λ j. getD ranks j 0 / tableSpace)
@@ -94,14 +94,14 @@ unfoldable pub cutPair : ℕ → ℕ → ℕ → ℕ → ℕ
 cutPair x p w j = paired (cut (zerosIn x) p (occurs 4 (member w) j 0)) (cut (onesIn x) p (occurs 4 (member w) j 1))
 
 unfoldable pub cutPairs : List ℕ → ℕ → ℕ → List ℕ
-cutPairs pairs p w = row maxWires (λ j. cutPair (getD pairs j 0) p w j)
+cutPairs pairs p w = tabulate maxWires (λ j. cutPair (getD pairs j 0) p w j)
 
 -- the rank once pattern p has the set w: a pick whose bit on p still occurs is still the pick
 unfoldable pub rankAgain : ℕ → ℕ → ℕ → ℕ → ℕ → ℕ → ℕ
 rankAgain n r p j w pair = cond (occurs 4 (member w) j (bit (r % tableSpace) p)) r (rank n (pickOf n (zerosIn pair) (onesIn pair)))
 
 unfoldable pub ranksAgain : ℕ → List ℕ → ℕ → ℕ → List ℕ → List ℕ
-ranksAgain n ranks p w pairs = row maxWires (λ j. rankAgain n (getD ranks j 0) p j w (getD pairs j 0))
+ranksAgain n ranks p w pairs = tabulate maxWires (λ j. rankAgain n (getD ranks j 0) p j w (getD pairs j 0))
 
 -- where to split: the first pattern in conflict with its first open wire; nowhere where the tables are compatible (document 01, "Search", step 4)
 unfoldable pub openOf : ℕ → ℕ → Rel → Tables → Open

@@ -4,7 +4,7 @@ use mathlib.Core.Path.{_≡_}
 use mathlib.Core.Bool.{not}
 use lib.Dec.{T}
 use lib.ListN.{length}
-use Rattle.base.specs.Sizes.{maxWires}
+use Rattle.sheet.specs.Limits.{maxWires}
 use Rattle.relation.specs.Source.{Rel, Tables, Stage, Compatible}
 use Rattle.relation.specs.Tests.{wires}
 use Rattle.search.specs.declared.State.{State}

@@ -1,9 +1,9 @@
 -- Document 01, "Search": what the reply of a search carries, from the state that the search ends in; or the refusal of the relation.
 use Prim.Native.Nat.{ℕ, zero}
 use mathlib.Core.Bool.{Bool, true, false, cond}
-use Rattle.base.specs.Sizes.{maxWires}
+use Rattle.sheet.specs.Limits.{maxWires}
 use Rattle.base.specs.Cases.{Case, accepting, isRefused}
-use Rattle.table.specs.Bits.{row}
+use Rattle.table.specs.Bits.{tabulate}
 use Rattle.relation.specs.declared.Relation.{Relation}
 use Rattle.relation.specs.Source.{Rel}
 use Rattle.relation.specs.Handed.{relationOf, checkOf}
@@ -30,7 +30,7 @@ answerOf n m R s =
 
 -- every number of a refused search but its refusal's is 0
 unfoldable pub refusedWith : Case → SearchReply
-refusedWith c = record { tables = row maxWires (λ _. zero); cells = zero; floor = zero; visits = zero; mark = c }
+refusedWith c = record { tables = tabulate maxWires (λ _. zero); cells = zero; floor = zero; visits = zero; mark = c }
 
 unfoldable pub afterCheck : Relation → ℕ → Case → SearchReply
 afterCheck r budget c =

@@ -3,8 +3,8 @@ use Prim.Native.Nat.{ℕ, zero, suc, _+_}
 use mathlib.Core.Bool.{Bool, true, false, cond}
 use mathlib.Core.List.{List}
 use lib.Dec.{leb, ltb}
-use Rattle.base.specs.Sizes.{maxWires}
-use Rattle.table.specs.Bits.{sum, row}
+use Rattle.sheet.specs.Limits.{maxWires}
+use Rattle.table.specs.Bits.{sum, tabulate}
 use Rattle.table.specs.Pick.{orZero, leastOf}
 use Rattle.relation.specs.Source.{Rel, Tables}
 use Rattle.relation.specs.Tests.{wires, keep, agree, projection, freeWire, compatible, conflict, openPairs}
@@ -19,7 +19,7 @@ pub record Board : Type 0 where
 
 -- the tables of m wires as the reply has them: a zero for each wire that there is not
 unfoldable pub tablesOf : ℕ → Tables → List ℕ
-tablesOf m X = row maxWires (λ j. cond (ltb j m) (X j) 0)
+tablesOf m X = tabulate maxWires (λ j. cond (ltb j m) (X j) 0)
 
 -- step 2: a part is left, which the mark will say
 abbrev pub halted : State → State

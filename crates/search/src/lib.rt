@@ -1,6 +1,6 @@
 // The branch and bound: the smallest stage that keeps to a relation.
 use base::Refusal;
-use relation::Checked;
+use base::Verdict;
 use relation::Relation;
 use relation::patterns::clear_past;
 use table::picks::blocks;
@@ -116,8 +116,8 @@ pub fn search(relation: Relation, budget: u32) -> Answer
     let sets = relation.sets;
     let checked = relation.check();
     match checked {
-        Checked::WellFormed => search_sets(n, m, clear_past(n, sets), budget),
-        Checked::Refused(refusal) => Answer {
+        Verdict::Accepted => search_sets(n, m, clear_past(n, sets), budget),
+        Verdict::Refused(refusal) => Answer {
             tables: [0; 4],
             cells: 0,
             floor: 0,

@@ -7,17 +7,17 @@ use native.Mathlib.Nat.{lt-of-lt-of-le}
 use native.Mathlib.Omega.{arith}
 use lib.Dec.{eqb}
 use lib.Pow.{pow-mono}
-use Rattle.base.specs.Sizes.{maxInputs}
+use Rattle.sheet.specs.Limits.{maxInputs, maxPatterns, maxGates, maxOutputs}
 use lib.ListN.{length, getD}
 use Rattle.sheet.specs.declared.Command.{Command}
 use Rattle.sheet.specs.declared.Command.the-variants.{Sizes}
 use Rattle.sheet.specs.Commands.{collect, inputsOf, wiresOf, isMarked, isDontCare, hasRow, gatesOf, outputsOf, rowsOn, dontCaresOn}
-use Rattle.sheet.specs.Gathered.{maxPatterns, maxGates, maxOutputs, row, meet, gathered, noMark, rowMark, dontCareMark, markOn, valueOn, limitOn, gateAt, outputAt}
-use Rattle.base.proofs.Rows.{row-at}
+use Rattle.sheet.specs.Gathered.{tabulate, meet, gathered, noMark, rowMark, dontCareMark, markOn, valueOn, limitOn, gateAt, outputAt}
+use Rattle.base.proofs.Tabulate.{tabulate-at}
 
 -- without commands nothing is gathered, as with sizes 0
 pub nothing : gathered (Sizes 0 0 ∷ []) ≡ gathered []
-unfolding gathered row meet collect
+unfolding gathered tabulate meet collect
 nothing = refl
 
 module _ (cs : List Command) where
@@ -40,32 +40,32 @@ module _ (cs : List Command) where
   module _ (p : ℕ) (h : p < maxPatterns) where
     pub mark-field : getD (gathered cs .marks) p 0 ≡ markOn p cs
     unfolding gathered
-    mark-field = row-at maxPatterns (λ q. markOn q cs) p h
+    mark-field = tabulate-at maxPatterns (λ q. markOn q cs) p h
 
     pub value-field : getD (gathered cs .values) p 0 ≡ valueOn p cs
     unfolding gathered
-    value-field = row-at maxPatterns (λ q. valueOn q cs) p h
+    value-field = tabulate-at maxPatterns (λ q. valueOn q cs) p h
 
     pub limit-field : getD (gathered cs .limits) p 0 ≡ limitOn p cs
     unfolding gathered
-    limit-field = row-at maxPatterns (λ q. limitOn q cs) p h
+    limit-field = tabulate-at maxPatterns (λ q. limitOn q cs) p h
 
   module _ (i : ℕ) (h : i < maxGates) where
     pub kind-field : getD (gathered cs .kinds) i 0 ≡ gateAt i cs .kind
     unfolding gathered
-    kind-field = row-at maxGates (λ j. gateAt j cs .kind) i h
+    kind-field = tabulate-at maxGates (λ j. gateAt j cs .kind) i h
 
     pub left-field : getD (gathered cs .lefts) i 0 ≡ gateAt i cs .left
     unfolding gathered
-    left-field = row-at maxGates (λ j. gateAt j cs .left) i h
+    left-field = tabulate-at maxGates (λ j. gateAt j cs .left) i h
 
     pub right-field : getD (gathered cs .rights) i 0 ≡ gateAt i cs .right
     unfolding gathered
-    right-field = row-at maxGates (λ j. gateAt j cs .right) i h
+    right-field = tabulate-at maxGates (λ j. gateAt j cs .right) i h
 
   pub output-field : (i : ℕ) → i < maxOutputs → getD (gathered cs .signals) i 0 ≡ outputAt i cs
   unfolding gathered
-  output-field i h = row-at maxOutputs (λ j. outputAt j cs) i h
+  output-field i h = tabulate-at maxOutputs (λ j. outputAt j cs) i h
 
 -- a pattern is marked exactly where its mark is not `noMark`
 by-mark : (a b : Bool) → cond a dontCareMark (cond b rowMark noMark) ≡ noMark → a || b ≡ false

@@ -10,8 +10,9 @@ use Rattle.sheet.specs.declared.Command.{Command}
 use Rattle.sheet.specs.declared.Command.the-variants.{End, Row, DontCare, Gate, Output, Limit}
 use Rattle.sheet.specs.declared.Sheet.{Sheet}
 use Rattle.sheet.specs.Commands.{isEmpty, about, wiresOf, isMarked, isDontCare, hasRow, LogicGate, noGate, rowsOn, dontCaresOn, gatesOf, outputsOf, limitsOn}
-use Rattle.sheet.specs.Gathered.{maxPatterns, maxGates, maxOutputs, row, meet, gathered, allValues, limitOn, gateAt, outputAt, noMark, rowMark, dontCareMark}
-use Rattle.base.proofs.Rows.{row-at, row-set}
+use Rattle.sheet.specs.Limits.{maxPatterns, maxGates, maxOutputs, allOnes}
+use Rattle.sheet.specs.Gathered.{tabulate, meet, gathered, limitOn, gateAt, outputAt, noMark, rowMark, dontCareMark}
+use Rattle.base.proofs.Tabulate.{tabulate-at, tabulate-set}
 use Rattle.sheet.proofs.Lists.{never, collect-snoc, isEmpty-append, isEmpty-nil, about-same, about-other, getD-snoc-other}
 use Rattle.base.proofs.Tests.{and-false}
 
@@ -101,9 +102,9 @@ led h s =
 
 -- one command more about the pattern p, in a table made of what is said about each pattern
 about-set {ℓ} : {A : Type ℓ} (f : ℕ → List A → ℕ) (said : ℕ → List A) (p : ℕ) (x : A) (y : ℕ) → p < maxPatterns → y ≡ f p (said p ++ x ∷ [])
-    → set (row maxPatterns (λ q. f q (said q))) p y ≡ row maxPatterns (λ q. f q (said q ++ about q p x))
+    → set (tabulate maxPatterns (λ q. f q (said q))) p y ≡ tabulate maxPatterns (λ q. f q (said q ++ about q p x))
 about-set f said p x y h e =
-    row-set maxPatterns (λ q. f q (said q)) (λ q. f q (said q ++ about q p x)) p y h
+    tabulate-set maxPatterns (λ q. f q (said q)) (λ q. f q (said q ++ about q p x)) p y h
     (rw (about-same p x) e)
     (λ q d. rw (about-other q p x (λ g. d (sym g)), append-nil (said q)))
 
@@ -115,10 +116,10 @@ module _ (cs : List Command) where
       (rw (about-set (λ q. meet all) (λ q. limitsOn q cs) p w _ h here))
     where
       all : ℕ
-      all = allValues (wiresOf cs)
+      all = allOnes (wiresOf cs)
 
-      here : bitAnd (getD (row maxPatterns (λ q. limitOn q cs)) p 0) w ≡ meet all (limitsOn p cs ++ w ∷ [])
-      here = rw (row-at maxPatterns (λ q. limitOn q cs) p h) (sym (meet-snoc all (limitsOn p cs) w))
+      here : bitAnd (getD (tabulate maxPatterns (λ q. limitOn q cs)) p 0) w ≡ meet all (limitsOn p cs ++ w ∷ [])
+      here = rw (tabulate-at maxPatterns (λ q. limitOn q cs) p h) (sym (meet-snoc all (limitsOn p cs) w))
 
   pub row-adds : (p v : ℕ) → p < maxPatterns → isMarked p cs ≡ false → rowed (gathered cs) p v ≡ gathered (cs ++ Row p v ∷ [])
   unfolding gathered
@@ -138,9 +139,9 @@ module _ (cs : List Command) where
       (rw (about-set (λ q ps. cond (not (isEmpty ps)) dontCareMark (cond (hasRow q cs) rowMark noMark)) (λ q. dontCaresOn q cs) p p dontCareMark h (rw some)))
 
   gate-set : (f : LogicGate → ℕ) (g : LogicGate) → length (gatesOf cs) < maxGates
-      → set (row maxGates (λ i. f (gateAt i cs))) (length (gatesOf cs)) (f g) ≡ row maxGates (λ i. f (getD (gatesOf cs ++ g ∷ []) i noGate))
+      → set (tabulate maxGates (λ i. f (gateAt i cs))) (length (gatesOf cs)) (f g) ≡ tabulate maxGates (λ i. f (getD (gatesOf cs ++ g ∷ []) i noGate))
   gate-set f g h =
-      row-set maxGates (λ i. f (gateAt i cs)) (λ i. f (getD (gatesOf cs ++ g ∷ []) i noGate)) (length (gatesOf cs)) (f g) h
+      tabulate-set maxGates (λ i. f (gateAt i cs)) (λ i. f (getD (gatesOf cs ++ g ∷ []) i noGate)) (length (gatesOf cs)) (f g) h
       (ap f (sym (getD-append-seam (gatesOf cs) g [] noGate)))
       (λ j e. ap f (getD-snoc-other (gatesOf cs) g noGate j e))
 
@@ -155,4 +156,4 @@ module _ (cs : List Command) where
   unfolding gathered
   output-adds s h =
       simp (collect-snoc, append-nil, length-append)
-      (rw (row-set maxOutputs (λ i. outputAt i cs) (λ i. getD (outputsOf cs ++ s ∷ []) i 0) (length (outputsOf cs)) s h (sym (getD-append-seam (outputsOf cs) s [] 0)) (getD-snoc-other (outputsOf cs) s 0)))
+      (rw (tabulate-set maxOutputs (λ i. outputAt i cs) (λ i. getD (outputsOf cs ++ s ∷ []) i 0) (length (outputsOf cs)) s h (sym (getD-append-seam (outputsOf cs) s [] 0)) (getD-snoc-other (outputsOf cs) s 0)))

@@ -1,7 +1,7 @@
--- Unit sheets.
+-- Unit sheets: limits, commands, and what the commands come to.
+pub mod Limits
 pub mod Commands
-pub mod Reader
 pub mod Gathered
-pub mod Reading
-pub mod Turn
+pub mod Judged
 pub mod Cases
+pub mod Inner

@@ -1,44 +1,21 @@
 // What the commands of a sheet say, gathered one command after the other.
-use crate::Answer;
 use crate::Command;
 use crate::Reply;
 use crate::Sheet;
+use crate::limits::all_ones;
+use crate::limits::patterns_of;
 use base::Refusal;
+use base::Verdict;
 ghost use mathlib.Core.Path.{_≡_};
 ghost use mathlib.Core.Bool.{_||_};
 ghost use mathlib.Core.List.{[], _∷_};
-ghost use Prim.Native.Nat.{_+_, _<_, _≤_, _^_, min};
+ghost use Prim.Native.Nat.{_+_, _<_, _≤_};
 ghost use lib.ListN.{getD};
 ghost use lib.Dec.{leb, eqb};
 ghost use Rattle.base.specs.Lowest.{lowest};
-ghost use Rattle.sheet.specs.Gathered.{gathered, maxPatterns, allValues, noMark};
-ghost use Rattle.sheet.specs.Turn.{acceptedReply, patternOf, Takes, Judges, Adds, Ends};
-
-// The set of all values of m wires.
-fn all_values(m: u8) -> u16
-    ensures { λ r. ⌜ r ≡ allValues m ⌝ }
-{
-    match m {
-        0 => 0x0001,
-        1 => 0x0003,
-        2 => 0x000F,
-        3 => 0x00FF,
-        _ => 0xFFFF,
-    }
-}
-
-// The number of patterns of n inputs, as far as a sheet has room for them.
-fn patterns(n: u8) -> usize
-    ensures { λ r. ⌜ r ≡ min maxPatterns (2 ^ n) ⌝ }
-{
-    match n {
-        0 => 1,
-        1 => 2,
-        2 => 4,
-        3 => 8,
-        _ => 16,
-    }
-}
+ghost use Rattle.sheet.specs.Gathered.{gathered, noMark};
+ghost use Rattle.sheet.specs.Limits.{maxPatterns};
+ghost use Rattle.sheet.specs.Inner.Gathering.{acceptedReply, patternOf, Takes, Judges, Adds, Ends};
 
 // The number of signals there are.
 fn signals_made(m: u8, gates: u8) -> u16
@@ -74,29 +51,11 @@ fn missing(marks: [u8; Sheet::MAX_PATTERNS], count: usize) -> usize
 }
 
 impl Sheet {
-    // The limits of a sheet, named once.
-    pub const MAX_INPUTS: u8 = base::MAX_INPUTS;
-
-    pub const MAX_WIRES: u8 = base::MAX_WIRES;
-
-    pub const MAX_PATTERNS: usize = 1 << Sheet::MAX_INPUTS;
-
-    pub const MAX_GATES: u8 = 32;
-
-    pub const MAX_OUTPUTS: u8 = 8;
-
-    // A pattern's mark: it has neither 02 nor 03, it has a 02, it has a 03.
-    pub const NO_MARK: u8 = 0;
-
-    pub const ROW: u8 = 1;
-
-    pub const DONT_CARE: u8 = 2;
-
     // What the sizes alone say.
     pub fn fresh(n: u8, m: u8) -> Sheet
         ensures { λ r. ⌜ r ≡ gathered (Command.Sizes n m ∷ []) ⌝ }
     {
-        let all = all_values(m);
+        let all = all_ones(m);
         Sheet {
             n,
             m,
@@ -117,7 +76,7 @@ impl Sheet {
     {
         Reply {
             sheet: self,
-            answer: Answer::Accepted,
+            answer: Verdict::Accepted,
         }
     }
 
@@ -196,7 +155,7 @@ impl Sheet {
     }
 
     // One command more, whose first byte is at a place: 6, 7, 8 or taken. The reader has tested the command's pattern.
-    pub(crate) fn add(self, c: Command, at: usize) -> Reply
+    pub fn add(self, c: Command, at: usize) -> Reply
         requires { ⌜ patternOf c < maxPatterns ⌝ }
         ensures { λ r. ⌜ Adds self c at r ⌝ }
     {
@@ -212,14 +171,14 @@ impl Sheet {
     }
 
     // The end, 00 being read up to a place: 4, 9, or the sheet stands.
-    pub(crate) fn finish(self, to: usize, len: usize) -> Reply
+    pub fn finish(self, to: usize, len: usize) -> Reply
         ensures { λ r. ⌜ Ends self to len r ⌝ }
     {
         if to < len {
             return Reply::refusal(Refusal::at(Refusal::TRAILING, to));
         }
         let marks = self.marks;
-        let count = patterns(self.n);
+        let count = patterns_of(self.n) as usize;
         let p = missing(marks, count);
         if p < count {
             return Reply::refusal(Refusal::at(Refusal::MISSING_ROW, p));

@@ -10,8 +10,8 @@ use lib.ListN.{length, getD, set, drop, replicate}
 use Rattle.base.specs.Cases.{acceptedCase, refusedCase}
 use Rattle.base.specs.declared.Refusal.{Refusal}
 use Rattle.base.specs.Refusals.{refusalAt, cutShort, outOfRange}
-use Rattle.base.specs.Sizes.{sizesOut, maxWires}
-use Rattle.table.specs.Bits.{row}
+use Rattle.sheet.specs.Limits.{sizesOut, maxWires}
+use Rattle.table.specs.Bits.{tabulate}
 use Rattle.table.specs.Tree.{Tree, selectors}
 use Rattle.stage.specs.Bytes.{treeBytes, size}
 use Rattle.stage.specs.Cases.{StageReply, answerCase, takenTree, refusedTree}
@@ -100,7 +100,7 @@ module _ (s : List ℕ) (n m j at : ℕ) (tables : List ℕ) (cells : ℕ) (g : 
 
 -- all wires are gathered: from nothing, the reply itself
 filled-all : (n : ℕ) (trees : List Tree) → length trees ≤ 4 → filled n (replicate maxWires 0) 0 trees ≡ tablesOf n trees
-unfolding filled tablesOf row
+unfolding filled tablesOf tabulate
 filled-all n [] h = refl
 filled-all n (a ∷ []) h = refl
 filled-all n (a ∷ b ∷ []) h = refl

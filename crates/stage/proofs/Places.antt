@@ -12,7 +12,7 @@ use lib.Seq.{drop-cons, drop-drop, drop-append-seam}
 use borrow.Author.Tests.{eq-eqb, ne-eqb, lt-leb}
 use Rattle.base.specs.declared.Refusal.{Refusal}
 use Rattle.base.specs.Refusals.{refusalAt, cutShort, outOfRange, outOfTurn, notAscending}
-use Rattle.base.specs.Sizes.{countOut}
+use Rattle.sheet.specs.Limits.{countOut}
 use Rattle.base.proofs.Tests.{decide}
 use Rattle.table.specs.Tree.{Tree, sel, Ordered, selectors}
 use Rattle.base.specs.Cases.{refusedOutcome}

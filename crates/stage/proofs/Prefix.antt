@@ -9,7 +9,7 @@ use lib.ListN.{length, take, drop, length-append, take-append-drop}
 use lib.Pow.{pow-pos, pow-mono}
 use lib.Seq.{take-all, length-take-le}
 use Rattle.base.specs.declared.Refusal.{Refusal}
-use Rattle.base.specs.Sizes.{countOut, sizesOut}
+use Rattle.sheet.specs.Limits.{countOut, sizesOut}
 use Rattle.base.proofs.Tests.{decide, cond-has₂, test-no}
 use Rattle.table.specs.Tree.{Tree, Ordered}
 use Rattle.stage.specs.Bytes.{treeBytes, wireBytes, stageBytes, AllOrdered, longestStage}

@@ -7,7 +7,7 @@ use native.Mathlib.Nat.{lt-of-lt-of-le}
 use lib.Dec.{eqb, leb, ltb}
 use lib.Pow.{pow-mono}
 use borrow.Author.Tests.{ne-eqb, lt-leb, le-ltb, eqb-false, ltb-false}
-use Rattle.base.specs.Sizes.{countOut, sizesOut, maxInputs, maxWires}
+use Rattle.sheet.specs.Limits.{countOut, sizesOut, maxInputs, maxWires}
 
 or-false : (a b : Bool) → a || b ≡ false → (a ≡ false) × (b ≡ false)
 or-false true b e = absurd (true≢false e)

@@ -8,7 +8,7 @@ use lib.Dec.{T, leb, eqb, eqb→eq, nleb→lt}
 use lib.ListN.{length, length-append}
 use borrow.Author.Tests.{lt-leb}
 use Rattle.base.specs.Refusals.{refusalAt}
-use Rattle.base.specs.Sizes.{countOut}
+use Rattle.sheet.specs.Limits.{countOut}
 use Rattle.base.proofs.Tests.{cond-has, cond-has₂, test-no}
 use Rattle.table.specs.Tree.{Tree, con, sel, Ordered}
 use Rattle.stage.specs.Bytes.{treeBytes}

@@ -9,10 +9,10 @@ use lib.Dec.{T, ltb, nltb→le}
 use lib.ListN.{length, getD, take}
 use lib.Seq.{take-at}
 use Rattle.base.specs.Cases.{Case, accepting, acceptedOutcome, isRefused}
-use Rattle.base.specs.Sizes.{sizesOut, maxWires}
+use Rattle.sheet.specs.Limits.{sizesOut, maxWires}
 use Rattle.base.proofs.Tests.{cond-has, test-no}
-use Rattle.base.proofs.Rows.{take-entry}
-use Rattle.table.specs.Bits.{bit, ofBits, row}
+use Rattle.base.proofs.Tabulate.{take-entry}
+use Rattle.table.specs.Bits.{bit, ofBits, tabulate}
 use Rattle.table.specs.Tree.{follow, reduced}
 use Rattle.table.proofs.Bits.{sum-cong, ofBits-bit}
 use Rattle.table.proofs.Trees.{reduced-follow}
@@ -67,7 +67,7 @@ module _ (n m : ℕ) (tables buffer : List ℕ) (four : length tables ≡ maxWir
   in-range : (j : ℕ) → j < m → getD tables j 0 < 2 ^ (2 ^ n)
   in-range = tables-in n m tables (w .within)
 
-  tables-same : tablesOf n (stageTrees n m tables) ≡ row maxWires (λ j. cond (ltb j m) (getD tables j 0) 0)
+  tables-same : tablesOf n (stageTrees n m tables) ≡ tabulate maxWires (λ j. cond (ltb j m) (getD tables j 0) 0)
   unfolding tablesOf stageTrees
   tables-same = rw (tables-back n (take m tables) (taken-in n m tables (w .sizes) fits in-range)) (simp (take-entry m tables))
 

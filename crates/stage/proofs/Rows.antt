@@ -5,7 +5,7 @@ use mathlib.Core.List.{List, [], _∷_}
 use Rattle.base.specs.Cases.{accepting, acceptedOutcome, refusedCase}
 use Rattle.base.specs.Refusals.{refusalAt, cutShort, unknown, outOfRange, trailing, outOfTurn, notAscending, shortBuffer}
 use Rattle.base.specs.Lowest.{lowest}
-use Rattle.table.specs.Bits.{bit, sum, ofBits, row}
+use Rattle.table.specs.Bits.{bit, sum, ofBits, tabulate}
 use Rattle.table.specs.Cells.{low, high}
 use Rattle.table.specs.Tree.{con, sel, follow, selectors, reduced}
 use Rattle.stage.specs.Bytes.{treeBytes, wireBytes, stageBytes, size}
@@ -32,7 +32,7 @@ unfolding reading
 a-read = refl
 
 pub a-tables : tablesOf 2 (sel 1 (con 1) (con 0) ∷ sel 2 (con 0) (con 1) ∷ []) ≡ 3 ∷ 10 ∷ 0 ∷ 0 ∷ []
-unfolding tablesOf tableOf ofBits sum row follow bit
+unfolding tablesOf tableOf ofBits sum tabulate follow bit
 a-tables = refl
 
 pub a-cells : size (sel 1 (con 1) (con 0) ∷ sel 2 (con 0) (con 1) ∷ []) ≡ 2

@@ -11,7 +11,7 @@ use lib.Seq.{getD-take, length-take-le}
 use borrow.Author.Tests.{eq-eqb, lt-leb}
 use Rattle.base.specs.declared.Refusal.{Refusal}
 use Rattle.base.specs.Refusals.{refusalAt, outOfTurn}
-use Rattle.base.specs.Sizes.{sizesOut}
+use Rattle.sheet.specs.Limits.{sizesOut}
 use Rattle.base.proofs.Tests.{cond-has, test-no}
 use Rattle.table.specs.Tree.{Tree, Ordered, reduced}
 use Rattle.table.proofs.Trees.{reduced-ordered}

@@ -7,7 +7,7 @@ use lib.Dec.{leb, eqb}
 use lib.ListN.{drop}
 use Rattle.base.specs.Refusals.{refusalAt, cutShort, unknown, outOfRange, trailing, outOfTurn, notAscending}
 use Rattle.base.specs.declared.Refusal.{Refusal}
-use Rattle.base.specs.Sizes.{countOut, sizesOut}
+use Rattle.sheet.specs.Limits.{countOut, sizesOut}
 use Rattle.table.specs.Tree.{Tree, con, sel}
 
 -- what reading at a place takes, with the place and the bytes after it; or the refusal

@@ -6,8 +6,8 @@ use lib.Dec.{eqb}
 use lib.ListN.{getD, replicate}
 use Rattle.base.specs.Cases.{acceptedCase, refusedCase}
 use Rattle.base.specs.declared.Refusal.{Refusal}
-use Rattle.base.specs.Sizes.{maxWires}
-use Rattle.table.specs.Bits.{bit, ofBits, row}
+use Rattle.sheet.specs.Limits.{maxWires}
+use Rattle.table.specs.Bits.{bit, ofBits, tabulate}
 use Rattle.table.specs.Tree.{Tree, follow, selectors}
 use Rattle.stage.specs.Bytes.{size}
 use Rattle.stage.specs.Cases.{StageReply, TreeReply, takenTree, refusedTree}
@@ -27,7 +27,7 @@ selectOf n i off on = ofBits (2 ^ n) (λ p. cond (eqb (bit p (n - i)) 0) (bit of
 
 -- a table for each of four wires; 0 for a wire that the sheet does not have
 unfoldable pub tablesOf : ℕ → List Tree → List ℕ
-tablesOf n trees = row maxWires (λ j. getD (map (tableOf n) trees) j 0)
+tablesOf n trees = tabulate maxWires (λ j. getD (map (tableOf n) trees) j 0)
 
 -- a refused sheet leaves nothing of what was read
 abbrev pub refusedReply : Refusal → StageReply

@@ -7,8 +7,8 @@ use mathlib.Core.List.{List}
 use lib.Dec.{T, ltb}
 use lib.ListN.{length, getD, take}
 use Rattle.base.specs.Cases.{acceptedCase, isRefused}
-use Rattle.base.specs.Sizes.{maxWires}
-use Rattle.table.specs.Bits.{row}
+use Rattle.sheet.specs.Limits.{maxWires}
+use Rattle.table.specs.Bits.{tabulate}
 use Rattle.stage.specs.Cases.{StageReply}
 use Rattle.stage.specs.Read.{readStage}
 use Rattle.stage.specs.Reply.{replyOf}
@@ -24,7 +24,7 @@ givenBack n m tables =
     record {
       n = n;
       m = m;
-      tables = row maxWires (λ j. cond (ltb j m) (getD tables j 0) 0);
+      tables = tabulate maxWires (λ j. cond (ltb j m) (getD tables j 0) 0);
       cells = stageCells n m tables;
       answer = acceptedCase;
     }

@@ -6,7 +6,7 @@ use lib.Dec.{ltb, leb}
 use lib.ListN.{length, getD, take, drop}
 use Rattle.base.specs.Cases.{Case, accepting, acceptedOutcome, refusedCase, isRefused}
 use Rattle.base.specs.Refusals.{refusalAt, outOfRange, shortBuffer}
-use Rattle.base.specs.Sizes.{sizesOut}
+use Rattle.sheet.specs.Limits.{sizesOut}
 use Rattle.base.specs.Lowest.{lowest}
 use Rattle.table.specs.Bits.{sum}
 use Rattle.table.specs.Cells.{cells}

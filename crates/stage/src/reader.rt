@@ -1,6 +1,6 @@
 // The stage reader: any ordered tree for each wire, to its truth table and its selectors.
 use base::Refusal;
-use base::sizes_out;
+use sheet::limits::sizes_out;
 ghost use mathlib.Core.Path.{_≡_};
 ghost use Prim.Native.Nat.{_+_, _^_, _<_, _≤_};
 ghost use lib.ListN.{length, drop};

@@ -1,7 +1,7 @@
 // The stage writer: the reduced tree of each wire's table, at the start of a lent buffer.
 use base::Refusal;
 use base::put;
-use base::sizes_out;
+use sheet::limits::sizes_out;
 use table::cell_counts::count;
 ghost use mathlib.Core.Path.{_≡_};
 ghost use Prim.Native.Nat.{ℕ, _+_, _*_, _^_, _<_, _≤_};

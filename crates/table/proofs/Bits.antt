@@ -9,7 +9,7 @@ use native.Mathlib.Nat.{not-suc-le-zero, le-of-suc-le-suc, eq-or-lt-of-le, mod-l
 use lib.Dec.{T, eqb}
 use lib.Bits.{bitAnd, and-shr, and-mod}
 use lib.Pow.{pow-pos, pow-add, pow-mono, high, shr-shr, shl-exact, split}
-pub use Rattle.base.proofs.Rows.{row-length, row-at, row-cong, row-four}
+pub use Rattle.base.proofs.Tabulate.{tabulate-length, tabulate-at, tabulate-cong, tabulate-four}
 use Rattle.base.proofs.Tests.{and-intro, and-left, and-right, or-left, or-right, or-cases, below-suc}
 use Rattle.table.specs.Bits.{bit, all, any, sum, ofBits}
 

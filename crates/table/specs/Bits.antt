@@ -1,7 +1,7 @@
 -- Bits of a number, and tests and sums over the numbers below a bound.
 use Prim.Native.Nat.{ℕ, zero, suc, _+_, _*_, _^_, _/_, _%_}
 use mathlib.Core.Bool.{Bool, true, false, _&&_, _||_}
-unfoldable pub use Rattle.base.specs.Rows.{row}
+unfoldable pub use Rattle.base.specs.Tabulate.{tabulate}
 
 -- bit v of the number w
 unfoldable pub bit : ℕ → ℕ → ℕ

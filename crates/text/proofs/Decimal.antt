@@ -73,7 +73,8 @@ digits-last b (a ∷ s) h l g = (h .0, h .1, digits-last b s (h .2) l g)
 
 pub decimal-digits : (x : ℕ) → AllDigits (decimal x)
 unfolding AllDigits
-decimal-digits = decimal-all (λ x s. AllDigits s) (λ x h. (omega arith, omega arith, tt)) λ x s h d. digits-last (digit (x % 10)) s d (omega arith) (omega arith)
+decimal-digits =
+    decimal-all (λ x s. AllDigits s) (λ x h. (omega arith, omega arith, tt)) λ x s h d. digits-last (digit (x % 10)) s d (omega arith) (omega arith)
 
 -- there is a first digit, and it is no 0 but for the number 0
 pub decimal-first : (x : ℕ) → (0 < length (decimal x)) × ((x ≡ 0 → ⊥) → 0x31 ≤ getD (decimal x) 0 0)
@@ -116,7 +117,8 @@ decimal-only (a ∷ b ∷ s) d h l =
 pub decimal-length : (x k : ℕ) → x < 10 ^ suc k → length (decimal x) ≤ suc k
 decimal-length = decimal-all (λ x s. (k : ℕ) → x < 10 ^ suc k → length s ≤ suc k) (λ x h k l. omega arith) longer
   where
-    longer : (x : ℕ) (s : List ℕ) → 10 ≤ x → ((k : ℕ) → x / 10 < 10 ^ suc k → length s ≤ suc k) → (k : ℕ) → x < 10 ^ suc k → length (s ++ digit (x % 10) ∷ []) ≤ suc k
+    longer : (x : ℕ) (s : List ℕ) → 10 ≤ x → ((k : ℕ) → x / 10 < 10 ^ suc k → length s ≤ suc k) → (k : ℕ) → x < 10 ^ suc k
+        → length (s ++ digit (x % 10) ∷ []) ≤ suc k
     longer x s h f zero l = absurd (omega arith)
     longer x s h f (suc k) l =
         let z = f k (div-lt-iff-lt-mul {k = 10} (omega arith) .1 (rw (pow-suc 10 (suc k)) at l)) in

@@ -1,5 +1,5 @@
 -- Laws of text put into a buffer: one text after another, and text at its start.
-use Rattle.base.proofs.Rows.{sets-append}
+use Rattle.base.proofs.Tabulate.{sets-append}
 use Prim.Native.Nat.{ℕ, _≤_}
 use mathlib.Core.Path.{_≡_, refl}
 use mathlib.Core.List.{List, [], _++_}

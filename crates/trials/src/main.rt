@@ -1,6 +1,6 @@
 // A program for trials of the library: it reads records from standard input, calls the library on each, and prints the reply.
-// What it prints is compared with the replies of a solver that was written apart from the library, and is not proved here; that the program is safe and ends is.
-// What the bytes of a record say and what the parts of a reply put is proved in `drawn` and `report`.
+// What it prints is compared with the replies of a solver that was written apart from the library, and is not proved here; that the program is safe and
+// ends is. What the bytes of a record say and what the parts of a reply put is proved in `drawn` and `report`.
 use libc::STDIN_FILENO;
 use libc::STDOUT_FILENO;
 ghost use Prim.Native.Nat.{_≤_};
@@ -74,8 +74,8 @@ fn move_to_front(window: &mut [u8], from: usize, end: usize) -> usize
     count
 }
 
-// A turn takes what the window holds of the input; the turns are bounded, since nothing says that an input ends. It ends where no record is whole: a record that is
-// cut short, or longer than the window, has no reply.
+// A turn takes what the window holds of the input; the turns are bounded, since nothing says that an input ends. It ends where no record is whole: a record
+// that is cut short, or longer than the window, has no reply.
 fn main() {
     let mut window = io::large_buffer();
     let mut held: usize = 0;

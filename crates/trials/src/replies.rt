@@ -19,6 +19,7 @@ use report::parts::put_refusal;
 use report::parts::put_refusal_line;
 use report::parts::put_stage_pairs;
 use search::Mark;
+use sheet::Sheet;
 use stage::reader::Answer;
 use stage::reader::StageRead;
 use stage::reader::read_stage;
@@ -33,6 +34,9 @@ ghost use Rattle.text.specs.Inner.Put.{lastPlace};
 ghost use Rattle.report.specs.Lines.{longestPairs, longestWord};
 ghost use Rattle.drawn.specs.Lines.{longestJudged, longestKept, longestReply};
 ghost use Rattle.drawn.specs.Records.{longestRecord};
+
+// The most bytes of a lent buffer, whose length is a number of one byte.
+const MOST_ROOM: usize = 255;
 
 // A stage at the start of a buffer, as pairs, and the end of its line.
 fn put_stage(out: &mut [u8], at: usize, buffer: &[u8], k: usize) -> usize
@@ -92,7 +96,7 @@ fn put_quote(out: &mut [u8], at: usize, s: &[u8], from: usize) -> usize
     let budget = u32_at(s, from + 1);
     let room = byte_at(s, from + 5) as usize;
     let sheet = part(s, from + 8, length_at(s, from + 6));
-    let mut space = [FILL; 255];
+    let mut space = [FILL; MOST_ROOM];
     put_quote_into(out, at, sheet, budget, &mut space[0..room])
 }
 
@@ -177,7 +181,7 @@ fn put_write_into(
     at: usize,
     n: u8,
     m: u8,
-    tables: [u16; 4],
+    tables: [u16; Sheet::WIRES],
     buffer: &mut [u8],
 ) -> usize
     requires { ⌜ at + longestReply ≤ lastPlace ⌝ }
@@ -194,7 +198,7 @@ fn put_write(out: &mut [u8], at: usize, s: &[u8], from: usize) -> usize
 {
     let room = byte_at(s, from + 3) as usize;
     let tables = tables_at(s, from + 4);
-    let mut space = [FILL; 255];
+    let mut space = [FILL; MOST_ROOM];
     put_write_into(
         out,
         at,

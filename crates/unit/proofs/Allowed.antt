@@ -11,17 +11,17 @@ use lib.Dec.{T, eqb, eqb→eq, ltb, ltb→lt, nltb→le}
 use lib.ListN.{getD}
 use lib.Pow.{pow-pos, pow-mono, ones-lt}
 use borrow.Author.Tests.{lt-ltb}
-use Rattle.base.specs.Sizes.{maxWires}
+use Rattle.sheet.specs.Limits.{maxWires, maxPatterns, maxValues, allOnes}
 use Rattle.base.proofs.Tests.{decide, and-intro, and-left, and-right, and-true, eq-test, test-ext}
 use Rattle.table.specs.Bits.{bit, sum, ofBits}
 use Rattle.table.proofs.Bits.{bit-ofBits, bit-past, test-and}
 use Rattle.sheet.specs.declared.Command.{Command}
 use Rattle.sheet.specs.Commands.{inputsOf, wiresOf, rowsOn, limitsOn}
-use Rattle.sheet.specs.Gathered.{maxPatterns, maxValues, rowMark, allValues, limitOn, gathered}
+use Rattle.sheet.specs.Gathered.{rowMark, limitOn, gathered}
 use Rattle.sheet.proofs.Each.{Each}
-use Rattle.sheet.proofs.Sound.{Sound}
-use Rattle.sheet.proofs.Marks.{Given, present, impossible}
-use Rattle.sheet.proofs.Limits.{meet-has, has-meet, all-values, limit-below}
+use Rattle.reader.proofs.Sound.{Sound}
+use Rattle.reader.proofs.Marks.{Given, present, impossible}
+use Rattle.sheet.proofs.Permitted.{meet-has, has-meet, all-values, limit-below}
 use Rattle.sheet.proofs.Fields.{limit-field, pattern-room, present-mark, present-value, impossible-mark}
 use Rattle.unit.specs.Gates.{outputsFor}
 use Rattle.unit.specs.Relation.{permits, sameList, alike, unitRelation}
@@ -64,21 +64,21 @@ module _ (cs : List Command) (s : Sound cs) (p : ℕ) where
   limit-test : (v : ℕ) → eqb (bit (limitOn p cs) v) 1 ≡ ltb v (2 ^ wiresOf cs) && permits (limitsOn p cs) v
   unfolding bit
   limit-test v =
-      let all = all-values (wiresOf cs) (s .wires-most) in
+      let all = all-values (wiresOf cs) (s .sizes .m-most) in
       test-ext (eqb (bit (limitOn p cs) v) 1) (ltb v (2 ^ wiresOf cs) && permits (limitsOn p cs) v)
       (λ t.
-      let h = has-meet v (allValues (wiresOf cs)) (limitsOn p cs) (eqb→eq (bit (limitOn p cs) v) 1 t) in
+      let h = has-meet v (allOnes (wiresOf cs)) (limitsOn p cs) (eqb→eq (bit (limitOn p cs) v) 1 t) in
       and-intro (ltb v (2 ^ wiresOf cs)) (permits (limitsOn p cs) v)
       (subst T (sym (lt-ltb v (2 ^ wiresOf cs) (ones-below (2 ^ wiresOf cs) v (subst (λ x. bit x v ≡ 1) all (h .0))))) tt)
       (each-permits v (limitsOn p cs) (h .1)))
       (λ t.
       let l = ltb→lt v (2 ^ wiresOf cs) (and-left (ltb v (2 ^ wiresOf cs)) (permits (limitsOn p cs) v) t) in
       eq-test
-      (meet-has v (allValues (wiresOf cs)) (limitsOn p cs) (subst (λ x. bit x v ≡ 1) (sym all) (ones-bit (2 ^ wiresOf cs) v l))
+      (meet-has v (allOnes (wiresOf cs)) (limitsOn p cs) (subst (λ x. bit x v ≡ 1) (sym all) (ones-bit (2 ^ wiresOf cs) v l))
       (permits-each v (limitsOn p cs) (and-right (ltb v (2 ^ wiresOf cs)) (permits (limitsOn p cs) v) t))))
 
   limit-lt : limitOn p cs < 2 ^ maxValues
-  limit-lt = lt-of-lt-of-le (limit-below p cs (s .wires-most)) (pow-mono {i = 2 ^ wiresOf cs} {j = maxValues} (pow-mono {i = wiresOf cs} {j = maxWires} (s .wires-most)))
+  limit-lt = lt-of-lt-of-le (limit-below p cs (s .sizes .m-most)) (pow-mono {i = 2 ^ wiresOf cs} {j = maxValues} (pow-mono {i = wiresOf cs} {j = maxWires} (s .sizes .m-most)))
 
   -- an impossible pattern: all permitted values
   all-permitted : rowsOn p cs ≡ [] → limitOn p cs ≡ setOn cs p
@@ -105,10 +105,10 @@ module _ (cs : List Command) (s : Sound cs) (p : ℕ) where
   -- the set by the pattern's mark
   module _ (l : p < 2 ^ inputsOf cs) where
     room : p < maxPatterns
-    room = pattern-room cs (s .inputs-most) p l
+    room = pattern-room cs (s .sizes .n-most) p l
 
     value-room : (v : ℕ) → v < 2 ^ wiresOf cs → v < maxValues
-    value-room v b = lt-of-lt-of-le b (pow-mono {i = wiresOf cs} {j = maxWires} (s .wires-most))
+    value-room v b = lt-of-lt-of-le b (pow-mono {i = wiresOf cs} {j = maxWires} (s .sizes .m-most))
 
     pub set-unmarked : (getD (gathered cs .marks) p 0 ≡ rowMark → ⊥) → getD (gathered cs .limits) p 0 ≡ setOn cs p
     set-unmarked ne = go (s .each-pattern p l)

@@ -7,7 +7,7 @@ use lib.Dec.{T, eqb, eqb→eq, eqb-refl}
 use lib.ListN.{length, getD, length-map}
 use lib.Seq.{ext-getD}
 use Rattle.base.proofs.Tests.{and-intro, and-left, and-right, eq-test, test-ext}
-use Rattle.table.specs.Bits.{bit, ofBits, row}
+use Rattle.table.specs.Bits.{bit, ofBits, tabulate}
 use Rattle.table.proofs.Bits.{sum-cong, bit-ofBits}
 use Rattle.sheet.specs.declared.Command.{Command}
 use Rattle.sheet.specs.declared.Sheet.{Sheet}
@@ -23,7 +23,7 @@ use Rattle.unit.proofs.Placed.{placed, wires-bits, signals-made}
 pub signals-bits : (cs : List Command) (v : ℕ) → AllBits (signalsOn cs v)
 unfolding signalsOn
 signals-bits cs v =
-    let s = row (wiresOf cs) (bit v) in
+    let s = tabulate (wiresOf cs) (bit v) in
     subst AllBits (sym (gates-upTo s (gatesOf cs))) (upTo-bits s (λ i. getD (gatesOf cs) i noGate) (length (gatesOf cs)) (wires-bits (wiresOf cs) v))
 
 getD-map : (f : ℕ → ℕ) (l : List ℕ) (i : ℕ) → i < length l → getD (map f l) i 0 ≡ f (getD l i 0)

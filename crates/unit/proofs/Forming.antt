@@ -11,13 +11,14 @@ use Rattle.base.specs.Cases.{acceptedCase}
 use Rattle.base.proofs.Tests.{decide}
 use Rattle.relation.specs.Handed.{checkOf}
 use Rattle.sheet.specs.declared.Command.{Command}
-use Rattle.sheet.specs.declared.Answer.the-variants.{Accepted}
+use Rattle.base.specs.declared.Verdict.the-variants.{Accepted}
 use Rattle.sheet.specs.declared.Reply.{Reply}
 use Rattle.sheet.specs.Commands.{inputsOf}
 use Rattle.sheet.specs.Cases.{sheetReply}
-use Rattle.sheet.specs.Reading.{holds, refused, readingOf, replyTold}
-use Rattle.sheet.proofs.Replies.{accepted-reply}
-use Rattle.sheet.proofs.Sound.{sound}
+use Rattle.sheet.specs.Judged.{holds, refused}
+use Rattle.reader.specs.Reading.{readingOf, replyTold}
+use Rattle.reader.proofs.Replies.{accepted-reply}
+use Rattle.reader.proofs.Sound.{sound}
 use Rattle.unit.specs.Formed.{relationIn, turnedAway, formedFrom, formedOf}
 use Rattle.unit.specs.Parts.{Held, afterCheck}
 use Rattle.unit.proofs.Told.{emptyIn, refused-empty, passes-whole}

@@ -7,9 +7,8 @@ use native.Mathlib.Omega.{arith}
 use lib.Dec.{eqb, ltb, ltb→lt, nltb→le}
 use Rattle.base.proofs.Tests.{decide}
 use Rattle.table.specs.Bits.{bit, ofBits}
-use Rattle.table.proofs.Bits.{bit-lt, bit-ext, bit-past, bit-ofBits, ofBits-lt}
+use Rattle.table.proofs.Bits.{bit-lt, bit-ext, bit-past, bit-ofBits, ofBits-lt, ofBits-more, ofBits-short}
 use Rattle.relation.specs.Tests.{isOne}
-use Rattle.table.proofs.Bits.{ofBits-more, ofBits-short}
 use Rattle.relation.proofs.Columns.{one-test, isOne-lt-two}
 use Rattle.sheet.proofs.Lists.{never}
 use Rattle.unit.proofs.Bits.{two-bits}

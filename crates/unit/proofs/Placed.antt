@@ -6,18 +6,18 @@ use native.Mathlib.Nat.{lt-of-lt-of-le}
 use native.Mathlib.Omega.{arith}
 use lib.Dec.{ltb}
 use lib.ListN.{length, getD}
-use Rattle.base.specs.Sizes.{maxInputs, maxWires}
-use Rattle.table.specs.Bits.{bit, row}
+use Rattle.sheet.specs.Limits.{maxInputs, maxWires, maxGates, maxOutputs}
+use Rattle.table.specs.Bits.{bit, tabulate}
 use Rattle.table.proofs.Bits.{bit-lt}
 use Rattle.base.proofs.Tests.{cond-has}
-use Rattle.base.proofs.Rows.{row-entry}
+use Rattle.base.proofs.Tabulate.{tabulate-entry}
 use Rattle.sheet.specs.declared.Command.{Command}
 use Rattle.sheet.specs.declared.Sheet.{Sheet}
 use Rattle.sheet.specs.Commands.{LogicGate, noGate, wiresOf, gatesOf, outputsOf, signalsMade}
-use Rattle.sheet.specs.Gathered.{gathered, maxGates, maxOutputs, gateAt}
-use Rattle.sheet.proofs.Sound.{Sound, sound}
+use Rattle.sheet.specs.Gathered.{gathered, gateAt}
+use Rattle.reader.proofs.Sound.{Sound, sound}
 use Rattle.sheet.proofs.Each.{each-getD}
-use Rattle.sheet.proofs.Wiring.{Wired}
+use Rattle.reader.proofs.Wiring.{Wired}
 use Rattle.sheet.proofs.Fields.{inputs-field, wires-field, gates-field, outputs-field, kind-field, left-field, right-field, output-field}
 use Rattle.unit.specs.Gates.{signalsOn}
 use Rattle.unit.specs.Parts.{Held}
@@ -31,8 +31,8 @@ abbrev pub gateOf : Sheet → ℕ → LogicGate
 gateOf sheet = gateIn (sheet .kinds) (sheet .lefts) (sheet .rights)
 
 -- the wires are bits
-pub wires-bits : (m v : ℕ) → AllBits (row m (bit v))
-wires-bits m v q = rw (row-entry m (bit v) q) (cond-has (λ x. x < 2) (ltb q m) (λ _. bit-lt v q) (λ _. omega arith))
+pub wires-bits : (m v : ℕ) → AllBits (tabulate m (bit v))
+wires-bits m v q = rw (tabulate-entry m (bit v) q) (cond-has (λ x. x < 2) (ltb q m) (λ _. bit-lt v q) (λ _. omega arith))
 
 pub record Placed (sheet : Sheet) : Type 0 where
   pub few-inputs : sheet .n ≤ maxInputs
@@ -54,8 +54,8 @@ module _ (cs : List Command) (s : Sound cs) where
   placed-all : Placed (gathered cs)
   placed-all =
       record {
-        few-inputs = rw (inputs-field cs) (s .inputs-most);
-        few-wires = rw (wires-field cs) (s .wires-most);
+        few-inputs = rw (inputs-field cs) (s .sizes .n-most);
+        few-wires = rw (wires-field cs) (s .sizes .m-most);
         few-gates = rw (gates-field cs) (s .gates .few);
         wired = λ i h.
             let l : i < length (gatesOf cs) = rw (gates-field cs) at h in
@@ -68,12 +68,12 @@ module _ (cs : List Command) (s : Sound cs) where
       }
 
   -- the signals of the commands are those of the sheet's lists
-  signals-all : (v : ℕ) → signalsOn cs v ≡ upTo (row (gathered cs .m) (bit v)) (gateOf (gathered cs)) (gathered cs .«gate_count»)
+  signals-all : (v : ℕ) → signalsOn cs v ≡ upTo (tabulate (gathered cs .m) (bit v)) (gateOf (gathered cs)) (gathered cs .«gate_count»)
   unfolding signalsOn
   signals-all v =
       rw (wires-field cs, gates-field cs)
-      (gates-upTo (row (wiresOf cs) (bit v)) (gatesOf cs)
-      ∙ upTo-cong (row (wiresOf cs) (bit v)) (λ i. getD (gatesOf cs) i noGate) (gateOf (gathered cs)) (length (gatesOf cs)) (λ i l. sym (gate-is i l)))
+      (gates-upTo (tabulate (wiresOf cs) (bit v)) (gatesOf cs)
+      ∙ upTo-cong (tabulate (wiresOf cs) (bit v)) (λ i. getD (gatesOf cs) i noGate) (gateOf (gathered cs)) (length (gatesOf cs)) (λ i l. sym (gate-is i l)))
 
 module _ {sheet : Sheet} (h : Held sheet) where
   abbrev pub held-sound : Sound (h .commands)
@@ -82,9 +82,9 @@ module _ {sheet : Sheet} (h : Held sheet) where
   pub placed : Placed sheet
   placed = subst Placed (sym (h .gathers)) (placed-all (h .commands) held-sound)
 
-  pub signals-is : (v : ℕ) → signalsOn (h .commands) v ≡ upTo (row (sheet .m) (bit v)) (gateOf sheet) (sheet .«gate_count»)
+  pub signals-is : (v : ℕ) → signalsOn (h .commands) v ≡ upTo (tabulate (sheet .m) (bit v)) (gateOf sheet) (sheet .«gate_count»)
   signals-is v =
-      subst (λ x. signalsOn (h .commands) v ≡ upTo (row (x .m) (bit v)) (gateOf x) (x .«gate_count»)) (sym (h .gathers))
+      subst (λ x. signalsOn (h .commands) v ≡ upTo (tabulate (x .m) (bit v)) (gateOf x) (x .«gate_count»)) (sym (h .gathers))
       (signals-all (h .commands) held-sound v)
 
   pub signals-made : signalsMade (h .commands) ≡ sheet .m + sheet .«gate_count»

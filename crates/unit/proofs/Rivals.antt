@@ -18,9 +18,10 @@ use Rattle.relation.proofs.Decide.{well-defined-or, empty-not}
 use Rattle.sheet.specs.declared.Command.{Command}
 use Rattle.sheet.specs.declared.Command.the-variants.{Row, Limit}
 use Rattle.sheet.specs.Commands.{inputsOf, wiresOf, rowsOn, limitsOn}
-use Rattle.sheet.specs.Reading.{holds, readingOf}
+use Rattle.sheet.specs.Judged.{holds}
+use Rattle.reader.specs.Reading.{readingOf}
 use Rattle.sheet.proofs.Each.{Each}
-use Rattle.sheet.proofs.Sound.{sound}
+use Rattle.reader.proofs.Sound.{sound}
 use Rattle.unit.specs.Cases.{FormedReply}
 use Rattle.unit.specs.Gates.{outputsFor}
 use Rattle.unit.specs.Relation.{permits, sameList, alike, unitRelation}

@@ -4,18 +4,19 @@ use mathlib.Core.List.{List, [], _∷_}
 use Prim.Native.Nat.{ℕ}
 use Rattle.base.specs.Cases.{acceptedCase}
 use Rattle.base.specs.Lowest.{lowest}
-use Rattle.table.specs.Bits.{bit, any, sum, ofBits, row}
+use Rattle.table.specs.Bits.{bit, any, sum, ofBits, tabulate}
 use Rattle.relation.specs.Tests.{isOne, emptyPattern}
 use Rattle.sheet.specs.Commands.{collect}
-use Rattle.sheet.specs.Reader.{nextOf}
-use Rattle.sheet.specs.Reading.{judged, ending, oneCommand, readingFrom, readingOf}
+use Rattle.reader.specs.Reader.{nextOf}
+use Rattle.sheet.specs.Judged.{judged, ending}
+use Rattle.reader.specs.Reading.{oneCommand, readingFrom, readingOf}
 use Rattle.unit.specs.Gates.{gateBit, withGates, signalsOn, outputsFor}
 use Rattle.unit.specs.Relation.{permits, sameList, alike, unitRelation}
 use Rattle.unit.specs.Formed.{setOn, relationIn, formedFrom, formedOf}
 
 -- all that forming a relation computes by
 unfoldable pub opened : ℕ
-unfolding formedOf formedFrom relationIn setOn unitRelation permits alike sameList outputsFor signalsOn withGates gateBit emptyPattern isOne bit any sum ofBits row readingOf readingFrom oneCommand nextOf judged ending collect lowest
+unfolding formedOf formedFrom relationIn setOn unitRelation permits alike sameList outputsFor signalsOn withGates gateBit emptyPattern isOne bit any sum ofBits tabulate readingOf readingFrom oneCommand nextOf judged ending collect lowest
 opened = 0
 
 -- sheet A limited on pattern 2 to the value 1, which answers otherwise

@@ -7,7 +7,7 @@ use native.Mathlib.Numerals.{add-one}
 use native.Mathlib.Omega.{arith}
 use lib.ListN.{length, getD, set, length-append, List·getD-append}
 use lib.Seq.{getD-at}
-use Rattle.base.proofs.Rows.{filled-more}
+use Rattle.base.proofs.Tabulate.{filled-more}
 use Rattle.sheet.specs.Commands.{LogicGate, noGate}
 use Rattle.unit.specs.Gates.{gateBit, withGate, withGates}
 use Rattle.unit.proofs.Bits.{gate-lt}

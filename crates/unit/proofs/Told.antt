@@ -11,25 +11,22 @@ use lib.Pow.{pow-mono}
 use borrow.Author.Tests.{lt-ltb, le-ltb, ne-eqb}
 use Rattle.base.specs.Refusals.{refusalAt, empty}
 use Rattle.base.specs.Cases.{acceptedCase, refusedCase}
-use Rattle.base.specs.Sizes.{sizesOut, maxInputs, maxWires}
-use Rattle.base.proofs.Lowest.{lowest-none}
+use Rattle.sheet.specs.Limits.{sizesOut, maxInputs, maxWires, maxPatterns, maxValues}
+use Rattle.base.proofs.Lowest.{lowest-none, lowest-cong}
 use Rattle.base.proofs.Tests.{decide, cond-has, test-yes, test-no}
 use Rattle.table.specs.Bits.{bit, any, ofBits}
 use Rattle.table.specs.Tree.{Tree, follow}
-use Rattle.table.proofs.Bits.{any-cong, ofBits-lt}
+use Rattle.table.proofs.Bits.{any-cong, ofBits-lt, zero-bit}
 use Rattle.table.proofs.Trees.{follow-lt}
 use Rattle.relation.specs.Source.{WellDefined}
 use Rattle.relation.specs.Tests.{ofSets, emptyPattern}
 use Rattle.relation.specs.Handed.{relationOf, widePattern, checkOf}
 use Rattle.relation.specs.Families.{Family}
-use Rattle.table.proofs.Bits.{zero-bit}
-use Rattle.base.proofs.Rows.{row-entry, take-entry}
-use Rattle.base.proofs.Lowest.{lowest-cong}
+use Rattle.base.proofs.Tabulate.{tabulate-entry, take-entry}
 use Rattle.relation.proofs.Fits.{Fit, check-none, check-passed}
 use Rattle.sheet.specs.declared.Command.{Command}
 use Rattle.sheet.specs.Commands.{inputsOf, wiresOf}
-use Rattle.sheet.specs.Gathered.{maxPatterns, maxValues}
-use Rattle.sheet.proofs.Sound.{Sound}
+use Rattle.reader.proofs.Sound.{Sound}
 use Rattle.unit.specs.Relation.{unitRelation}
 use Rattle.unit.specs.Formed.{setOn, relationIn}
 use Rattle.unit.proofs.Members.{told-all, told-below}
@@ -40,10 +37,10 @@ emptyIn cs = emptyPattern (inputsOf cs) (wiresOf cs) (unitRelation cs)
 
 module _ (cs : List Command) (s : Sound cs) where
   patterns-fit : 2 ^ inputsOf cs ≤ maxPatterns
-  patterns-fit = pow-mono {i = inputsOf cs} {j = maxInputs} (s .inputs-most)
+  patterns-fit = pow-mono {i = inputsOf cs} {j = maxInputs} (s .sizes .n-most)
 
   values-fit : 2 ^ wiresOf cs ≤ maxValues
-  values-fit = pow-mono {i = wiresOf cs} {j = maxWires} (s .wires-most)
+  values-fit = pow-mono {i = wiresOf cs} {j = maxWires} (s .sizes .m-most)
 
   -- no value from 2 ^ m up is in a set
   past-values : (p v : ℕ) → 2 ^ wiresOf cs ≤ v → ltb v (2 ^ wiresOf cs) && unitRelation cs p v ≡ false
@@ -60,7 +57,7 @@ module _ (cs : List Command) (s : Sound cs) where
   pub set-entry : (p : ℕ) → getD (relationIn cs .sets) p 0 ≡ cond (ltb p (2 ^ inputsOf cs)) (setOn cs p) 0
   unfolding relationIn
   set-entry p =
-      row-entry maxPatterns (λ p. cond (ltb p (2 ^ inputsOf cs)) (setOn cs p) 0) p
+      tabulate-entry maxPatterns (λ p. cond (ltb p (2 ^ inputsOf cs)) (setOn cs p) 0) p
       ∙ ⊎-elim (λ (l : T (ltb p maxPatterns)). rw (test-yes (ltb p maxPatterns) l))
       (λ l.
       let b : 2 ^ inputsOf cs ≤ p = omega (arith, nltb→le p maxPatterns l, patterns-fit) in
@@ -110,10 +107,10 @@ module _ (cs : List Command) (s : Sound cs) where
   sizes-in : sizesOut (inputsOf cs) (wiresOf cs) ≡ false
   sizes-in =
       rw (
-        ne-eqb (inputsOf cs) 0 (λ e. omega (arith, s .inputs-least)),
-        le-ltb maxInputs (inputsOf cs) (s .inputs-most),
-        ne-eqb (wiresOf cs) 0 (λ e. omega (arith, s .wires-least)),
-        le-ltb maxWires (wiresOf cs) (s .wires-most),
+        ne-eqb (inputsOf cs) 0 (λ e. omega (arith, s .sizes .n-least)),
+        le-ltb maxInputs (inputsOf cs) (s .sizes .n-most),
+        ne-eqb (wiresOf cs) 0 (λ e. omega (arith, s .sizes .m-least)),
+        le-ltb maxWires (wiresOf cs) (s .sizes .m-most),
       )
 
   entry-below : (p : ℕ) → getD (relationIn cs .sets) p 0 < 2 ^ (2 ^ wiresOf cs)
@@ -143,10 +140,10 @@ module _ (cs : List Command) (s : Sound cs) where
   pub fit-told : WellDefined (inputsOf cs) (wiresOf cs) (unitRelation cs) → Fit (relationIn cs)
   unfolding relationIn
   fit-told w = record {
-    some-inputs = s .inputs-least;
-    few-inputs = s .inputs-most;
-    some-wires = s .wires-least;
-    few-wires = s .wires-most;
+    some-inputs = s .sizes .n-least;
+    few-inputs = s .sizes .n-most;
+    some-wires = s .sizes .m-least;
+    few-wires = s .sizes .m-most;
     small = λ p _. entry-below p;
     well-defined = well-defined-told .1 w;
   }

@@ -1,7 +1,6 @@
 -- The relation formed from a sheet, told by the cases of the sheet's answer.
-use Rattle.base.specs.Cases.{Case}
+use Rattle.base.specs.Cases.{Case, verdictCase}
 use Rattle.relation.specs.declared.Relation.{Relation}
-use Rattle.sheet.specs.Cases.{answerCase}
 use Rattle.unit.specs.declared.Formed.{Formed}
 
 pub record FormedReply : Type 0 where
@@ -9,4 +8,4 @@ pub record FormedReply : Type 0 where
   pub answer : Case
 
 abbrev pub formedReply : Formed → FormedReply
-formedReply f = record { relation = f .relation; answer = answerCase (f .answer) }
+formedReply f = record { relation = f .relation; answer = verdictCase (f .answer) }

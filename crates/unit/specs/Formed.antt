@@ -6,13 +6,14 @@ use lib.Dec.{ltb}
 use Rattle.base.specs.declared.Refusal.{Refusal}
 use Rattle.base.specs.Refusals.{refusalAt, empty}
 use Rattle.base.specs.Cases.{acceptedCase, refusedCase}
-use Rattle.table.specs.Bits.{ofBits, row}
+use Rattle.table.specs.Bits.{ofBits, tabulate}
 use Rattle.relation.specs.declared.Relation.{Relation}
 use Rattle.relation.specs.Tests.{isOne, emptyPattern}
 use Rattle.sheet.specs.declared.Command.{Command}
 use Rattle.sheet.specs.Commands.{inputsOf, wiresOf}
-use Rattle.sheet.specs.Gathered.{maxPatterns, maxValues}
-use Rattle.sheet.specs.Reading.{Reading, holds, refused, readingOf}
+use Rattle.sheet.specs.Limits.{maxPatterns, maxValues}
+use Rattle.sheet.specs.Judged.{Reading, holds, refused}
+use Rattle.reader.specs.Reading.{readingOf}
 use Rattle.unit.specs.Cases.{FormedReply}
 use Rattle.unit.specs.Relation.{unitRelation}
 
@@ -26,12 +27,12 @@ relationIn cs =
     record {
       n = inputsOf cs;
       m = wiresOf cs;
-      sets = row maxPatterns (λ p. cond (ltb p (2 ^ inputsOf cs)) (setOn cs p) 0);
+      sets = tabulate maxPatterns (λ p. cond (ltb p (2 ^ inputsOf cs)) (setOn cs p) 0);
     }
 
 -- a refusal leaves no relation
 abbrev pub noRelation : Relation
-noRelation = record { n = 0; m = 0; sets = row maxPatterns (λ p. 0) }
+noRelation = record { n = 0; m = 0; sets = tabulate maxPatterns (λ p. 0) }
 
 abbrev pub turnedAway : Refusal → FormedReply
 turnedAway f = record { relation = noRelation; answer = refusedCase f }

@@ -4,7 +4,7 @@ use mathlib.Core.Bool.{cond}
 use mathlib.Core.List.{List, [], _∷_, _++_, map}
 use lib.Dec.{eqb}
 use lib.ListN.{getD}
-use Rattle.table.specs.Bits.{bit, row}
+use Rattle.table.specs.Bits.{bit, tabulate}
 use Rattle.sheet.specs.declared.Command.{Command}
 use Rattle.sheet.specs.Commands.{LogicGate, wiresOf, gatesOf, outputsOf}
 
@@ -40,7 +40,7 @@ withGates s (g ∷ gs) = withGates (withGate s g) gs
 
 -- all signals for a wire value: its bits, wire by wire, then the gates
 unfoldable pub signalsOn : List Command → ℕ → List ℕ
-signalsOn cs v = withGates (row (wiresOf cs) (bit v)) (gatesOf cs)
+signalsOn cs v = withGates (tabulate (wiresOf cs) (bit v)) (gatesOf cs)
 
 -- what the unit answers for a wire value: G of document 01's "Relation"
 unfoldable pub outputsFor : List Command → ℕ → List ℕ

@@ -10,8 +10,10 @@ use Rattle.relation.specs.declared.Relation.{Relation}
 use Rattle.sheet.specs.declared.Command.{Command}
 use Rattle.sheet.specs.declared.Sheet.{Sheet}
 use Rattle.sheet.specs.Commands.{signalsMade, outputsOf}
-use Rattle.sheet.specs.Gathered.{gathered, maxValues}
-use Rattle.sheet.specs.Reading.{holds, readingOf}
+use Rattle.sheet.specs.Gathered.{gathered}
+use Rattle.sheet.specs.Limits.{maxValues}
+use Rattle.sheet.specs.Judged.{holds}
+use Rattle.reader.specs.Reading.{readingOf}
 use Rattle.unit.specs.Cases.{FormedReply}
 use Rattle.unit.specs.Gates.{signalsOn, outputsFor}
 use Rattle.unit.specs.Formed.{noRelation}

@@ -2,21 +2,21 @@
 use Prim.Native.Nat.{ℕ, zero, _^_}
 use mathlib.Core.List.{List}
 use lib.ListN.{getD}
-use Rattle.base.specs.Sizes.{maxWires}
-use Rattle.table.specs.Bits.{bit, sum, ofBits, row}
+use Rattle.sheet.specs.Limits.{maxWires}
+use Rattle.table.specs.Bits.{bit, sum, ofBits, tabulate}
 use Rattle.table.specs.Cells.{cells}
 use Rattle.sheet.specs.declared.Command.{Command}
 use Rattle.sheet.specs.Commands.{inputsOf, wiresOf}
 use Rattle.sheet.specs.Gathered.{valueOn}
-use Rattle.sheet.specs.Reading.{Reading, holds, refused}
+use Rattle.sheet.specs.Judged.{Reading, holds, refused}
 
 -- the table of wire j: its bit p is the wire's bit in the value on pattern p, 0 where p has no 02
 unfoldable pub presentTable : List Command → ℕ → ℕ
 presentTable cs j = ofBits (2 ^ inputsOf cs) (λ p. bit (valueOn p cs) j)
 
 unfoldable pub presentTables : Reading → List ℕ
-presentTables (holds cs) = row maxWires (presentTable cs)
-presentTables (refused f) = row maxWires (λ _. zero)
+presentTables (holds cs) = tabulate maxWires (presentTable cs)
+presentTables (refused f) = tabulate maxWires (λ _. zero)
 
 -- the cells of these tables, wire by wire
 unfoldable pub presentCells : Reading → ℕ

@@ -8,7 +8,8 @@ use Rattle.table.specs.Tree.{Tree, con, Ordered, follow}
 use Rattle.sheet.specs.declared.Command.{Command}
 use Rattle.sheet.specs.declared.Command.the-variants.{Row, Limit}
 use Rattle.sheet.specs.Commands.{inputsOf, wiresOf}
-use Rattle.sheet.specs.Reading.{holds, readingOf}
+use Rattle.sheet.specs.Judged.{holds}
+use Rattle.reader.specs.Reading.{readingOf}
 use Rattle.unit.specs.Gates.{outputsFor}
 
 -- the value of a family of trees on pattern p: bit j is the constant that tree j leads to

@@ -3,7 +3,7 @@ use sheet::Sheet;
 ghost use mathlib.Core.Path.{_≡_};
 ghost use Prim.Native.Nat.{ℕ, _<_};
 ghost use lib.ListN.{getD};
-ghost use Rattle.base.specs.Sizes.{maxWires};
+ghost use Rattle.sheet.specs.Limits.{maxWires};
 ghost use Rattle.table.specs.Bits.{bit};
 ghost use Rattle.unit.specs.Gates.{gateBit};
 ghost use Rattle.unit.specs.Parts.{Held, Signals, codeOf};

@@ -1,9 +1,8 @@
 // The second stage of a unit: its gates, its outputs for a wire value, and the relation that its sheet leaves to the first stage.
 use crate::sets::relation_of;
 use base::Refusal;
-use relation::Checked;
+use base::Verdict;
 use relation::Relation;
-use sheet::Answer;
 ghost use mathlib.Core.Path.{_≡_};
 ghost use Rattle.relation.specs.Handed.{checkOf};
 ghost use Rattle.unit.specs.Cases.{formedReply};
@@ -16,7 +15,7 @@ mod sets; // sets.rt: the relation, pattern by pattern
 // The relation of a sheet, or the refusal; the relation has no sizes and empty sets on a refusal.
 pub struct Formed {
     pub relation: Relation,
-    pub answer: Answer,
+    pub answer: Verdict,
 }
 
 fn turned_away(f: Refusal) -> Formed
@@ -29,7 +28,7 @@ fn turned_away(f: Refusal) -> Formed
     };
     Formed {
         relation,
-        answer: Answer::Refused(f),
+        answer: Verdict::Refused(f),
     }
 }
 
@@ -39,11 +38,11 @@ fn judge(relation: Relation) -> Formed
 {
     let checked = relation.check();
     match checked {
-        Checked::WellFormed => Formed {
+        Verdict::Accepted => Formed {
             relation,
-            answer: Answer::Accepted,
+            answer: Verdict::Accepted,
         },
-        Checked::Refused(f) => turned_away(f),
+        Verdict::Refused(f) => turned_away(f),
     }
 }
 
@@ -51,13 +50,13 @@ fn judge(relation: Relation) -> Formed
 pub fn form(s: &[u8]) -> Formed
     ensures { λ r. ⌜ formedReply r ≡ formedOf (now (s .entry)) ⌝ }
 {
-    let reply = sheet::read_sheet(s);
+    let reply = reader::read_sheet(s);
     let answer = reply.answer;
     match answer {
-        Answer::Accepted => {
+        Verdict::Accepted => {
             let sheet = reply.sheet;
             judge(relation_of(sheet))
         }
-        Answer::Refused(f) => turned_away(f),
+        Verdict::Refused(f) => turned_away(f),
     }
 }

@@ -9,7 +9,7 @@ ghost use lib.Dec.{eqb};
 ghost use lib.ListN.{getD};
 ghost use Rattle.table.specs.Bits.{ofBits};
 ghost use Rattle.relation.specs.Tests.{isOne};
-ghost use Rattle.sheet.specs.Gathered.{maxValues};
+ghost use Rattle.sheet.specs.Limits.{maxValues};
 ghost use Rattle.unit.specs.Parts.{Held, Codes};
 ghost use Rattle.unit.specs.Formed.{setOn, relationIn};
 

@@ -17,8 +17,9 @@ same-length c = search needs
 
 returns : tie.Need-returns
 returns c =
-    let a = c .before .before .before .before .before .before .before .before .before .args in
-    let e = audit-too-long (a .sheet .now) _ (a .stage .now) (ap (refusing refusedOutcome) (c .before .before .before .before .too-long .ensures)) (c .before .before .before .before .before .if1 .taken) in
+    let t = c .before .before .before .before in
+    let a = t .before .before .before .before .before .args in
+    let e = audit-too-long (a .sheet .now) _ (a .stage .now) (ap (refusing refusedOutcome) (t .too-long .ensures)) (t .before .if1 .taken) in
     printed _ _ _ e (c .before .before .report-audit .ensures)
 
 audit-requires : tie.Need-audit-requires
@@ -32,8 +33,9 @@ same-length-2 c = search needs
 
 returns-2 : tie.Need-returns-2
 returns-2 c =
-    let a = c .before .before .before .before .before .before .before .before .before .args in
-    let e = audit-line (a .sheet .now) _ (a .stage .now) (c .before .before .before .before .audit .ensures) (c .before .before .before .before .before .if1 .left) in
+    let t = c .before .before .before .before in
+    let a = t .before .before .before .before .before .args in
+    let e = audit-line (a .sheet .now) _ (a .stage .now) (t .audit .ensures) (t .before .if1 .left) in
     printed _ _ _ e (c .before .before .report-audit2 .ensures)
 
 pub audit-reply-spec : {M : Type 1} → statement M

@@ -18,8 +18,9 @@ same-length c = search needs
 
 returns : tie.Need-returns
 returns c =
-    let a = c .before .before .before .before .before .before .before .before .before .args in
-    let e = quote-too-long (a .sheet .now) _ _ (c .before .before .before .before .before .too-long-quote .ensures) (c .before .before .before .before .before .before .if1 .taken) in
+    let t = c .before .before .before .before .before in
+    let a = t .before .before .before .before .args in
+    let e = quote-too-long (a .sheet .now) _ _ (t .too-long-quote .ensures) (t .before .if1 .taken) in
     printed _ _ _ e (c .before .before .report .ensures)
 
 slice-aggregate-quote : tie.Need-slice-aggregate-quote

@@ -1,7 +1,7 @@
-use Rattle.table.specs.Bits.{row}
+use Rattle.table.specs.Bits.{tabulate}
 use mathlib.Core.Path.{_≡_, ap, sym, subst, _∙_}
 use lib.ListN.{length}
-use Rattle.relation.specs.Cases.{checkedCase}
+use Rattle.base.specs.Cases.{verdictCase}
 use Rattle.relation.specs.Tests.{ofSets}
 use Rattle.search.specs.Search.{run}
 use Rattle.search.specs.TreeBoard.{tree}
@@ -27,13 +27,13 @@ clear-past-requires : tie.Need-clear-past-requires
 clear-past-requires c κs =
     let a = c .before .before .before .before .args in
     let l : length (a .relation .sets) ≡ 16 = search needs in
-    inputs (a .relation) l (sym (c .before .before .check .ensures) ∙ ap checkedCase (c .enum-told .given .1))
+    inputs (a .relation) l (sym (c .before .before .check .ensures) ∙ ap verdictCase (c .enum-told .given .1))
 
 search-sets-requires : tie.Need-search-sets-requires
 search-sets-requires c κs =
     let a = c .before .before .before .before .before .args in
     let l : length (a .relation .sets) ≡ 16 = search needs in
-    let p = sym (c .before .before .before .check .ensures) ∙ ap checkedCase (c .before .enum-told .given .1) in
+    let p = sym (c .before .before .before .check .ensures) ∙ ap verdictCase (c .before .enum-told .given .1) in
     (sized (a .relation) l p, subst (Sets (a .relation .n) (a .relation .m)) (sym (c .clear-past .ensures)) (held (a .relation) l p))
 
 enum-known-checked : tie.Need-enum-known-checked
@@ -44,16 +44,16 @@ returns c =
     let a = c .before .before .before .before .before .before .args in
     let r = a .relation in
     let l : length (r .sets) ≡ 16 = search needs in
-    let p = sym (c .before .before .before .before .check .ensures) ∙ ap checkedCase (c .before .before .enum-told .given .1) in
+    let p = sym (c .before .before .before .before .check .ensures) ∙ ap verdictCase (c .before .before .enum-told .given .1) in
     c .search-sets .ensures
     ∙ ap (λ R. answerOf (r .n) (r .m) R (run (tree (r .n) (r .m)) (a .budget) R)) (ap ofSets (c .before .clear-past .ensures) ∙ as-held r l p)
     ∙ sym (answered r l p (a .budget))
 
 returns-2 : tie.Need-returns-2
-unfolding refusedWith row
+unfolding refusedWith tabulate
 returns-2 c =
     let a = c .before .before .before .before .before .args in
-    sym (turned-away (a .relation) (a .budget) (c .before .checked .given .0 .0) (sym (c .before .before .before .check .ensures) ∙ ap checkedCase (c .before .checked .given .1)))
+    sym (turned-away (a .relation) (a .budget) (c .before .checked .given .0 .0) (sym (c .before .before .before .check .ensures) ∙ ap verdictCase (c .before .checked .given .1)))
 
 pub search-spec : {M : Type 1} → statement M
 search-spec =

@@ -44,7 +44,8 @@ put-decimal-same-length t c = c .before .before .put-byte .kept .0
 put-decimal-returns : (t : ℕ) → put-decimal-lts.Need-returns (put-decimal-claims t) (put-decimal-at t) put-decimal.Post
 put-decimal-returns t c =
     let a = c .before .before .before .before .before .before .args in
-    (rw (decimal-one (a .x) (c .before .before .before .before .if1 .taken)) (c .before .before .put-byte .ensures), omega (arith, c .before .before .put-byte .ensures .past))
+    let p = c .before .before .put-byte .ensures in
+    (rw (decimal-one (a .x) (c .before .before .before .before .if1 .taken)) p, omega (arith, p .past))
 
 put-decimal-put-decimal-requires : (t : ℕ) → put-decimal-lts.Need-put-decimal-requires (put-decimal-claims t) (put-decimal-at t) put-decimal.Post
 put-decimal-put-decimal-requires t c κs = (omega arith, omega arith)

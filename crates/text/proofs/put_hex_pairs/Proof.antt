@@ -69,13 +69,13 @@ loop-again c =
     let p1 = c .before .before .before .before .before .before .before in
     let i = p1 .before .before in
     let l = i .before .loop in
-    let n = c .before .before .before .before .before .before .before .before .before .before .before .before .before .before .before .before .before .available in
-    let a = c .before .before .before .before .before .before .before .before .before .before .before .before .before .before .before .before .before .before .before .before .args in (
+    let n = i .before .before .before .before .before .before .before .before in
+    let a = n .before .before .before .args in (
       omega arith,
       omega arith,
       p2 .put-hex-pair2 .kept .0 ∙ p1 .put-byte .kept .0 ∙ l .inv .2,
       omega (arith, l .inv, p1 .put-byte .ensures .past, p2 .put-hex-pair2 .ensures .past, hex-length (x .result)),
-      rw (further-step (a .bytes .now) (a .count) (l .i) (l .inv .0) (omega (arith, n .ensures .0, i .loop-test .taken)))
+      rw (further-step (a .bytes .now) (a .count) (l .i) (l .inv .0) (omega (arith, n .available .ensures .0, i .loop-test .taken)))
           (put-then (l .inv .4) (put-then (p1 .put-byte .ensures) (rw (x .ensures) at (p2 .put-hex-pair2 .ensures)))),
     )
 

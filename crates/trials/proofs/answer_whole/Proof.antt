@@ -1,4 +1,5 @@
--- `answer_whole` is safe and ends. The invariant: the place lies within the bytes, and the replies leave room for another. The measure is what is left of the bytes. Assumes nothing.
+-- `answer_whole` is safe and ends. The invariant: the place lies within the bytes, and the replies leave room for another.
+-- The measure is what is left of the bytes. Assumes nothing.
 use Prim.Native.Nat.{_-_, _≤_}
 use borrow.Author.Needs.{needs}
 use lib.ListN.{length}

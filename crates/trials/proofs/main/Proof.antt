@@ -1,4 +1,5 @@
--- `main` is safe and ends. The invariant: what is held lies within the window, whose length stays. The measure is the number of turns that are left. Assumes nothing.
+-- `main` is safe and ends. The invariant: what is held lies within the window, whose length stays.
+-- The measure is the number of turns that are left. Assumes nothing.
 use Prim.Native.Nat.{_≤_}
 use mathlib.Core.Path.{_≡_}
 use borrow.Author.Needs.{needs}

@@ -2,7 +2,7 @@
 use mathlib.Core.Path.{ap, sym, _∙_}
 use Rattle.relation.specs.Handed.{checkOf}
 use Rattle.unit.specs.Parts.{afterCheck}
-use Rattle.sheet.proofs.Replies.{refused-reply}
+use Rattle.reader.proofs.Replies.{refused-reply}
 use Rattle.unit.proofs.Forming.{accepted-held, formed-refused, after-check}
 use borrow.Author.Needs.{needs}
 use Rattle.unit.proofs.form.Statement.{statement}

@@ -1,6 +1,6 @@
 -- `judge` meets its contract.
 use mathlib.Core.Path.{sym, ap, _∙_}
-use Rattle.relation.specs.Cases.{checkedCase}
+use Rattle.base.specs.Cases.{verdictCase}
 use borrow.Author.Needs.{needs}
 use Rattle.unit.proofs.judge.Statement.{statement}
 use Rattle.unit.proofs.judge.Tie as tie
@@ -18,10 +18,10 @@ turned-away-requires : tie.Need-turned-away-requires
 turned-away-requires c κs = search needs
 
 returns : tie.Need-returns
-returns c = rw (sym (c .before .before .check .ensures) ∙ ap checkedCase (c .enum-told .given .1))
+returns c = rw (sym (c .before .before .check .ensures) ∙ ap verdictCase (c .enum-told .given .1))
 
 returns-2 : tie.Need-returns-2
-returns-2 c = rw (sym (c .before .before .before .before .check .ensures) ∙ ap checkedCase (c .before .before .checked .given .1)) (c .turned-away .ensures)
+returns-2 c = rw (sym (c .before .before .before .before .check .ensures) ∙ ap verdictCase (c .before .before .checked .given .1)) (c .turned-away .ensures)
 
 pub judge-spec : {M : Type 1} → statement M
 judge-spec =

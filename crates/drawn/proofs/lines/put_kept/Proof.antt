@@ -19,7 +19,8 @@ same-length c = search needs
 returns : tie.Need-returns
 returns c =
     let p = c .before .before .put-text .ensures in
-    (rw (← c .before .before .before .before .before .before .is-filled .ensures, c .before .before .before .before .before .if1 .taken) p, omega (arith, p .past))
+    let t = c .before .before .before .before .before in
+    (rw (← t .before .is-filled .ensures, t .if1 .taken) p, omega (arith, p .past))
 
 slice-aggregate-put-text-2 : tie.Need-slice-aggregate-put-text-2
 slice-aggregate-put-text-2 c = search needs
@@ -33,7 +34,8 @@ same-length-2 c = search needs
 returns-2 : tie.Need-returns-2
 returns-2 c =
     let p = c .before .before .put-text2 .ensures in
-    (rw (← c .before .before .before .before .before .before .is-filled .ensures, c .before .before .before .before .before .if1 .left) p, omega (arith, p .past))
+    let t = c .before .before .before .before .before in
+    (rw (← t .before .is-filled .ensures, t .if1 .left) p, omega (arith, p .past))
 
 pub put-kept-spec : {M : Type 1} → statement M
 put-kept-spec =

@@ -4,16 +4,17 @@ use mathlib.Core.Path.{_≡_}
 use borrow.Author.Needs.{needs}
 use native.Mathlib.Omega.{arith}
 use lib.ListN.{length, getD, length-set}
-use Rattle.base.proofs.Rows.{filled-more, filled-row}
+use Rattle.base.proofs.Tabulate.{filled-more, filled-tabulate}
+use Rattle.sheet.specs.Limits.{maxPatterns}
 use Rattle.drawn.specs.Records.{twoAt}
 use Rattle.drawn.proofs.records.sets_at.Statement.{statement}
 use Rattle.drawn.proofs.records.sets_at.Tie as tie
 
 abbrev Inv-loop : tie.InvT-loop
-Inv-loop s from sets₀ i₀ sets i = (i ≤ 16) × (length sets ≡ 16) × ((q : ℕ) → q < i → getD sets q 0 ≡ twoAt s (from + 2 * q))
+Inv-loop s from sets₀ i₀ sets i = (i ≤ maxPatterns) × (length sets ≡ maxPatterns) × ((q : ℕ) → q < i → getD sets q 0 ≡ twoAt s (from + 2 * q))
 
 abbrev μ-loop : tie.MeasureT-loop
-μ-loop s from sets₀ i₀ sets i = 16 - i
+μ-loop s from sets₀ i₀ sets i = maxPatterns - i
 
 loop-holds : tie.Need-loop-holds Inv-loop μ-loop
 loop-holds c = (omega arith, search needs, λ q l. absurd (omega arith))
@@ -44,14 +45,15 @@ loop-again c =
     let l = c .before .before .loop in
     let a = c .before .before .before .before .args in
     let v = l .inv in
-    (omega arith, simp length-set (v .1), filled-more (λ q. twoAt (a .s .now) (a .from + 2 * q)) (l .sets) (l .i) (c .u16-at .result) (omega (arith, v .1)) (v .2) (c .u16-at .ensures))
+    let more = filled-more (λ q. twoAt (a .s .now) (a .from + 2 * q)) (l .sets) (l .i) (c .u16-at .result) in
+    (omega arith, simp length-set (v .1), more (omega (arith, v .1)) (v .2) (c .u16-at .ensures))
 
 returns : tie.Need-returns Inv-loop μ-loop
 returns c =
     let l = c .before .loop in
     let a = c .before .before .before .args in
     let v = l .inv in
-    filled-row 16 (λ q. twoAt (a .s .now) (a .from + 2 * q)) (l .sets) (v .1) (λ q b. v .2 q (omega arith))
+    filled-tabulate maxPatterns (λ q. twoAt (a .s .now) (a .from + 2 * q)) (l .sets) (v .1) (λ q b. v .2 q (omega arith))
 
 pub sets-at-spec : {M : Type 1} → statement M
 sets-at-spec =

@@ -2,7 +2,7 @@
 use Prim.Native.Nat.{_+_, _*_}
 use mathlib.Core.Path.{_≡_, ap, _∙_}
 use native.Mathlib.Omega.{arith}
-use Rattle.base.proofs.Rows.{row-four}
+use Rattle.base.proofs.Tabulate.{tabulate-four}
 use Rattle.drawn.specs.Records.{twoAt}
 use borrow.Author.Needs.{needs}
 use Rattle.drawn.proofs.records.tables_at.Statement.{statement}
@@ -33,7 +33,9 @@ returns : tie.Need-returns
 returns c =
     let a = c .before .before .before .before .before .args in
     let z : a .from ≡ a .from + 2 * 0 = omega arith in
-    row-four (λ i. twoAt (a .s .now) (a .from + 2 * i)) (c .before .before .before .u16-at .ensures ∙ ap (twoAt (a .s .now)) z) (c .before .before .u16-at2 .ensures) (c .before .u16-at3 .ensures) (c .u16-at4 .ensures)
+    let first = c .before .before .before .u16-at .ensures ∙ ap (twoAt (a .s .now)) z in
+    let second = c .before .before .u16-at2 .ensures in
+    tabulate-four (λ i. twoAt (a .s .now) (a .from + 2 * i)) first second (c .before .u16-at3 .ensures) (c .u16-at4 .ensures)
 
 pub tables-at-spec : {M : Type 1} → statement M
 tables-at-spec =

@@ -11,7 +11,7 @@ use borrow.Author.Needs.{needs}
 use Rattle.table.specs.Bits.{bit}
 use Rattle.table.proofs.Bits.{bit-cases}
 use Rattle.relation.specs.Masks.{columnOf, withBit, agreed}
-use Rattle.base.proofs.Rows.{filled-more, filled-row}
+use Rattle.base.proofs.Tabulate.{filled-more, filled-tabulate}
 use Rattle.relation.proofs.patterns.agreeing.Statement.{statement}
 use Rattle.relation.proofs.patterns.agreeing.Tie as tie
 
@@ -85,7 +85,7 @@ returns c =
     let a = c .before .before .before .before .args in
     let l = c .before .loop in
     let e : l .p ≡ 16 = omega arith in
-    filled-row 16 (λ q. withBit (getD (a .t1) q 0) (a .j) (bit (a .t) q)) (l .next) (l .inv .1) (λ q b. l .inv .2 q (omega arith))
+    filled-tabulate 16 (λ q. withBit (getD (a .t1) q 0) (a .j) (bit (a .t) q)) (l .next) (l .inv .1) (λ q b. l .inv .2 q (omega arith))
 
 pub agreeing-spec : {M : Type 1} → statement M
 agreeing-spec =

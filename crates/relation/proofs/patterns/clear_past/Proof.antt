@@ -7,7 +7,7 @@ use lib.Dec.{ltb}
 use lib.ListN.{length, getD, length-set}
 use borrow.Author.Needs.{needs}
 use Rattle.relation.specs.Masks.{cleared}
-use Rattle.base.proofs.Rows.{filled-more, filled-row}
+use Rattle.base.proofs.Tabulate.{filled-more, filled-tabulate}
 use Rattle.relation.proofs.patterns.clear_past.Statement.{statement}
 use Rattle.relation.proofs.patterns.clear_past.Tie as tie
 
@@ -64,7 +64,7 @@ returns c =
     let a = c .before .before .before .args in
     let l = c .before .loop in
     let e : l .p ≡ 16 = omega arith in
-    filled-row 16 (λ q. cond (ltb q (2 ^ a .n)) (getD (a .t2) q 0) 0) (l .next) (l .inv .1) (λ q b. l .inv .2 q (omega arith))
+    filled-tabulate 16 (λ q. cond (ltb q (2 ^ a .n)) (getD (a .t2) q 0) 0) (l .next) (l .inv .1) (λ q b. l .inv .2 q (omega arith))
 
 pub clear-past-spec : {M : Type 1} → statement M
 clear-past-spec =

@@ -1,8 +1,8 @@
 use Prim.Native.Nat.{_+_, _-_, _^_, _<_, _≤_}
 use mathlib.Core.Path.{_≡_, refl, ap, _∙_}
 use native.Mathlib.Omega.{arith}
-use Rattle.table.specs.Bits.{sum, row}
-use Rattle.table.proofs.Bits.{row-four}
+use Rattle.table.specs.Bits.{sum, tabulate}
+use Rattle.table.proofs.Bits.{tabulate-four}
 use Rattle.search.proofs.MaskPairs.{pairBelow, pairsBelow, pairs-room, pairs-more, pairs-all}
 use borrow.Author.Needs.{needs}
 use Rattle.search.proofs.pairs.pairs_of.Statement.{statement}
@@ -18,7 +18,7 @@ patterns-of-requires : tie.Need-patterns-of-requires Inv-loop μ-loop
 patterns-of-requires c κs = search needs
 
 loop-holds : tie.Need-loop-holds Inv-loop μ-loop
-unfolding row sum
+unfolding tabulate sum
 loop-holds c = (omega arith, refl)
 
 cast-set : tie.Need-cast-set Inv-loop μ-loop
@@ -81,7 +81,7 @@ loop-again c =
     let a = c .before .before .before .before .before .before .before .args in
     let l = c .before .before .before .before .before .loop in (
       omega arith,
-      row-four (pairBelow (l .p + 1) (a .t2))
+      tabulate-four (pairBelow (l .p + 1) (a .t2))
           (pairs-more (l .p) (a .t2) 0 (omega arith) (l .inv .1) (c .before .before .before .put-pair .ensures))
           (pairs-more (l .p) (a .t2) 1 (omega arith) (l .inv .1) (c .before .before .put-pair2 .ensures))
           (pairs-more (l .p) (a .t2) 2 (omega arith) (l .inv .1) (c .before .put-pair3 .ensures))

@@ -2,7 +2,7 @@ use native.Mathlib.Omega.{arith}
 use lib.ListN.{getD}
 use Rattle.table.specs.Pick.{pickOf, rank}
 use Rattle.table.specs.Pairs.{zerosIn, onesIn}
-use Rattle.table.proofs.Bits.{row-four}
+use Rattle.table.proofs.Bits.{tabulate-four}
 use Rattle.search.specs.Kept.{ranksBetween}
 use borrow.Author.Needs.{needs}
 use Rattle.search.proofs.parts.ranks_of.Statement.{statement}
@@ -36,7 +36,7 @@ returns : tie.Need-returns
 unfolding ranksBetween
 returns c =
     let a = c .before .before .before .before .args in
-    row-four (λ j. rank (a .n) (pickOf (a .n) (zerosIn (getD (a .t3) j 0)) (onesIn (getD (a .t3) j 0)))) (c .before .before .before .pick .ensures) (c .before .before .pick2 .ensures) (c .before .pick3 .ensures) (c .pick4 .ensures)
+    tabulate-four (λ j. rank (a .n) (pickOf (a .n) (zerosIn (getD (a .t3) j 0)) (onesIn (getD (a .t3) j 0)))) (c .before .before .before .pick .ensures) (c .before .before .pick2 .ensures) (c .before .pick3 .ensures) (c .pick4 .ensures)
 
 pub ranks-of-spec : {M : Type 1} → statement M
 ranks-of-spec =

@@ -1,7 +1,7 @@
 use Prim.Native.Nat.{_%_}
 use lib.ListN.{getD}
 use Rattle.table.specs.Pick.{tableSpace}
-use Rattle.table.proofs.Bits.{row-four}
+use Rattle.table.proofs.Bits.{tabulate-four}
 use Rattle.search.specs.Kept.{tablesIn}
 use borrow.Author.Needs.{needs}
 use Rattle.search.proofs.ranks.tables_of.Statement.{statement}
@@ -36,7 +36,7 @@ table-of-requires-4 c κs = search needs
 
 returns : tie.Need-returns
 unfolding tablesIn
-returns c = row-four (λ j. getD (c .before .before .before .before .args .t1) j 0 % tableSpace) (c .before .before .before .table-of .ensures) (c .before .before .table-of2 .ensures) (c .before .table-of3 .ensures) (c .table-of4 .ensures)
+returns c = tabulate-four (λ j. getD (c .before .before .before .before .args .t1) j 0 % tableSpace) (c .before .before .before .table-of .ensures) (c .before .before .table-of2 .ensures) (c .before .table-of3 .ensures) (c .table-of4 .ensures)
 
 pub tables-of-spec : {M : Type 1} → statement M
 tables-of-spec =

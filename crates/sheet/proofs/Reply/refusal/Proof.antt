@@ -1,4 +1,4 @@
-use Rattle.sheet.specs.Turn.{loopReply}
+use Rattle.sheet.specs.Inner.Gathering.{gatheredReply}
 use Rattle.sheet.proofs.Fields.{nothing}
 use borrow.Author.Needs.{needs}
 use Rattle.sheet.proofs.Reply.refusal.Statement.{statement}
@@ -8,7 +8,7 @@ fresh-requires : tie.Need-fresh-requires
 fresh-requires c κs = search needs
 
 returns : tie.Need-returns
-unfolding loopReply
+unfolding gatheredReply
 returns c = simp (c .fresh .ensures, nothing)
 
 pub refusal-spec : {M : Type 1} → statement M

@@ -2,9 +2,9 @@ use mathlib.Core.Path.{_≡_, ap, sym, subst, _∙_}
 use Prim.Native.Nat.{_<_}
 use Rattle.sheet.specs.declared.Command.{Command}
 use Rattle.sheet.specs.Commands.{isSizes, isEmpty}
-use Rattle.sheet.specs.Reading.{judged}
-use Rattle.sheet.specs.Gathered.{maxPatterns}
-use Rattle.sheet.specs.Turn.{patternOf, acceptedReply, loopReply}
+use Rattle.sheet.specs.Judged.{judged}
+use Rattle.sheet.specs.Limits.{maxPatterns}
+use Rattle.sheet.specs.Inner.Gathering.{patternOf, acceptedReply, gatheredReply}
 use Rattle.sheet.proofs.Judging.{sizes-taken, end-taken}
 use borrow.Author.Needs.{needs}
 use Rattle.sheet.proofs.Sheet.add.Statement.{statement}
@@ -83,7 +83,7 @@ returns-6 : tie.Need-returns-6
 returns-6 c before e f = rw (c .before .before .c5 .given .1) (c .output .ensures before e)
 
 returns-7 : tie.Need-returns-7
-unfolding judged loopReply
+unfolding judged gatheredReply
 returns-7 c before e f = rw (c .before .before .before .c6 .given .1) (c .accept3 .ensures ∙ ap acceptedReply (c .before .limit .ensures before e))
 
 pub add-spec : {M : Type 1} → statement M

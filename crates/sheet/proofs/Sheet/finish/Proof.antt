@@ -1,6 +1,6 @@
 use mathlib.Core.Path.{ap, _∙_}
-use Rattle.sheet.specs.Reading.{refused}
-use Rattle.sheet.specs.Turn.{loopReply}
+use Rattle.sheet.specs.Judged.{refused}
+use Rattle.sheet.specs.Inner.Gathering.{gatheredReply}
 use Rattle.sheet.proofs.Judging.{end-trailing, end-missing, end-accepted}
 use borrow.Author.Needs.{needs}
 use Rattle.sheet.proofs.Sheet.finish.Statement.{statement}
@@ -15,11 +15,14 @@ refusal-requires c κs = search needs
 returns : tie.Need-returns
 returns c before s e n l =
     let a = c .before .before .before .args in
-    c .refusal .ensures ∙ ap (λ f. loopReply (refused f)) (c .before .at .ensures)
+    c .refusal .ensures ∙ ap (λ f. gatheredReply (refused f)) (c .before .at .ensures)
     ∙ end-trailing before (a .self) e n s (a .to) (rw l at (c .before .before .if1 .taken))
 
-patterns-requires : tie.Need-patterns-requires
-patterns-requires c κs = search needs
+patterns-of-requires : tie.Need-patterns-of-requires
+patterns-of-requires c κs = search needs
+
+cast-count : tie.Need-cast-count
+cast-count c = search needs
 
 missing-requires : tie.Need-missing-requires
 missing-requires c κs = search needs
@@ -33,8 +36,8 @@ refusal-requires-2 c κs = search needs
 returns-2 : tie.Need-returns-2
 returns-2 c before s e n l =
     let a = c .before .before .before .before .before .before .before .args in
-    c .refusal2 .ensures ∙ ap (λ f. loopReply (refused f)) (c .before .at2 .ensures)
-    ∙ end-missing before (a .self) e n s (a .to) (rw l at (c .before .before .before .before .before .before .if1 .left)) _ _ (c .before .before .before .before .patterns .ensures) (c .before .before .before .missing .ensures) (c .before .before .if2 .taken)
+    c .refusal2 .ensures ∙ ap (λ f. gatheredReply (refused f)) (c .before .at2 .ensures)
+    ∙ end-missing before (a .self) e n s (a .to) (rw l at (c .before .before .before .before .before .before .if1 .left)) _ _ (c .before .before .before .before .patterns-of .ensures .0) (c .before .before .before .missing .ensures) (c .before .before .if2 .taken)
 
 accept-requires : tie.Need-accept-requires
 accept-requires c κs = search needs
@@ -43,7 +46,7 @@ returns-3 : tie.Need-returns-3
 returns-3 c before s e n l =
     let a = c .before .before .before .before .before .before .args in
     c .accept .ensures
-    ∙ end-accepted before (a .self) e n s (a .to) (rw l at (c .before .before .before .before .before .if1 .left)) _ _ (c .before .before .before .patterns .ensures) (c .before .before .missing .ensures) (c .before .if2 .left)
+    ∙ end-accepted before (a .self) e n s (a .to) (rw l at (c .before .before .before .before .before .if1 .left)) _ _ (c .before .before .before .patterns-of .ensures .0) (c .before .before .missing .ensures) (c .before .if2 .left)
 
 pub finish-spec : {M : Type 1} → statement M
 finish-spec =
@@ -52,7 +55,8 @@ finish-spec =
     at-requires
     refusal-requires
     returns
-    patterns-requires
+    patterns-of-requires
+    cast-count
     missing-requires
     at-requires-2
     refusal-requires-2

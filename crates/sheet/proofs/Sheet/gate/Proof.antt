@@ -1,6 +1,6 @@
 use mathlib.Core.Path.{ap, _∙_}
-use Rattle.sheet.specs.Reading.{refused}
-use Rattle.sheet.specs.Turn.{loopReply}
+use Rattle.sheet.specs.Judged.{refused}
+use Rattle.sheet.specs.Inner.Gathering.{gatheredReply}
 use Rattle.sheet.proofs.Judging.{gate-unmade, gate-full, gate-taken}
 use borrow.Author.Needs.{needs}
 use Rattle.sheet.proofs.Sheet.gate.Statement.{statement}
@@ -21,7 +21,7 @@ refusal-requires c κs = search needs
 returns : tie.Need-returns
 returns c before e =
     let a = c .before .before .before .before .before .args in
-    c .refusal .ensures ∙ ap (λ f. loopReply (refused f)) (c .before .at .ensures)
+    c .refusal .ensures ∙ ap (λ f. gatheredReply (refused f)) (c .before .at .ensures)
     ∙ gate-unmade before (a .at) (a .t1) e (a .kind) (a .a) (a .b) _ (c .before .before .before .before .signals-made .ensures) _ (c .before .before .before .not-made .ensures) (c .before .before .if1 .taken)
 
 at-requires-2 : tie.Need-at-requires-2
@@ -33,7 +33,7 @@ refusal-requires-2 c κs = search needs
 returns-2 : tie.Need-returns-2
 returns-2 c before e =
     let a = c .before .before .before .before .before .before .args in
-    c .refusal2 .ensures ∙ ap (λ f. loopReply (refused f)) (c .before .at2 .ensures)
+    c .refusal2 .ensures ∙ ap (λ f. gatheredReply (refused f)) (c .before .at2 .ensures)
     ∙ gate-full before (a .at) (a .t1) e (a .kind) (a .a) (a .b) _ (c .before .before .before .before .before .signals-made .ensures) _ (c .before .before .before .before .not-made .ensures) (c .before .before .before .if1 .left) (c .before .before .if2 .taken)
 
 cast-i : tie.Need-cast-i

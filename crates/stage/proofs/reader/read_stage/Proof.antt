@@ -5,7 +5,7 @@ use native.Mathlib.Omega.{arith}
 use lib.ListN.{getD, drop}
 use borrow.Author.Needs.{needs}
 use Rattle.base.specs.Refusals.{refusalAt, cutShort, outOfRange}
-use Rattle.base.specs.Sizes.{sizesOut}
+use Rattle.sheet.specs.Limits.{sizesOut}
 use Rattle.stage.specs.Cases.{stageReply}
 use Rattle.stage.specs.Read.{wiresAt, readStage, refused, closed}
 use Rattle.stage.specs.Reply.{refusedReply, replyOf}

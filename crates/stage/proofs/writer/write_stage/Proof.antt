@@ -7,7 +7,7 @@ use lib.ListN.{length}
 use borrow.Author.Needs.{needs}
 use Rattle.base.specs.Cases.{accepting, acceptedOutcome, refusedCase}
 use Rattle.base.specs.Refusals.{refusalAt, outOfRange, shortBuffer}
-use Rattle.base.specs.Sizes.{sizesOut}
+use Rattle.sheet.specs.Limits.{sizesOut}
 use Rattle.stage.specs.Written.{stageOf, firstOut}
 use Rattle.stage.proofs.Lengths.{stage-length}
 use Rattle.stage.proofs.Ranges.{Sized, sizes-in}

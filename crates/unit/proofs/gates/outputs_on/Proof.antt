@@ -6,8 +6,7 @@ use lib.ListN.{getD}
 use lib.Pow.{shl-exact, pow-mono}
 use borrow.Author.Needs.{needs}
 use Rattle.table.specs.Bits.{ofBits, sum}
-use Rattle.table.proofs.Bits.{ofBits-lt}
-use Rattle.table.proofs.Bits.{ofBits-more}
+use Rattle.table.proofs.Bits.{ofBits-lt, ofBits-more}
 use Rattle.unit.proofs.Placed.{placed}
 use Rattle.unit.proofs.Codings.{output-bit, code-is}
 use Rattle.unit.proofs.gates.outputs_on.Statement.{statement}

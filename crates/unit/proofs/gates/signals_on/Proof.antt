@@ -4,8 +4,8 @@ use mathlib.Core.Path.{_≡_, sym, ap, _∙_}
 use native.Mathlib.Omega.{arith}
 use lib.ListN.{length, getD, length-set}
 use borrow.Author.Needs.{needs}
-use Rattle.table.specs.Bits.{bit, row}
-use Rattle.table.proofs.Bits.{row-length, row-at}
+use Rattle.table.specs.Bits.{bit, tabulate}
+use Rattle.table.proofs.Bits.{tabulate-length, tabulate-at}
 use Rattle.unit.proofs.Signals.{upTo, upTo-bits, gate-more}
 use Rattle.unit.proofs.Placed.{gateIn, gateOf, wires-bits, placed, signals-is, signals-made}
 use Rattle.unit.proofs.gates.signals_on.Statement.{statement}
@@ -13,7 +13,7 @@ use Rattle.unit.proofs.gates.signals_on.Tie as tie
 
 abbrev Inv-loop : tie.InvT-loop
 Inv-loop v m kinds lefts rights signals₀ i₀ i-end signals i =
-    (i ≤ i-end) × (length signals ≡ 36) × ((q : ℕ) → q < m + i → getD signals q 0 ≡ getD (upTo (row m (bit v)) (gateIn kinds lefts rights) i) q 0)
+    (i ≤ i-end) × (length signals ≡ 36) × ((q : ℕ) → q < m + i → getD signals q 0 ≡ getD (upTo (tabulate m (bit v)) (gateIn kinds lefts rights) i) q 0)
 
 abbrev μ-loop : tie.MeasureT-loop
 μ-loop v m kinds lefts rights signals₀ i₀ i-end signals i = i-end - i
@@ -28,7 +28,7 @@ loop-holds c =
     let h = placed (c .before .before .before .before .pre) in (
       omega arith,
       search needs,
-      λ q l. c .wires-on .ensures q (omega (arith, h .few-wires)) ∙ sym (row-at (a .sheet .m) (bit (a .v)) q (omega arith)),
+      λ q l. c .wires-on .ensures q (omega (arith, h .few-wires)) ∙ sym (tabulate-at (a .sheet .m) (bit (a .v)) q (omega arith)),
     )
 
 cast-g : tie.Need-cast-g Inv-loop μ-loop
@@ -67,7 +67,7 @@ gate-bit-requires c κs =
     let l = c .before .loop in
     let h = placed (c .before .before .before .before .before .before .pre) in
     let w = h .wired (l .i) (omega arith) in
-    let b = upTo-bits (row (a .sheet .m) (bit (a .v))) (gateOf (a .sheet)) (l .i) (wires-bits (a .sheet .m) (a .v)) in
+    let b = upTo-bits (tabulate (a .sheet .m) (bit (a .v))) (gateOf (a .sheet)) (l .i) (wires-bits (a .sheet .m) (a .v)) in
     (rw (l .inv .2 _ (w .left-made)) (b _), rw (l .inv .2 _ (w .right-made)) (b _))
 
 add-signals : tie.Need-add-signals Inv-loop μ-loop
@@ -93,7 +93,7 @@ loop-again c =
     let w = h .wired (l .i) (omega arith) in (
       omega arith,
       simp length-set (l .inv .1),
-      gate-more (row (a .sheet .m) (bit (a .v))) (gateOf (a .sheet)) (a .sheet .m) (l .i) (row-length (a .sheet .m) (bit (a .v))) (l .signals)
+      gate-more (tabulate (a .sheet .m) (bit (a .v))) (gateOf (a .sheet)) (a .sheet .m) (l .i) (tabulate-length (a .sheet .m) (bit (a .v))) (l .signals)
           (omega (arith, h .few-wires, h .few-gates)) (l .inv .2) (c .gate-bit .result) (w .left-made) (w .right-made) (c .gate-bit .ensures .0),
     )
 
@@ -102,7 +102,7 @@ returns c =
     let a = c .before .before .before .before .before .before .args in
     let l = c .before .loop in
     let e : l .i ≡ a .sheet .«gate_count» = omega arith in
-    λ h s b. l .inv .2 s (rw e (rw (signals-made h) at b)) ∙ sym (ap (λ x. getD x s 0) (signals-is h (a .v) ∙ ap (upTo (row (a .sheet .m) (bit (a .v))) (gateOf (a .sheet))) (sym e)))
+    λ h s b. l .inv .2 s (rw e (rw (signals-made h) at b)) ∙ sym (ap (λ x. getD x s 0) (signals-is h (a .v) ∙ ap (upTo (tabulate (a .sheet .m) (bit (a .v))) (gateOf (a .sheet))) (sym e)))
 
 pub signals-on-spec : {M : Type 1} → statement M
 signals-on-spec =

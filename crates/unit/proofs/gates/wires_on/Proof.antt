@@ -4,7 +4,7 @@ use mathlib.Core.Path.{_≡_}
 use mathlib.Core.List.{List, _∷_}
 use native.Mathlib.Omega.{arith}
 use lib.ListN.{getD}
-use Rattle.table.specs.Bits.{bit, row}
+use Rattle.table.specs.Bits.{bit, tabulate}
 use borrow.Author.Needs.{needs}
 use Rattle.unit.proofs.gates.wires_on.Statement.{statement}
 use Rattle.unit.proofs.gates.wires_on.Tie as tie
@@ -43,8 +43,8 @@ array-write-signals-4 : tie.Need-array-write-signals-4
 array-write-signals-4 c = search needs
 
 returns : tie.Need-returns
-unfolding row
-returns c = by-place (bit (c .before .before .before .before .args .v)) (row 32 (λ _. 0)) (c .before .before .before .wire .ensures) (c .before .before .wire2 .ensures) (c .before .wire3 .ensures) (c .wire4 .ensures)
+unfolding tabulate
+returns c = by-place (bit (c .before .before .before .before .args .v)) (tabulate 32 (λ _. 0)) (c .before .before .before .wire .ensures) (c .before .before .wire2 .ensures) (c .before .wire3 .ensures) (c .wire4 .ensures)
 
 pub wires-on-spec : {M : Type 1} → statement M
 wires-on-spec =

@@ -4,7 +4,7 @@ use mathlib.Core.Path.{_≡_}
 use native.Mathlib.Omega.{arith}
 use lib.ListN.{length, getD, length-set}
 use borrow.Author.Needs.{needs}
-use Rattle.base.proofs.Rows.{filled-more}
+use Rattle.base.proofs.Tabulate.{filled-more}
 use Rattle.unit.specs.Parts.{Held, codeOf}
 use Rattle.unit.proofs.sets.codes_of.Statement.{statement}
 use Rattle.unit.proofs.sets.codes_of.Tie as tie

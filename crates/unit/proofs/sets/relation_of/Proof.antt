@@ -9,9 +9,9 @@ use lib.ListN.{length, getD, length-set}
 use lib.Seq.{getD-set-other}
 use borrow.Author.Needs.{needs}
 use Rattle.base.proofs.Tests.{cond-has}
-use Rattle.table.specs.Bits.{row}
+use Rattle.table.specs.Bits.{tabulate}
 use Rattle.relation.specs.declared.Relation.{Relation}
-use Rattle.base.proofs.Rows.{filled-more, filled-row, row-entry}
+use Rattle.base.proofs.Tabulate.{filled-more, filled-tabulate, tabulate-entry}
 use Rattle.sheet.specs.declared.Sheet.{Sheet}
 use Rattle.sheet.specs.Commands.{inputsOf, wiresOf}
 use Rattle.sheet.proofs.Fields.{inputs-field, wires-field}
@@ -48,7 +48,7 @@ module _ {sheet : Sheet} (h : Held sheet) (sets : List ℕ) (long : length sets 
 
   whole : _≡_ {A = Relation} (record { n = sheet .n; m = sheet .m; sets = sets }) (relationIn (h .commands))
   unfolding relationIn
-  whole = same inputs wires (filled-row 16 (λ p. cond (ltb p (2 ^ inputsOf (h .commands))) (setOn (h .commands) p) 0) sets long entry)
+  whole = same inputs wires (filled-tabulate 16 (λ p. cond (ltb p (2 ^ inputsOf (h .commands))) (setOn (h .commands) p) 0) sets long entry)
     where
       same : {n n′ m m′ : ℕ} {s s′ : List ℕ} → n ≡ n′ → m ≡ m′ → s ≡ s′
           → _≡_ {A = Relation} (record { n = n; m = m; sets = s }) (record { n = n′; m = m′; sets = s′ })
@@ -61,9 +61,9 @@ patterns-of-requires : tie.Need-patterns-of-requires Inv-loop μ-loop
 patterns-of-requires c κs = placed (c .before .pre) .few-inputs
 
 loop-holds : tie.Need-loop-holds Inv-loop μ-loop
-unfolding row
+unfolding tabulate
 loop-holds c =
-    (omega arith, search needs, λ q l. row-entry 16 (λ _. 0) q ∙ cond-same (ltb q 16), λ h q l. absurd (omega arith))
+    (omega arith, search needs, λ q l. tabulate-entry 16 (λ _. 0) q ∙ cond-same (ltb q 16), λ h q l. absurd (omega arith))
 
 set-on-requires : tie.Need-set-on-requires Inv-loop μ-loop
 set-on-requires c κs = (c .before .before .before .before .pre, omega (arith, c .before .before .patterns-of .ensures))

@@ -7,7 +7,8 @@ use lib.Bits.{bitAnd}
 use lib.ListN.{getD}
 use Rattle.sheet.specs.declared.Sheet.{Sheet}
 use Rattle.sheet.specs.Commands.{inputsOf}
-use Rattle.sheet.specs.Gathered.{maxPatterns, maxValues, rowMark}
+use Rattle.sheet.specs.Limits.{maxPatterns, maxValues}
+use Rattle.sheet.specs.Gathered.{rowMark}
 use Rattle.sheet.proofs.Fields.{inputs-field, pattern-room}
 use Rattle.unit.specs.Formed.{setOn}
 use Rattle.unit.specs.Parts.{Held, Codes}
@@ -22,7 +23,7 @@ module _ {sheet : Sheet} (h : Held sheet) (p : ℕ) (l : p < 2 ^ sheet .n) where
   inside = subst (λ n. p < 2 ^ n) (ap (λ (x : Sheet). x .n) (h .gathers) ∙ inputs-field (h .commands)) l
 
   room : p < maxPatterns
-  room = pattern-room (h .commands) (held-sound h .inputs-most) p inside
+  room = pattern-room (h .commands) (held-sound h .sizes .n-most) p inside
 
   unmarked : (getD (sheet .marks) p 0 ≡ rowMark → ⊥) → getD (sheet .limits) p 0 ≡ setOn (h .commands) p
   unmarked =

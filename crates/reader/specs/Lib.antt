@@ -1,0 +1,4 @@
+-- Reading unit sheets.
+pub mod Reader
+pub mod Reading
+pub mod Inner

@@ -1,0 +1,33 @@
+-- Counts and sizes in their ranges.
+use Prim.Native.Nat.{ℕ, _≤_}
+use mathlib.Core.Path.{_≡_}
+use mathlib.Core.Bool.{false}
+use native.Mathlib.Omega.{arith}
+use lib.Dec.{eqb, ltb}
+use borrow.Author.Tests.{ne-eqb, le-ltb, eqb-false, ltb-false}
+use Rattle.base.proofs.Tests.{neither}
+use Rattle.sheet.specs.Limits.{maxInputs, maxWires, countOut, sizesOut}
+use Rattle.sheet.specs.Inner.Sized.{Sized}
+
+-- a count that is not out of range, and the other way round
+pub count-in : (x k : ℕ) → countOut x k ≡ false → (1 ≤ x) × (x ≤ k)
+count-in x k e =
+    let h = neither (eqb x 0) (ltb k x) e in
+    (positive x (eqb-false x 0 (h .0)), ltb-false k x (h .1))
+  where
+    positive : (x : ℕ) → (x ≡ 0 → ⊥) → 1 ≤ x
+    positive x h = omega arith
+
+pub count-fits : (x k : ℕ) → 1 ≤ x → x ≤ k → countOut x k ≡ false
+count-fits x k a b = rw (ne-eqb x 0 (λ e. omega arith), le-ltb k x b)
+
+-- the same of n and m
+pub sizes-in : (n m : ℕ) → sizesOut n m ≡ false → Sized n m
+sizes-in n m e =
+    let h = neither (countOut n maxInputs) (countOut m maxWires) e in
+    let a = count-in n maxInputs (h .0) in
+    let b = count-in m maxWires (h .1) in
+    record { n-least = a .0; n-most = a .1; m-least = b .0; m-most = b .1 }
+
+pub sizes-fit : (n m : ℕ) → Sized n m → sizesOut n m ≡ false
+sizes-fit n m z = rw (count-fits n maxInputs (z .n-least) (z .n-most), count-fits m maxWires (z .m-least) (z .m-most))

@@ -1,0 +1,43 @@
+use Prim.Native.Nat.{ℕ, _^_, _*_, _%_, _-_, _≤_}
+use mathlib.Core.Path.{_≡_, ap, _∙_}
+use native.Mathlib.Omega.{arith}
+use lib.Pow.{pow-pos, pow-mono}
+use Rattle.sheet.specs.Limits.{maxValues}
+use Rattle.sheet.proofs.Powers.{one-shifted}
+use borrow.Author.Needs.{needs}
+use Rattle.sheet.proofs.limits.all_ones.Statement.{statement}
+use Rattle.sheet.proofs.limits.all_ones.Tie as tie
+use Rattle.sheet.proofs.limits.all_ones.Reads as reads
+use Rattle.sheet.proofs.limits.all_ones.Lts as lts
+use Rattle.sheet.proofs.limits.values_of.Reads as values-of-reads
+
+-- the power has room in 32 bits, and one less in 16
+shifted : (v : ℕ) → v ≤ maxValues → 1 * 2 ^ v % 2 ^ 32 ≡ 2 ^ v
+shifted v h = one-shifted v 32 (omega arith)
+
+values-of-requires : tie.Need-values-of-requires
+values-of-requires c κs = search needs
+
+cast-result : tie.Need-cast-result
+cast-result c = search needs
+
+shl-result : tie.Need-shl-result
+shl-result c = search needs
+
+sub-result : tie.Need-sub-result
+sub-result c = rw (shifted (c .values-of .result) (c .values-of .ensures .1)) (pow-pos (c .values-of .result))
+
+cast-result-2 : tie.Need-cast-result-2
+cast-result-2 c =
+    let v = c .values-of .result in
+    let h : 2 ^ v ≤ 2 ^ maxValues = pow-mono (c .values-of .ensures .1) in
+    rw (shifted v (c .values-of .ensures .1)) (record { fits = omega (arith, pow-pos v) })
+
+returns : tie.Need-returns
+returns c =
+    let v = c .values-of .result in
+    ap (λ x. x - 1) (shifted v (c .values-of .ensures .1) ∙ ap (λ e. 2 ^ e) (c .values-of .ensures .0))
+
+pub all-ones-spec : {M : Type 1} → statement M
+all-ones-spec =
+    tie.close (tie.spec values-of-requires cast-result shl-result sub-result cast-result-2 returns)

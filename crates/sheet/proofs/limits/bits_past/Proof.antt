@@ -1,0 +1,27 @@
+use Prim.Native.Nat.{_^_}
+use mathlib.Core.Path.{ap, _∙_}
+use lib.Dec.{leb}
+use Rattle.sheet.specs.Limits.{maxWires}
+use Rattle.sheet.proofs.Powers.{beyond-capped}
+use borrow.Author.Needs.{needs}
+use Rattle.sheet.proofs.limits.bits_past.Statement.{statement}
+use Rattle.sheet.proofs.limits.bits_past.Tie as tie
+use Rattle.sheet.proofs.limits.bits_past.Reads as reads
+use Rattle.sheet.proofs.limits.bits_past.Lts as lts
+use Rattle.sheet.proofs.limits.beyond.Reads as beyond-reads
+use Rattle.sheet.proofs.limits.values_of.Reads as values-of-reads
+
+values-of-requires : tie.Need-values-of-requires
+values-of-requires c κs = search needs
+
+beyond-requires : tie.Need-beyond-requires
+beyond-requires c κs = search needs
+
+returns : tie.Need-returns
+returns c =
+    let x = c .before .before .args .x in
+    let k = c .before .before .args .k in
+    c .beyond .ensures ∙ ap (λ e. leb (2 ^ e) x) (c .before .values-of .ensures .0) ∙ beyond-capped x maxWires k (c .before .before .fits .x .fits)
+
+pub bits-past-spec : {M : Type 1} → statement M
+bits-past-spec = tie.close (tie.spec values-of-requires beyond-requires returns)

@@ -1,0 +1,39 @@
+-- Document 01, "Unit sheet": the limits of a sheet, and tests against them.
+use Prim.Native.Nat.{ℕ, _-_, _^_, min}
+use mathlib.Core.Bool.{Bool, _||_}
+use lib.Dec.{ltb, leb, eqb}
+
+abbrev pub maxInputs : ℕ
+maxInputs = 4
+
+abbrev pub maxWires : ℕ
+maxWires = 4
+
+abbrev pub maxGates : ℕ
+maxGates = 32
+
+abbrev pub maxOutputs : ℕ
+maxOutputs = 8
+
+-- the patterns of so many inputs, and the values of so many wires
+abbrev pub maxPatterns : ℕ
+maxPatterns = 2 ^ maxInputs
+
+abbrev pub maxValues : ℕ
+maxValues = 2 ^ maxWires
+
+-- x is outside 1 to k
+abbrev pub countOut : ℕ → ℕ → Bool
+countOut x k = eqb x 0 || ltb k x
+
+-- n or m is outside its range
+abbrev pub sizesOut : ℕ → ℕ → Bool
+sizesOut n m = countOut n maxInputs || countOut m maxWires
+
+-- x needs more than k bits
+abbrev pub isBeyond : ℕ → ℕ → Bool
+isBeyond k x = leb (2 ^ k) x
+
+-- 2 ^ k ones, as far as a set has room for them: all values of k wires, each by its bit
+abbrev pub allOnes : ℕ → ℕ
+allOnes k = 2 ^ min maxValues (2 ^ k) - 1

@@ -1,0 +1,66 @@
+// Sizes, and numbers of bits, against the limits of a sheet.
+use crate::Sheet;
+ghost use mathlib.Core.Path.{_≡_};
+ghost use Prim.Native.Nat.{_≤_, _^_, min};
+ghost use Rattle.sheet.specs.Limits.{maxInputs, maxWires, maxPatterns, maxValues, countOut, sizesOut, isBeyond, allOnes};
+
+// 2 to the power of a size, as far as the limit `most` on it goes.
+fn power(k: u8, most: u8) -> u8
+    requires { ⌜ most ≤ 7 ⌝ }
+    ensures { λ r. ⌜ (r ≡ min (2 ^ most) (2 ^ k)) × (k ≤ most → r ≡ 2 ^ k) ⌝ }
+{
+    if k < most { 1 << k } else { 1 << most }
+}
+
+// The number of patterns of n inputs, as far as a sheet has room for them.
+pub fn patterns_of(n: u8) -> u8
+    ensures { λ r. ⌜ (r ≡ min maxPatterns (2 ^ n)) × (r ≤ maxPatterns) × (n ≤ maxInputs → r ≡ 2 ^ n) ⌝ }
+{
+    power(n, Sheet::MAX_INPUTS)
+}
+
+// The number of values of m wires, likewise.
+pub fn values_of(m: u8) -> u8
+    ensures { λ r. ⌜ (r ≡ min maxValues (2 ^ m)) × (r ≤ maxValues) × (m ≤ maxWires → r ≡ 2 ^ m) ⌝ }
+{
+    power(m, Sheet::MAX_WIRES)
+}
+
+// 2 to the k ones: the set of all values of k wires, and of k inputs the table of constant 1.
+pub fn all_ones(k: u8) -> u16
+    ensures { λ r. ⌜ r ≡ allOnes k ⌝ }
+{
+    ((1u32 << values_of(k)) - 1) as u16
+}
+
+// x needs more than k bits.
+pub fn beyond(k: u8, x: u16) -> bool
+    ensures { λ r. ⌜ r ≡ isBeyond k x ⌝ }
+{
+    if k < 16 { 1 <= x >> k } else { false }
+}
+
+// A number with a bit past the lowest 2 to the k: a set with a value that k wires do not have, a table with a pattern that k inputs do not have.
+pub fn bits_past(k: u8, x: u16) -> bool
+    ensures { λ r. ⌜ r ≡ isBeyond (2 ^ k) x ⌝ }
+{
+    beyond(values_of(k), x)
+}
+
+// A count outside 1 to most.
+fn count_out(x: u8, most: u8) -> bool
+    ensures { λ r. ⌜ r ≡ countOut x most ⌝ }
+{
+    if x == 0 { true } else { most < x }
+}
+
+// Too few or too many inputs or wires.
+pub fn sizes_out(n: u8, m: u8) -> bool
+    ensures { λ r. ⌜ r ≡ sizesOut n m ⌝ }
+{
+    if count_out(n, Sheet::MAX_INPUTS) {
+        true
+    } else {
+        count_out(m, Sheet::MAX_WIRES)
+    }
+}
