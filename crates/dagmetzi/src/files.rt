@@ -8,8 +8,8 @@ pub struct Input {
     pub is_read: bool,
 }
 
-// Reads until the buffer is full or the input ends. Unlike `io::read_full` it tells a read that fails from the end: bytes that are cut short by a fault must not
-// pass for a sheet that ends there. Each turn reads a byte at least, so that there are no more turns than the buffer has bytes.
+// Reads until the buffer is full or the input ends. Unlike `io::read_full` it tells a read that fails from the end: bytes that are cut short by a fault
+// must not pass for a sheet that ends there. Each turn reads a byte at least, so that there are no more turns than the buffer has bytes.
 fn read_all(fd: i32, buffer: &mut [u8]) -> Input
     ensures { λ r. ⌜ Counts (r .length) (now (buffer .exit)) ⌝ }
 {
