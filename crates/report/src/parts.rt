@@ -11,8 +11,7 @@ ghost use Prim.Native.Nat.{_+_, _≤_, min};
 ghost use lib.ListN.{length};
 ghost use Rattle.stage.specs.Bytes.{longestStage};
 ghost use Rattle.text.specs.Inner.Put.{Put, lastPlace};
-ghost use Rattle.report.specs.Lines.{longestCounts, longestPairs, longestRefusal, longestRefusalLine, longestWord};
-ghost use Rattle.report.specs.Lines.{countsOf, stagePairs, refusalText, refusalLine};
+ghost use Rattle.report.specs.Lines.{longestCounts, longestPairs, longestRefusal, longestRefusalLine, longestWord, countsOf, stagePairs, refusalText, refusalLine};
 
 // Puts the counts of a reply: "cells C floor F visits V".
 pub fn put_counts(out: &mut [u8], at: usize, cells: u32, floor: u32, visits: u32) -> usize
