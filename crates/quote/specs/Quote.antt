@@ -5,8 +5,7 @@ use mathlib.Core.List.{List}
 use Rattle.base.specs.declared.Refusal.{Refusal}
 use Rattle.base.specs.Cases.{Case, refusedCase, isRefused}
 use Rattle.relation.specs.declared.Relation.{Relation}
-use Rattle.search.specs.Cases.{SearchReply}
-use Rattle.search.specs.Reply.{searchOf}
+use Rattle.branch_bound.specs.Reply.{SearchReply, searchOf}
 use Rattle.stage.specs.Written.{writtenOf, bufferAfter}
 use Rattle.unit.specs.Formed.{formedOf}
 use Rattle.quote.specs.Cases.{QuoteReply}

@@ -3,15 +3,18 @@ use crate::Audited;
 use base::Refusal;
 use base::Verdict;
 use relation::Relation;
-use relation::patterns::patterns_of;
 use relation::patterns::value_of;
 use relation::values::contains;
+use sheet::Sheet;
+use sheet::limits::patterns_of;
 use stage_reader::read_stage;
 ghost use mathlib.Core.Path.{_≡_};
 ghost use Prim.Native.Nat.{_≤_, _^_};
+ghost use Rattle.sheet.specs.Limits.{maxInputs, maxWires};
 ghost use Rattle.table.specs.Bits.{all};
 ghost use Rattle.relation.specs.Source.{value};
-ghost use Rattle.relation.specs.Tests.{ofSets, wires};
+ghost use Rattle.relation.specs.Tests.{ofSets};
+ghost use Rattle.table.specs.Cells.{wires};
 ghost use Rattle.stage.specs.Read.{readStage};
 ghost use Rattle.base.specs.declared.Refusal.{Refusal};
 ghost use Rattle.base.specs.declared.Verdict.the-variants.{Refused as NotTaken};
@@ -20,9 +23,9 @@ ghost use Rattle.quote.specs.Cases.{auditedCase};
 ghost use Rattle.quote.specs.Audit.{auditedStage};
 
 // Whether the value that the tables drive lies in the set of every pattern.
-fn allowed_everywhere(n: u8, sets: [u16; 16], tables: [u16; 4]) -> bool
-    requires { ⌜ n ≤ 4 ⌝ }
-    ensures { λ r. ⌜ r ≡ all (2 ^ n) (λ p. ofSets sets p (value 4 (wires tables) p)) ⌝ }
+fn allowed_everywhere(n: u8, sets: [u16; Sheet::MAX_PATTERNS], tables: [u16; Sheet::WIRES]) -> bool
+    requires { ⌜ n ≤ maxInputs ⌝ }
+    ensures { λ r. ⌜ r ≡ all (2 ^ n) (λ p. ofSets sets p (value maxWires (wires tables) p)) ⌝ }
 {
     let count = patterns_of(n);
     for p in 0..count {

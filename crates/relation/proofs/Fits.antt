@@ -12,7 +12,9 @@ use borrow.Author.Tests.{ne-eqb, lt-ltb, le-ltb}
 use Rattle.base.proofs.Tests.{decide, eq-test, test-no}
 use Rattle.base.specs.Refusals.{refusalAt, outOfRange, empty}
 use Rattle.base.specs.Cases.{acceptedCase, refusedCase}
-use Rattle.sheet.specs.Limits.{countOut, sizesOut}
+use Rattle.sheet.specs.Limits.{sizesOut}
+use Rattle.sheet.specs.Inner.Sized.{Sized}
+use Rattle.sheet.proofs.Sizes.{sizes-in, sizes-fit}
 use Rattle.base.specs.Lowest.{lowest}
 use Rattle.base.proofs.Lowest.{lowest-or, lowest-none, lowest-cong}
 use Rattle.base.specs.declared.Refusal.{Refusal}
@@ -21,33 +23,15 @@ use Rattle.relation.specs.declared.Relation.{Relation}
 use Rattle.relation.specs.Handed.{relationOf, widePattern, checkOf}
 use Rattle.relation.specs.Source.{WellDefined}
 use Rattle.relation.specs.Tests.{ofSets, emptyPattern}
-use Rattle.relation.specs.Masks.{member}
+use Rattle.relation.specs.Inner.Masks.{member}
 use Rattle.relation.proofs.Decide.{well-defined-or, empty-not}
 use Rattle.relation.proofs.Columns.{any-member}
 
 -- a relation that passes the test
 pub record Fit (r : Relation) : Type 0 where
-  pub some-inputs : 1 ≤ r .n
-  pub few-inputs : r .n ≤ 4
-  pub some-wires : 1 ≤ r .m
-  pub few-wires : r .m ≤ 4
+  pub sizes : Sized (r .n) (r .m)
   pub small : (p : ℕ) → p < 2 ^ r .n → getD (r .sets) p 0 < 2 ^ (2 ^ r .m)
   pub well-defined : WellDefined (r .n) (r .m) (relationOf r)
-
-neither : (a b : Bool) → T (not (a || b)) → T (not a) × T (not b)
-neither true b t = absurd t
-neither false b t = (tt, t)
-
-count-in : (x k : ℕ) → T (not (countOut x k)) → (1 ≤ x) × (x ≤ k)
-count-in x k t =
-    let u = neither (eqb x 0) (ltb k x) t in
-    let ne : x ≡ 0 → ⊥ = λ e. T-not (eqb x 0) (u .0) (eq-test e) in
-    (omega arith, nltb→le k x (u .1))
-
-pub sizes-in : (n m : ℕ) → sizesOut n m ≡ false → (1 ≤ n) × (n ≤ 4) × (1 ≤ m) × (m ≤ 4)
-sizes-in n m e =
-    let u = neither (countOut n 4) (countOut m 4) (rw e tt) in
-    (count-in n 4 (u .0) .0, count-in n 4 (u .0) .1, count-in m 4 (u .1) .0, count-in m 4 (u .1) .1)
 
 -- no set has a bit from 2 ^ m up
 pub none-wide : (n m : ℕ) (sets : List ℕ) → 2 ^ n ≤ widePattern n m sets → (p : ℕ) → p < 2 ^ n → getD sets p 0 < 2 ^ (2 ^ m)
@@ -111,26 +95,19 @@ check-well-formed r e =
     let wide = widePattern n m (r .sets) in
     let none = emptyPattern n m (relationOf r) in
     let t = passed (sizesOut n m) (ltb wide (2 ^ n)) (ltb none (2 ^ n)) (refusalAt outOfRange 0) (refusalAt outOfRange wide) (refusalAt empty none) e in
-    let s = sizes-in n m (test-no (sizesOut n m) (t .0)) in
     record {
-      some-inputs = s .0;
-      few-inputs = s .1;
-      some-wires = s .2;
-      few-wires = s .3;
+      sizes = sizes-in n m (test-no (sizesOut n m) (t .0));
       small = none-wide n m (r .sets) (nltb→le wide (2 ^ n) (t .1));
       well-defined = ⊎-elim (λ w. w) (λ l. absurd (omega (arith, nltb→le none (2 ^ n) (t .2)))) (well-defined-or n m (relationOf r));
     }
 
 -- and one that is fit passes
-count-passes : (x k : ℕ) → 1 ≤ x → x ≤ k → countOut x k ≡ false
-count-passes x k l h = rw (ne-eqb x 0 (λ e. omega arith), le-ltb k x h)
-
 pub fit-passes : (r : Relation) → Fit r → checkOf r ≡ acceptedCase
 unfolding widePattern
 fit-passes r f =
     let n = r .n in
     let m = r .m in
-    let sizes : sizesOut n m ≡ false = rw (count-passes n 4 (f .some-inputs) (f .few-inputs), count-passes m 4 (f .some-wires) (f .few-wires)) in
+    let sizes : sizesOut n m ≡ false = sizes-fit n m (f .sizes) in
     let narrow : widePattern n m (r .sets) ≡ 2 ^ n =
     lowest-none (2 ^ n) (λ p. leb (2 ^ (2 ^ m)) (getD (r .sets) p 0))
     (λ p l. not-T (leb (2 ^ (2 ^ m)) (getD (r .sets) p 0)) (λ t. omega (arith, leb→le (2 ^ (2 ^ m)) (getD (r .sets) p 0) t, f .small p l))) in

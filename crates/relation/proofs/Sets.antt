@@ -12,15 +12,18 @@ use lib.Pow.{pow-mono, pow-pos}
 use lib.ListN.{length, getD, set, take, length-set, List·getD-eq-default}
 use lib.Seq.{getD-set-same, getD-set-other}
 use borrow.Author.Tests.{le-ltb}
+use Rattle.sheet.specs.Limits.{maxInputs, maxWires, maxPatterns, maxValues}
 use Rattle.base.proofs.Tests.{decide, eq-test, cond-has, test-ext, test-yes, test-no, and-true, and-left}
-use Rattle.table.specs.Bits.{bit, ofBits, tabulate, sum}
-use Rattle.table.specs.Pick.{masked}
+use Rattle.table.specs.Bits.{bit, ofBits, tabulate, sum, isOne}
+use Rattle.table.specs.Inner.Ranks.{masked}
 use Rattle.table.proofs.Bits.{bit-cases, bit-ofBits, tabulate-length, tabulate-at, sum-cong, sum-but-one, zero-bit, ofBits-short}
 use Rattle.relation.specs.Source.{WellDefined, value}
-use Rattle.relation.specs.Tests.{ofSets, wires, keep, agree, occurs, free, isOne}
-use Rattle.relation.specs.Masks.{member, withBit, maskOf, narrowed, agreed, cleared, NonePast, cut}
+use Rattle.relation.specs.Tests.{ofSets, keep, agree, occurs, free}
+use Rattle.table.specs.Cells.{wires}
+use Rattle.relation.specs.Inner.Masks.{member, withBit, maskOf, narrowed, agreed, cleared, NonePast, cut}
 use Rattle.relation.proofs.Decide.{occurs-intro, occurs-at}
-use Rattle.relation.proofs.Columns.{one-test, isOne-lt-two, no-member, member-lt, with-test, with-le, maskBit, found-lt}
+use Rattle.table.proofs.BitColumns.{one-test, isOne-lt-two}
+use Rattle.relation.proofs.Columns.{no-member, member-lt, with-test, with-le, maskBit, found-lt}
 use Rattle.base.proofs.Tabulate.{tabulate-entry, take-entry}
 pub use Rattle.relation.proofs.Fits.{Fit, check-well-formed, check-empty, fit-passes}
 
@@ -32,14 +35,14 @@ member-sets sets p = refl
 same-sets : (a b : List ℕ) → ((p : ℕ) → getD a p 0 ≡ getD b p 0) → ofSets a ≡ ofSets b
 same-sets a b h = fun-ext (λ p. member-sets a p ∙ ap member (h p) ∙ sym (member-sets b p))
 
--- m wires, n inputs: sixteen sets, each of values below 2 ^ m, those past the last pattern empty
+-- m wires, n inputs: a set for each pattern that there is room for, each of values below 2 ^ m, those past the last pattern empty
 pub record Narrow (n m : ℕ) (sets : List ℕ) : Type 0 where
-  pub long : length sets ≡ 16
+  pub long : length sets ≡ maxPatterns
   pub small : (p : ℕ) → getD sets p 0 < 2 ^ (2 ^ m)
   pub past : (p : ℕ) → 2 ^ n ≤ p → getD sets p 0 ≡ 0
 
 -- a pattern's set narrowed: one part of a split
-pub narrow-keep : (sets : List ℕ) (p j b : ℕ) → p < length sets → getD sets p 0 < 65536 → ofSets (narrowed sets p j b) ≡ keep (ofSets sets) p j b
+pub narrow-keep : (sets : List ℕ) (p j b : ℕ) → p < length sets → getD sets p 0 < 2 ^ maxValues → ofSets (narrowed sets p j b) ≡ keep (ofSets sets) p j b
 unfolding ofSets keep narrowed member
 narrow-keep sets p j b hp hs = fun-ext (λ q. fun-ext (λ v. ⊎-elim (same q v) (other q v) (decide (eqb q p))))
   where
@@ -56,45 +59,45 @@ narrow-keep sets p j b hp hs = fun-ext (λ q. fun-ext (λ v. ⊎-elim (same q v)
     other q v t = rw (test-no (eqb q p) t, getD-set-other sets p q w 0 (λ e. T-not (eqb q p) t (eq-test e)), and-true)
 
 -- the sets once a wire has a table
-pub agreed-agree : (sets : List ℕ) (j t : ℕ) → length sets ≡ 16 → ((p : ℕ) → getD sets p 0 < 65536) → ofSets (agreed sets j t) ≡ agree (ofSets sets) j t
+pub agreed-agree : (sets : List ℕ) (j t : ℕ) → length sets ≡ maxPatterns → ((p : ℕ) → getD sets p 0 < 2 ^ maxValues) → ofSets (agreed sets j t) ≡ agree (ofSets sets) j t
 unfolding ofSets agree agreed member
-agreed-agree sets j t len small = fun-ext (λ p. fun-ext (λ v. ⊎-elim (inside p v) (outside p v) (decide (ltb p 16))))
+agreed-agree sets j t len small = fun-ext (λ p. fun-ext (λ v. ⊎-elim (inside p v) (outside p v) (decide (ltb p maxPatterns))))
   where
     f : ℕ → ℕ
     f p = withBit (getD sets p 0) j (bit t p)
 
-    inside : (p v : ℕ) → T (ltb p 16) → eqb (bit (getD (tabulate 16 f) p 0) v) 1 ≡ eqb (bit (getD sets p 0) v) 1 && eqb (bit v j) (bit t p)
-    inside p v l = rw (tabulate-at 16 f p (ltb→lt p 16 l)) (with-test (getD sets p 0) j (bit t p) v (small p))
+    inside : (p v : ℕ) → T (ltb p maxPatterns) → eqb (bit (getD (tabulate maxPatterns f) p 0) v) 1 ≡ eqb (bit (getD sets p 0) v) 1 && eqb (bit v j) (bit t p)
+    inside p v l = rw (tabulate-at maxPatterns f p (ltb→lt p maxPatterns l)) (with-test (getD sets p 0) j (bit t p) v (small p))
 
-    outside : (p v : ℕ) → T (not (ltb p 16)) → eqb (bit (getD (tabulate 16 f) p 0) v) 1 ≡ eqb (bit (getD sets p 0) v) 1 && eqb (bit v j) (bit t p)
+    outside : (p v : ℕ) → T (not (ltb p maxPatterns)) → eqb (bit (getD (tabulate maxPatterns f) p 0) v) 1 ≡ eqb (bit (getD sets p 0) v) 1 && eqb (bit v j) (bit t p)
     outside p v l =
-        let h = nltb→le p 16 l in
-        let a : getD (tabulate 16 f) p 0 ≡ 0 = List·getD-eq-default (tabulate 16 f) 0 (omega (arith, tabulate-length 16 f)) in
+        let h = nltb→le p maxPatterns l in
+        let a : getD (tabulate maxPatterns f) p 0 ≡ 0 = List·getD-eq-default (tabulate maxPatterns f) 0 (omega (arith, tabulate-length maxPatterns f)) in
         let b : getD sets p 0 ≡ 0 = List·getD-eq-default sets 0 (omega arith) in
         rw (a, b, zero-bit v)
 
 -- the sets past the last pattern emptied
-cleared-entry : (n : ℕ) (sets : List ℕ) (p : ℕ) → n ≤ 4 → getD (cleared n sets) p 0 ≡ cond (ltb p (2 ^ n)) (getD sets p 0) 0
+cleared-entry : (n : ℕ) (sets : List ℕ) (p : ℕ) → n ≤ maxInputs → getD (cleared n sets) p 0 ≡ cond (ltb p (2 ^ n)) (getD sets p 0) 0
 unfolding cleared
 cleared-entry n sets p h =
-    tabulate-entry 16 (λ p. cond (ltb p (2 ^ n)) (getD sets p 0) 0) p
-    ∙ ⊎-elim (λ (l : T (ltb p 16)). rw (test-yes (ltb p 16) l))
-    (λ l. let b : 2 ^ n ≤ p = omega (arith, nltb→le p 16 l, pow-mono {i = n} {j = 4} h) in rw (test-no (ltb p 16) l, le-ltb p (2 ^ n) b))
-    (decide (ltb p 16))
+    tabulate-entry maxPatterns (λ p. cond (ltb p (2 ^ n)) (getD sets p 0) 0) p
+    ∙ ⊎-elim (λ (l : T (ltb p maxPatterns)). rw (test-yes (ltb p maxPatterns) l))
+    (λ l. let b : 2 ^ n ≤ p = omega (arith, nltb→le p maxPatterns l, pow-mono {i = n} {j = maxInputs} h) in rw (test-no (ltb p maxPatterns) l, le-ltb p (2 ^ n) b))
+    (decide (ltb p maxPatterns))
 
-pub cleared-takes : (n : ℕ) (sets : List ℕ) → n ≤ 4 → length sets ≡ 16 → ofSets (cleared n sets) ≡ ofSets (take (2 ^ n) sets)
+pub cleared-takes : (n : ℕ) (sets : List ℕ) → n ≤ maxInputs → length sets ≡ maxPatterns → ofSets (cleared n sets) ≡ ofSets (take (2 ^ n) sets)
 cleared-takes n sets h len =
     same-sets (cleared n sets) (take (2 ^ n) sets) (λ p. cleared-entry n sets p h ∙ sym (take-entry (2 ^ n) sets p))
 
 -- narrow sets stay narrow
-less-narrow : (n m : ℕ) (a b : List ℕ) → Narrow n m a → length b ≡ 16 → ((q : ℕ) → getD b q 0 ≤ getD a q 0) → Narrow n m b
+less-narrow : (n m : ℕ) (a b : List ℕ) → Narrow n m a → length b ≡ maxPatterns → ((q : ℕ) → getD b q 0 ≤ getD a q 0) → Narrow n m b
 less-narrow n m a b w len le = record {
   long = len;
   small = λ p. lt-of-le-of-lt (le p) (w .small p);
   past = λ p l. omega (arith, le p, w .past p l);
 }
 
-pub narrowed-narrow : (n m : ℕ) (sets : List ℕ) (p j b : ℕ) → Narrow n m sets → p < 16 → Narrow n m (narrowed sets p j b)
+pub narrowed-narrow : (n m : ℕ) (sets : List ℕ) (p j b : ℕ) → Narrow n m sets → p < maxPatterns → Narrow n m (narrowed sets p j b)
 unfolding narrowed
 narrowed-narrow n m sets p j b w hp =
     let x = withBit (getD sets p 0) j b in
@@ -108,53 +111,53 @@ pub agreed-narrow : (n m : ℕ) (sets : List ℕ) (j t : ℕ) → Narrow n m set
 unfolding agreed
 agreed-narrow n m sets j t w =
     let f : ℕ → ℕ = λ p. withBit (getD sets p 0) j (bit t p) in
-    less-narrow n m sets (tabulate 16 f) w (tabulate-length 16 f)
-    (λ q. rw (tabulate-entry 16 f q) (cond-has (λ x. x ≤ getD sets q 0) (ltb q 16) (λ _. with-le (getD sets q 0) j (bit t q)) (λ _. omega arith)))
+    less-narrow n m sets (tabulate maxPatterns f) w (tabulate-length maxPatterns f)
+    (λ q. rw (tabulate-entry maxPatterns f q) (cond-has (λ x. x ≤ getD sets q 0) (ltb q maxPatterns) (λ _. with-le (getD sets q 0) j (bit t q)) (λ _. omega arith)))
 
-pub cleared-narrow : (n m : ℕ) (sets : List ℕ) → length sets ≡ 16 → n ≤ 4 → ((p : ℕ) → p < 2 ^ n → getD sets p 0 < 2 ^ (2 ^ m)) → Narrow n m (cleared n sets)
+pub cleared-narrow : (n m : ℕ) (sets : List ℕ) → length sets ≡ maxPatterns → n ≤ maxInputs → ((p : ℕ) → p < 2 ^ n → getD sets p 0 < 2 ^ (2 ^ m)) → Narrow n m (cleared n sets)
 unfolding cleared
 cleared-narrow n m sets len h small = record {
-  long = tabulate-length 16 (λ p. cond (ltb p (2 ^ n)) (getD sets p 0) 0);
+  long = tabulate-length maxPatterns (λ p. cond (ltb p (2 ^ n)) (getD sets p 0) 0);
   small = λ p. rw (cleared-entry n sets p h)
       (cond-has (λ x. x < 2 ^ (2 ^ m)) (ltb p (2 ^ n)) (λ l. small p (ltb→lt p (2 ^ n) l)) (λ _. pow-pos (2 ^ m)));
   past = λ p l. cleared-entry n sets p h ∙ ap (λ (c : Bool). cond c (getD sets p 0) 0) (le-ltb p (2 ^ n) l);
 }
 
 -- four wires and m wires project alike where no value needs more than m
-pub occurs-four : (m w j b : ℕ) → m ≤ 4 → w < 2 ^ (2 ^ m) → occurs 4 (member w) j b ≡ occurs m (member w) j b
+pub occurs-four : (m w j b : ℕ) → m ≤ maxWires → w < 2 ^ (2 ^ m) → occurs maxWires (member w) j b ≡ occurs m (member w) j b
 occurs-four m w j b h l =
-    test-ext (occurs 4 (member w) j b) (occurs m (member w) j b)
-    (λ t. let u = occurs-at 4 (member w) j b t in occurs-intro m (member w) j b (u .0) (member-lt w (2 ^ m) (u .0) l (u .2)) (u .2) (u .3))
-    (λ t. let u = occurs-at m (member w) j b t in occurs-intro 4 (member w) j b (u .0) (lt-of-lt-of-le (u .1) (pow-mono {i = m} {j = 4} h)) (u .2) (u .3))
+    test-ext (occurs maxWires (member w) j b) (occurs m (member w) j b)
+    (λ t. let u = occurs-at maxWires (member w) j b t in occurs-intro m (member w) j b (u .0) (member-lt w (2 ^ m) (u .0) l (u .2)) (u .2) (u .3))
+    (λ t. let u = occurs-at m (member w) j b t in occurs-intro maxWires (member w) j b (u .0) (lt-of-lt-of-le (u .1) (pow-mono {i = m} {j = maxWires} h)) (u .2) (u .3))
 
-pub free-four : (m w j : ℕ) → m ≤ 4 → w < 2 ^ (2 ^ m) → free 4 (member w) j ≡ free m (member w) j
+pub free-four : (m w j : ℕ) → m ≤ maxWires → w < 2 ^ (2 ^ m) → free maxWires (member w) j ≡ free m (member w) j
 unfolding free
 free-four m w j h l = ap₂ (λ (x y : Bool). x && y) (occurs-four m w j 0 h l) (occurs-four m w j 1 h l)
 
 -- the projection of all patterns as two masks
-pub mask-bit : (sets : List ℕ) (j b p : ℕ) → p < 16 → bit (maskOf sets j b) p ≡ isOne (occurs 4 (ofSets sets p) j b)
+pub mask-bit : (sets : List ℕ) (j b p : ℕ) → p < maxPatterns → bit (maskOf sets j b) p ≡ isOne (occurs maxWires (ofSets sets p) j b)
 unfolding maskOf
-mask-bit sets j b p l = bit-ofBits (maskBit sets j b) 16 (λ q _. isOne-lt-two (occurs 4 (ofSets sets q) j b)) p l
+mask-bit sets j b p l = bit-ofBits (maskBit sets j b) maxPatterns (λ q _. isOne-lt-two (occurs maxWires (ofSets sets q) j b)) p l
 
 pub none-occurs : (sets : List ℕ) (p j b : ℕ) → getD sets p 0 ≡ 0 → maskBit sets j b p ≡ 0
 unfolding ofSets member isOne
 none-occurs sets p j b e =
     ap isOne
-    (ap (λ w. occurs 4 (member w) j b) e
-    ∙ test-no (occurs 4 (member 0) j b) (not-T (occurs 4 (member 0) j b) (λ t. let u = occurs-at 4 (member 0) j b t in no-member (u .0) (u .2))))
+    (ap (λ w. occurs maxWires (member w) j b) e
+    ∙ test-no (occurs maxWires (member 0) j b) (not-T (occurs maxWires (member 0) j b) (λ t. let u = occurs-at maxWires (member 0) j b t in no-member (u .0) (u .2))))
 
 -- the mask of the patterns there are is the whole mask
-pub mask-short : (n : ℕ) (sets : List ℕ) (j b : ℕ) → n ≤ 4 → NonePast n sets → ofBits (2 ^ n) (maskBit sets j b) ≡ maskOf sets j b
+pub mask-short : (n : ℕ) (sets : List ℕ) (j b : ℕ) → n ≤ maxInputs → NonePast n sets → ofBits (2 ^ n) (maskBit sets j b) ≡ maskOf sets j b
 unfolding maskOf
-mask-short n sets j b h past = sym (ofBits-short (maskBit sets j b) (2 ^ n) 16 (pow-mono {i = n} {j = 4} h) (λ p l. none-occurs sets p j b (past p l)))
+mask-short n sets j b h past = sym (ofBits-short (maskBit sets j b) (2 ^ n) maxPatterns (pow-mono {i = n} {j = maxInputs} h) (λ p l. none-occurs sets p j b (past p l)))
 
-pub mask-lt : (n m : ℕ) (sets : List ℕ) (j b : ℕ) → Narrow n m sets → n ≤ 4 → maskOf sets j b < 2 ^ (2 ^ n)
+pub mask-lt : (n m : ℕ) (sets : List ℕ) (j b : ℕ) → Narrow n m sets → n ≤ maxInputs → maskOf sets j b < 2 ^ (2 ^ n)
 mask-lt n m sets j b w h = subst (λ x. x < 2 ^ (2 ^ n)) (mask-short n sets j b h (w .past)) (found-lt sets j b (2 ^ n))
 
-below-sixteen : (n p : ℕ) → n ≤ 4 → p < 2 ^ n → p < 16
-below-sixteen n p h l = lt-of-lt-of-le l (pow-mono {i = n} {j = 4} h)
+below-sixteen : (n p : ℕ) → n ≤ maxInputs → p < 2 ^ n → p < maxPatterns
+below-sixteen n p h l = lt-of-lt-of-le l (pow-mono {i = n} {j = maxInputs} h)
 
-pub mask-projection : (n m : ℕ) (sets : List ℕ) (j p b : ℕ) → m ≤ 4 → n ≤ 4 → Narrow n m sets → p < 2 ^ n → b < 2
+pub mask-projection : (n m : ℕ) (sets : List ℕ) (j p b : ℕ) → m ≤ maxWires → n ≤ maxInputs → Narrow n m sets → p < 2 ^ n → b < 2
     → masked (maskOf sets j 0) (maskOf sets j 1) p b ≡ occurs m (ofSets sets p) j b
 unfolding masked ofSets member
 mask-projection n m sets j p b hm hn w l lb = go b lb
@@ -162,7 +165,7 @@ mask-projection n m sets j p b hm hn w l lb = go b lb
     side : (c : ℕ) → eqb (bit (maskOf sets j c) p) 1 ≡ occurs m (ofSets sets p) j c
     side c =
         ap (λ x. eqb x 1) (mask-bit sets j c p (below-sixteen n p hn l))
-        ∙ one-test (occurs 4 (ofSets sets p) j c)
+        ∙ one-test (occurs maxWires (ofSets sets p) j c)
         ∙ occurs-four m (getD sets p 0) j c hm (w .small p)
 
     go : (c : ℕ) → c < 2 → eqb (bit (cond (eqb c 0) (maskOf sets j 0) (maskOf sets j 1)) p) 1 ≡ occurs m (ofSets sets p) j c
@@ -170,26 +173,26 @@ mask-projection n m sets j p b hm hn w l lb = go b lb
     go (suc zero) h = side 1
     go (suc (suc c)) h = absurd (omega arith)
 
-pub mask-covers : (n m : ℕ) (sets : List ℕ) (j p : ℕ) → m ≤ 4 → n ≤ 4 → Narrow n m sets → WellDefined n m (ofSets sets) → p < 2 ^ n
+pub mask-covers : (n m : ℕ) (sets : List ℕ) (j p : ℕ) → m ≤ maxWires → n ≤ maxInputs → Narrow n m sets → WellDefined n m (ofSets sets) → p < 2 ^ n
     → 1 ≤ bit (maskOf sets j 0) p + bit (maskOf sets j 1) p
 unfolding isOne
 mask-covers n m sets j p hm hn w wd l =
     let u = wd p l in
     let some : (b : ℕ) → bit (u .0) j ≡ b → bit (maskOf sets j b) p ≡ 1 =
     λ b e. mask-bit sets j b p (below-sixteen n p hn l)
-    ∙ ap isOne (test-yes (occurs 4 (ofSets sets p) j b) (occurs-intro 4 (ofSets sets p) j b (u .0) (lt-of-lt-of-le (u .1) (pow-mono {i = m} {j = 4} hm)) (u .2) e)) in
+    ∙ ap isOne (test-yes (occurs maxWires (ofSets sets p) j b) (occurs-intro maxWires (ofSets sets p) j b (u .0) (lt-of-lt-of-le (u .1) (pow-mono {i = m} {j = maxWires} hm)) (u .2) e)) in
     ⊎-elim (λ e. omega (arith, some 0 e)) (λ e. omega (arith, some 1 e)) (bit-cases (u .0) j)
 
 -- the value of four tables, those past wire m - 1 being 0
-pub value-four : (m : ℕ) (ts : List ℕ) (p : ℕ) → m ≤ 4 → ((j : ℕ) → m ≤ j → wires ts j ≡ 0) → value 4 (wires ts) p ≡ value m (wires ts) p
+pub value-four : (m : ℕ) (ts : List ℕ) (p : ℕ) → m ≤ maxWires → ((j : ℕ) → m ≤ j → wires ts j ≡ 0) → value maxWires (wires ts) p ≡ value m (wires ts) p
 unfolding value
-value-four m ts p h z = ofBits-short (λ j. bit (wires ts j) p) m 4 h (λ j l. ap (λ x. bit x p) (z j l) ∙ zero-bit p)
+value-four m ts p h z = ofBits-short (λ j. bit (wires ts j) p) m maxWires h (λ j l. ap (λ x. bit x p) (z j l) ∙ zero-bit p)
 
 -- a split changes one bit of a mask at most
-pub mask-narrowed : (sets : List ℕ) (p j b i c : ℕ) → p < 16 → length sets ≡ 16 → getD sets p 0 < 65536
-    → maskOf (narrowed sets p j b) i c ≡ cut (maskOf sets i c) p (occurs 4 (member (withBit (getD sets p 0) j b)) i c)
+pub mask-narrowed : (sets : List ℕ) (p j b i c : ℕ) → p < maxPatterns → length sets ≡ maxPatterns → getD sets p 0 < 2 ^ maxValues
+    → maskOf (narrowed sets p j b) i c ≡ cut (maskOf sets i c) p (occurs maxWires (member (withBit (getD sets p 0) j b)) i c)
 unfolding maskOf narrowed ofBits cut isOne ofSets member
-mask-narrowed sets p j b i c hp len small = go (occurs 4 (member w) i c) refl
+mask-narrowed sets p j b i c hp len small = go (occurs maxWires (member w) i c) refl
   where
     w : ℕ
     w = withBit (getD sets p 0) j b
@@ -201,21 +204,21 @@ mask-narrowed sets p j b i c hp len small = go (occurs 4 (member w) i c) refl
     g q = maskBit sets i c q * 2 ^ q
 
     off : (q : ℕ) → (q ≡ p → ⊥) → f q ≡ g q
-    off q ne = ap (λ x. isOne (occurs 4 (member x) i c) * 2 ^ q) (getD-set-other sets p q w 0 ne)
+    off q ne = ap (λ x. isOne (occurs maxWires (member x) i c) * 2 ^ q) (getD-set-other sets p q w 0 ne)
 
-    at : (t : Bool) → occurs 4 (member w) i c ≡ t → f p ≡ isOne t * 2 ^ p
-    at t e = ap (λ x. isOne (occurs 4 (member x) i c) * 2 ^ p) (getD-set-same sets p w 0 (omega arith)) ∙ ap (λ x. isOne x * 2 ^ p) e
+    at : (t : Bool) → occurs maxWires (member w) i c ≡ t → f p ≡ isOne t * 2 ^ p
+    at t e = ap (λ x. isOne (occurs maxWires (member x) i c) * 2 ^ p) (getD-set-same sets p w 0 (omega arith)) ∙ ap (λ x. isOne x * 2 ^ p) e
 
-    whole : T (occurs 4 (member w) i c) → T (occurs 4 (member (getD sets p 0)) i c)
+    whole : T (occurs maxWires (member w) i c) → T (occurs maxWires (member (getD sets p 0)) i c)
     whole =
-        occurs-part 4 (member w) (member (getD sets p 0)) i c
+        occurs-part maxWires (member w) (member (getD sets p 0)) i c
         (λ v t. and-left (member (getD sets p 0) v) (eqb (bit v j) b) (subst T (with-test (getD sets p 0) j b v small) t))
 
-    go : (t : Bool) → occurs 4 (member w) i c ≡ t → sum 16 f ≡ cut (sum 16 g) p t
+    go : (t : Bool) → occurs maxWires (member w) i c ≡ t → sum maxPatterns f ≡ cut (sum maxPatterns g) p t
     go true e =
-        let same : f p ≡ g p = at true e ∙ ap (λ x. isOne x * 2 ^ p) (sym (test-yes (occurs 4 (member (getD sets p 0)) i c) (whole (rw e tt)))) in
-        sum-cong 16 f g (λ q _. ⊎-elim (λ (d : T (eqb q p)). rw (eqb→eq q p d) same) (λ d. off q (λ h. T-not (eqb q p) d (eq-test h))) (decide (eqb q p)))
+        let same : f p ≡ g p = at true e ∙ ap (λ x. isOne x * 2 ^ p) (sym (test-yes (occurs maxWires (member (getD sets p 0)) i c) (whole (rw e tt)))) in
+        sum-cong maxPatterns f g (λ q _. ⊎-elim (λ (d : T (eqb q p)). rw (eqb→eq q p d) same) (λ d. off q (λ h. T-not (eqb q p) d (eq-test h))) (decide (eqb q p)))
     go false e =
-        let gp : bit (sum 16 g) p * 2 ^ p ≡ g p = ap (λ x. x * 2 ^ p) (mask-bit sets i c p hp) in
+        let gp : bit (sum maxPatterns g) p * 2 ^ p ≡ g p = ap (λ x. x * 2 ^ p) (mask-bit sets i c p hp) in
         let fp : f p ≡ 0 * 2 ^ p = at false e in
-        omega (arith, sum-but-one f g 16 p hp off)
+        omega (arith, sum-but-one f g maxPatterns p hp off)

@@ -10,8 +10,8 @@ use lib.Pow.{pow-pos, split}
 use Rattle.table.specs.Bits.{bit, sum, ofBits}
 use Rattle.table.proofs.Bits.{bit-lt, bit-low, bit-div}
 use Rattle.relation.specs.Source.{value}
-use Rattle.relation.specs.Tests.{wires}
-use Rattle.relation.specs.Masks.{sideBySide, valueIn}
+use Rattle.table.specs.Cells.{wires}
+use Rattle.relation.specs.Inner.Masks.{sideBySide, valueIn}
 
 -- the lowest of 16 bits under a mask, and the rest of the number under the rest of the mask
 lowest-kept : (x rest : ℕ) → bitAnd x (rest * 2 ^ 16 + 1) ≡ bitAnd (x / 2 ^ 16) rest * 2 ^ 16 + bit x 0

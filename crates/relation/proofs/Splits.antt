@@ -6,10 +6,12 @@ use mathlib.Core.Bool.{Bool, true, false, not, _||_}
 use native.Mathlib.Omega.{arith}
 use lib.Dec.{T, T-not, eqb, eqb→eq, eqb-refl}
 use Rattle.base.proofs.Tests.{and-intro, and-left, and-right, or-left, or-right, or-cases, decide, eq-test}
-use Rattle.table.specs.Bits.{bit, sum}
+use Rattle.table.specs.Bits.{bit, sum, isOne}
 use Rattle.table.proofs.Bits.{sum-le, sum-lt, sum-bound, bit-cases}
-use Rattle.relation.specs.Source.{Rel, Tables, Part, StrictPart, Split, Open, WellDefined, Compatible, value}
-use Rattle.relation.specs.Tests.{keep, agree, occurs, free, fits, isOne, openPairs}
+use Rattle.relation.specs.Source.{Rel, Tables, WellDefined, Compatible, value}
+use Rattle.relation.specs.Inner.Source.{Part, StrictPart, Split, Open, fits}
+use Rattle.relation.specs.Tests.{keep, agree, occurs, free, openPairs}
+use Rattle.table.proofs.BitColumns.{isOne-small}
 use Rattle.relation.proofs.Decide.{value-bit, occurs-intro, occurs-at, fits-at, free-both}
 
 -- a part of a split
@@ -59,11 +61,6 @@ unfolding isOne
 isOne-lt true b h t = absurd (h tt)
 isOne-lt false true h t = omega arith
 isOne-lt false false h t = absurd t
-
-pub isOne-small : (a : Bool) → isOne a ≤ 1
-unfolding isOne
-isOne-small true = omega arith
-isOne-small false = omega arith
 
 pub open-bound : (n m : ℕ) (R : Rel) → openPairs n m R ≤ 2 ^ n * m
 unfolding openPairs

@@ -1,8 +1,6 @@
 -- Boolean relations as source 001 defines them. An input vertex (document 01: pattern) is a number below 2 ^ n, an output vertex (wire value) one
 -- below 2 ^ m, whose bit j is output j (wire j).
 use Prim.Native.Nat.{ℕ, _^_, _<_}
-use mathlib.Core.Path.{_≡_}
-use mathlib.Core.Logic.{_↔_}
 use mathlib.Core.Bool.{Bool}
 use lib.Dec.{T}
 use Rattle.table.specs.Bits.{bit, ofBits}
@@ -11,31 +9,9 @@ use Rattle.table.specs.Bits.{bit, ofBits}
 abbrev pub Rel : Type 0
 Rel = ℕ → ℕ → Bool
 
--- the subset order
-abbrev pub Part : Rel → Rel → Type 0
-Part R Q = (p v : ℕ) → T (R p v) → T (Q p v)
-
--- a strict subset among the patterns and values there are
-pub record StrictPart (n m : ℕ) (R Q : Rel) : Type 0 where
-  pub part : Part R Q
-  pub p : ℕ
-  pub v : ℕ
-  pub pattern : p < 2 ^ n
-  pub value : v < 2 ^ m
-  pub inside : T (Q p v)
-  pub outside : T (R p v) → ⊥
-
 -- Definition 4.6: well defined (left-total), that is, some value is allowed on each pattern
 abbrev pub WellDefined : ℕ → ℕ → Rel → Type 0
 WellDefined n m R = (p : ℕ) → p < 2 ^ n → (v : ℕ) × (v < 2 ^ m) × T (R p v)
-
--- Definition 5.1: b is in the projection onto output j at p where some (p, v) in R has output j at b
-abbrev pub Projects : ℕ → Rel → ℕ → ℕ → ℕ → Type 0
-Projects m R j p b = (v : ℕ) × (v < 2 ^ m) × T (R p v) × (bit v j ≡ b)
-
--- the projection at p is {0, 1} (document 01: an open pair)
-abbrev pub Open : ℕ → Rel → ℕ → ℕ → Type 0
-Open m R p j = Projects m R j p 0 × Projects m R j p 1
 
 -- Definition 4.3: a multiple-output function is the vector of its outputs' truth tables, here by output
 abbrev pub Tables : Type 0
@@ -52,7 +28,3 @@ value m X p = ofBits m (λ j. bit (X j) p)
 -- Definitions 4.9 and 5.3: the function is a subset of R
 abbrev pub Compatible : ℕ → ℕ → Rel → Tables → Type 0
 Compatible n m R X = (p : ℕ) → p < 2 ^ n → T (R p (value m X p))
-
--- Definition 5.4: Q is R less the pairs (p, v) whose output j is not b
-abbrev pub Split : Rel → ℕ → ℕ → ℕ → Rel → Type 0
-Split R p j b Q = (q v : ℕ) → T (Q q v) ↔ (T (R q v) × (q ≡ p → bit v j ≡ b))

@@ -5,17 +5,13 @@ use mathlib.Core.List.{List}
 use lib.Dec.{eqb}
 use lib.ListN.{getD}
 use Rattle.base.specs.Lowest.{lowest}
-use Rattle.table.specs.Bits.{bit, all, any, sum}
-use Rattle.table.specs.Pick.{Proj, suits}
+use Rattle.table.specs.Bits.{bit, all, any, sum, isOne}
+use Rattle.table.specs.Pick.{Proj}
 use Rattle.relation.specs.Source.{Rel, Tables, value}
 
 -- the relation of a list of sets, one number for each pattern, whose bit v says whether value v is allowed
 unfoldable pub ofSets : List ℕ → Rel
 ofSets sets p v = eqb (bit (getD sets p 0) v) 1
-
--- the tables of a list, in the order of the wires; 0 past its end
-abbrev pub wires : List ℕ → Tables
-wires ts j = getD ts j 0
 
 -- one part of a split: wire j is b on pattern p, and nothing else changes
 unfoldable pub keep : Rel → ℕ → ℕ → ℕ → Rel
@@ -32,10 +28,6 @@ occurs m S j b = any (2 ^ m) (λ v. S v && eqb (bit v j) b)
 -- the projection on wire j
 abbrev pub projection : ℕ → Rel → ℕ → Proj
 projection m R j p b = occurs m (R p) j b
-
--- the projection on wire j admits table t
-unfoldable pub fits : ℕ → ℕ → Rel → ℕ → ℕ → Bool
-fits n m R j t = suits n (projection m R j) t
 
 -- wire j is open in S: both bits occur
 unfoldable pub free : ℕ → (ℕ → Bool) → ℕ → Bool
@@ -56,11 +48,6 @@ conflict n m R X = lowest (2 ^ n) (λ p. not (R p (value m X p)))
 -- the first pattern with no value; 2 ^ n where there is none
 unfoldable pub emptyPattern : ℕ → ℕ → Rel → ℕ
 emptyPattern n m R = lowest (2 ^ n) (λ p. not (any (2 ^ m) (R p)))
-
--- a test as a number
-unfoldable pub isOne : Bool → ℕ
-isOne true = 1
-isOne false = 0
 
 -- how many pairs of pattern and wire are open
 unfoldable pub openPairs : ℕ → ℕ → Rel → ℕ

@@ -4,16 +4,19 @@ ghost use mathlib.Core.Path.{_≡_};
 ghost use Prim.Native.Nat.{_≤_, _^_};
 ghost use lib.Dec.{eqb};
 ghost use lib.ListN.{getD};
+ghost use Rattle.sheet.specs.Limits.{maxInputs, maxWires};
 ghost use Rattle.base.specs.Lowest.{lowest};
 ghost use Rattle.relation.specs.Handed.{widePattern};
-use crate::patterns::patterns_of;
+use sheet::Sheet;
+use sheet::limits::patterns_of;
+use sheet::limits::values_of;
 
 // The first set that has a value of more than m wires, or the number of patterns.
-pub fn wide_pattern(n: u8, m: u8, sets: [u16; 16]) -> u8
-    requires { ⌜ (n ≤ 4) × (m ≤ 4) ⌝ }
+pub fn wide_pattern(n: u8, m: u8, sets: [u16; Sheet::MAX_PATTERNS]) -> u8
+    requires { ⌜ (n ≤ maxInputs) × (m ≤ maxWires) ⌝ }
     ensures { λ r. ⌜ r ≡ widePattern n m sets ⌝ }
 {
-    let limit: u32 = 1 << patterns_of(m);
+    let limit: u32 = 1 << values_of(m);
     let count = patterns_of(n);
     for p in 0..count {
         if limit <= sets[p as usize] as u32 {
@@ -24,8 +27,8 @@ pub fn wide_pattern(n: u8, m: u8, sets: [u16; 16]) -> u8
 }
 
 // The first set that has no value at all, or the number of patterns.
-pub fn empty_pattern(n: u8, sets: [u16; 16]) -> u8
-    requires { ⌜ n ≤ 4 ⌝ }
+pub fn empty_pattern(n: u8, sets: [u16; Sheet::MAX_PATTERNS]) -> u8
+    requires { ⌜ n ≤ maxInputs ⌝ }
     ensures { λ r. ⌜ r ≡ lowest (2 ^ n) (λ p. eqb (getD sets p 0) 0) ⌝ }
 {
     let count = patterns_of(n);

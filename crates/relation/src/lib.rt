@@ -1,9 +1,10 @@
 // Boolean relations: which wire values are allowed on each input pattern.
 use crate::handed::empty_pattern;
 use crate::handed::wide_pattern;
-use crate::patterns::patterns_of;
 use base::Refusal;
 use base::Verdict;
+use sheet::Sheet;
+use sheet::limits::patterns_of;
 use sheet::limits::sizes_out;
 ghost use mathlib.Core.Path.{_≡_};
 ghost use Rattle.base.specs.Cases.{verdictCase};
@@ -17,7 +18,7 @@ mod handed; // the first pattern that a test refuses
 pub struct Relation {
     pub n: u8,
     pub m: u8,
-    pub sets: [u16; 16],
+    pub sets: [u16; Sheet::MAX_PATTERNS],
 }
 
 impl Relation {

@@ -1,41 +1,39 @@
-// The sets of all sixteen patterns (input vertices) together.
-// Inner functions: the search and the audit meet what they require, wires below 4, bits below 2 and patterns below 16.
+// The sets of all patterns (input vertices) together.
+// Inner functions: the search and the audit meet what they require, wires, bits and patterns that there are.
 ghost use mathlib.Core.Path.{_≡_};
 ghost use mathlib.Core.Bool.{cond};
 ghost use Prim.Native.Nat.{_<_, _≤_, _^_};
 ghost use lib.Dec.{eqb, ltb};
+ghost use Rattle.sheet.specs.Limits.{maxInputs, maxWires, maxPatterns, maxValues};
 ghost use Rattle.table.specs.Bits.{bit};
 ghost use Rattle.relation.specs.Source.{value};
-ghost use Rattle.relation.specs.Tests.{wires};
-ghost use Rattle.relation.specs.Masks.{sideBySide, valueIn, agreed, cleared};
-use crate::values::column;
+ghost use Rattle.table.specs.Cells.{wires};
+ghost use Rattle.relation.specs.Inner.Masks.{sideBySide, valueIn, agreed, cleared};
+use sheet::Sheet;
+use sheet::limits::patterns_of;
+use table::columns::column;
 
-// The number of patterns of n inputs.
-pub fn patterns_of(n: u8) -> u8
-    requires { ⌜ n ≤ 4 ⌝ }
-    ensures { λ r. ⌜ (r ≡ 2 ^ n) × (r ≤ 16) ⌝ }
-{
-    match n {
-        0 => 1,
-        1 => 2,
-        2 => 4,
-        3 => 8,
-        _ => 16,
-    }
-}
+// Where the tables of wires 1, 2 and 3 begin beside that of wire 0, each with as many bits as there are patterns.
+const SIDE_1: u64 = 1 << Sheet::MAX_PATTERNS;
+
+const SIDE_2: u64 = 1 << (2 * Sheet::MAX_PATTERNS);
+
+const SIDE_3: u64 = 1 << (3 * Sheet::MAX_PATTERNS);
+
+const VALUES: u64 = Sheet::MAX_VALUES as u64;
 
 // Bit p of a table.
 pub fn bit_of(table: u16, p: u8) -> u16
-    requires { ⌜ p < 16 ⌝ }
+    requires { ⌜ p < maxPatterns ⌝ }
     ensures { λ r. ⌜ (r ≡ bit table p) × (r < 2) ⌝ }
 {
     (table >> p) % 2
 }
 
-// The value that four tables drive on pattern p.
-pub fn value_of(tables: [u16; 4], p: u8) -> u8
-    requires { ⌜ p < 16 ⌝ }
-    ensures { λ r. ⌜ (r ≡ value 4 (wires tables) p) × (r < 16) ⌝ }
+// The value that the tables of all wires drive on pattern p.
+pub fn value_of(tables: [u16; Sheet::WIRES], p: u8) -> u8
+    requires { ⌜ p < maxPatterns ⌝ }
+    ensures { λ r. ⌜ (r ≡ value maxWires (wires tables) p) × (r < maxValues) ⌝ }
 {
     (bit_of(tables[0], p)
         + 2 * bit_of(tables[1], p)
@@ -43,24 +41,24 @@ pub fn value_of(tables: [u16; 4], p: u8) -> u8
         + 8 * bit_of(tables[3], p)) as u8
 }
 
-// Four tables side by side in one number, 16 bits each, so that the value on a pattern takes one shift.
-pub fn side_by_side(tables: [u16; 4]) -> u64
+// The tables of all wires side by side in one number, as many bits each as there are patterns, so that the value on a pattern takes one shift.
+pub fn side_by_side(tables: [u16; Sheet::WIRES]) -> u64
     ensures { λ r. ⌜ r ≡ sideBySide tables ⌝ }
 {
     tables[0] as u64
-        + tables[1] as u64 * 65536
-        + tables[2] as u64 * 4294967296
-        + tables[3] as u64 * 281474976710656
+        + tables[1] as u64 * SIDE_1
+        + tables[2] as u64 * SIDE_2
+        + tables[3] as u64 * SIDE_3
 }
 
-// The value that four tables side by side drive on pattern p: the bits 0, 16, 32 and 48 are moved together.
+// The value that tables side by side drive on pattern p: their lowest bits, 0, 16, 32 and 48, are moved together.
 pub fn value_in(tables: u64, p: u8) -> u8
-    requires { ⌜ p < 16 ⌝ }
-    ensures { λ r. ⌜ (r ≡ valueIn tables p) × (r < 16) ⌝ }
+    requires { ⌜ p < maxPatterns ⌝ }
+    ensures { λ r. ⌜ (r ≡ valueIn tables p) × (r < maxValues) ⌝ }
 {
     let bits = (tables >> p) & 0x0001_0001_0001_0001;
     let pairs = bits + (bits >> 15);
-    ((pairs + (pairs >> 30)) % 16) as u8
+    ((pairs + (pairs >> 30)) % VALUES) as u8
 }
 
 // The column of a wire's bit, of its two columns. Chosen and not looked up, so that all patterns are narrowed at once.
@@ -71,14 +69,14 @@ fn choose(bit: u16, zero: u16, one: u16) -> u16
 }
 
 // The sets once wire j has table t.
-pub fn agreeing(sets: [u16; 16], j: u8, t: u16) -> [u16; 16]
-    requires { ⌜ j < 4 ⌝ }
+pub fn agreeing(sets: [u16; Sheet::MAX_PATTERNS], j: u8, t: u16) -> [u16; Sheet::MAX_PATTERNS]
+    requires { ⌜ j < maxWires ⌝ }
     ensures { λ r. ⌜ r ≡ agreed sets j t ⌝ }
 {
     let zero = column(j, 0);
     let one = column(j, 1);
     let mut next = sets;
-    for p in 0..16u8 {
+    for p in 0..Sheet::MAX_PATTERNS as u8 {
         let at = p as usize;
         next[at] = sets[at] & choose(bit_of(t, p), zero, one);
     }
@@ -93,13 +91,13 @@ fn within(p: u8, count: u8, set: u16) -> u16
 }
 
 // The sets with those past the last pattern of n inputs emptied.
-pub fn clear_past(n: u8, sets: [u16; 16]) -> [u16; 16]
-    requires { ⌜ n ≤ 4 ⌝ }
+pub fn clear_past(n: u8, sets: [u16; Sheet::MAX_PATTERNS]) -> [u16; Sheet::MAX_PATTERNS]
+    requires { ⌜ n ≤ maxInputs ⌝ }
     ensures { λ r. ⌜ r ≡ cleared n sets ⌝ }
 {
     let count = patterns_of(n);
     let mut next = sets;
-    for p in 0..16u8 {
+    for p in 0..Sheet::MAX_PATTERNS as u8 {
         let at = p as usize;
         next[at] = within(p, count, sets[at]);
     }

@@ -7,7 +7,8 @@ use Rattle.base.specs.Refusals.{refusalAt}
 use Rattle.base.proofs.Cases.{case-one}
 use Rattle.search.specs.declared.Mark.{Mark}
 use Rattle.search.specs.declared.Mark.the-variants.{Best, Stopped, Refused}
-use Rattle.search.specs.Cases.{bestOutcome, markCase}
+use Rattle.branch_bound.specs.Reply.{bestOutcome}
+use Rattle.search.specs.Cases.{markCase}
 
 abbrev back : Case → Mark
 back c = cond (isRefused c) (Refused (refusalAt (c .number) (c .place))) (cond (eqb (c .outcome) bestOutcome) Best Stopped)

@@ -1,30 +1,24 @@
 -- The entry: a relation that passes its test is searched as it stands, and the answer is the reply of document 01.
 use Prim.Native.Nat.{ℕ, _≤_}
-use mathlib.Core.Path.{_≡_, refl, ap, subst, _∙_}
+use mathlib.Core.Path.{_≡_, refl, ap, _∙_}
 use mathlib.Core.Bool.{true, false}
 use mathlib.Core.List.{List, [], _∷_}
 use lib.ListN.{length}
+use Rattle.sheet.specs.Limits.{maxInputs, maxPatterns}
 use Rattle.base.specs.declared.Refusal.{Refusal}
 use Rattle.base.specs.Cases.{accepting, acceptedCase, refusedCase}
 use Rattle.relation.specs.declared.Relation.{Relation}
 use Rattle.relation.specs.Source.{Rel}
 use Rattle.relation.specs.Tests.{ofSets}
-use Rattle.relation.specs.Masks.{cleared}
+use Rattle.relation.specs.Inner.Masks.{cleared}
 use Rattle.relation.specs.Handed.{relationOf, checkOf}
 use Rattle.relation.proofs.Sets.{Fit, check-well-formed, cleared-takes, cleared-narrow}
-use Rattle.search.specs.declared.Part.{Part}
-use Rattle.search.specs.declared.State.{State}
-use Rattle.search.specs.Cases.{bestOutcome, stoppedOutcome, SearchReply}
-use Rattle.search.specs.Search.{floor, start, searchPart, run}
-use Rattle.search.specs.TreeBoard.{tree}
-use Rattle.search.specs.Reply.{markOf, answerOf, refusedWith, afterCheck, searchOf}
-use Rattle.search.specs.Kept.{Sized, Sets, Held, Kept, stateOf}
-
--- the whole relation as the search holds it
-pub held-whole : (w : Part) {n m : ℕ} {sets : List ℕ} → Kept w → w .n ≡ n → w .m ≡ m → w .sets ≡ sets → Held n m sets (w .pairs) (w .ranks)
-held-whole w {n} {m} {sets} k en em es =
-    subst (λ x. Held x m sets (w .pairs) (w .ranks)) en
-    (subst (λ x. Held (w .n) x sets (w .pairs) (w .ranks)) em (subst (λ x. Held (w .n) (w .m) x (w .pairs) (w .ranks)) es k))
+use Rattle.branch_bound.specs.declared.State.{State}
+use Rattle.branch_bound.specs.Reply.{bestOutcome, stoppedOutcome, SearchReply, markOf, answerOf, refusedWith, searchTested, searchOf}
+use Rattle.branch_bound.specs.Search.{floor, start, searchPart, run}
+use Rattle.branch_bound.specs.TreeBoard.{tree}
+use Rattle.parts.specs.Inner.Parts.{InLimits, PartSets}
+use Rattle.search.specs.Inner.Tally.{stateOf}
 
 -- what the parts of the run make together
 started : (n m : ℕ) (R : Rel) (st : State) → st ≡ start (tree n m) R → stateOf (st .tables) (st .cells ∷ 0 ∷ 0 ∷ []) ≡ start (tree n m) R
@@ -47,29 +41,29 @@ unfolding answerOf markOf
 best-answer n m R s t e h = rw (← e, h)
 
 -- a relation that passes its test, and its sets as the code holds them
-module _ (r : Relation) (long : length (r .sets) ≡ 16) (passes : checkOf r ≡ acceptedCase) where
+module _ (r : Relation) (long : length (r .sets) ≡ maxPatterns) (passes : checkOf r ≡ acceptedCase) where
   fit : Fit r
   fit = check-well-formed r passes
 
-  pub inputs : r .n ≤ 4
-  inputs = fit .few-inputs
+  pub inputs : r .n ≤ maxInputs
+  inputs = fit .sizes .n-most
 
-  pub sized : Sized (r .n) (r .m)
-  sized = record { one = fit .some-inputs; inputs = fit .few-inputs; wires = fit .few-wires }
+  pub sized : InLimits (r .n) (r .m)
+  sized = record { one = fit .sizes .n-least; inputs = fit .sizes .n-most; wires = fit .sizes .m-most }
 
   pub as-held : ofSets (cleared (r .n) (r .sets)) ≡ relationOf r
   unfolding relationOf
-  as-held = cleared-takes (r .n) (r .sets) (fit .few-inputs) long
+  as-held = cleared-takes (r .n) (r .sets) (fit .sizes .n-most) long
 
-  pub held : Sets (r .n) (r .m) (cleared (r .n) (r .sets))
+  pub held : PartSets (r .n) (r .m) (cleared (r .n) (r .sets))
   held =
-      let w = cleared-narrow (r .n) (r .m) (r .sets) long (fit .few-inputs) (fit .small) in
+      let w = cleared-narrow (r .n) (r .m) (r .sets) long (fit .sizes .n-most) (fit .small) in
       record { long = w .long; small = w .small; past = w .past; defined = rw as-held (fit .well-defined) }
 
   pub answered : (budget : ℕ) → searchOf r budget ≡ answerOf (r .n) (r .m) (relationOf r) (run (tree (r .n) (r .m)) budget (relationOf r))
-  unfolding searchOf afterCheck
+  unfolding searchOf searchTested
   answered budget = rw passes
 
 pub turned-away : (r : Relation) (budget : ℕ) (f : Refusal) → checkOf r ≡ refusedCase f → searchOf r budget ≡ refusedWith (refusedCase f)
-unfolding searchOf afterCheck
+unfolding searchOf searchTested
 turned-away r budget f e = rw e

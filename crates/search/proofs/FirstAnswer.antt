@@ -1,5 +1,5 @@
 -- The first answer, wire by wire.
-use Prim.Native.Nat.{ℕ, _+_, _*_, _^_, _/_, _%_, _<_, _≤_}
+use Prim.Native.Nat.{ℕ, _+_, _*_, _^_, _<_, _≤_}
 use mathlib.Core.Path.{_≡_, refl, sym, ap, ap₂, _∙_}
 use mathlib.Core.Logic.{⊎-elim}
 use mathlib.Core.Bool.{false, cond}
@@ -12,45 +12,47 @@ use lib.Dec.{T-not, eqb, ltb, eqb→eq, ltb→lt, lt→ltb}
 use lib.ListN.{length, getD, set, length-set}
 use lib.Pow.{pow-mono}
 use lib.Seq.{getD-set-same, getD-set-other}
-use Rattle.sheet.specs.Limits.{maxWires}
+use Rattle.sheet.specs.Limits.{maxWires, maxValues}
 use Rattle.base.proofs.Tests.{decide, eq-test, test-ext}
 use Rattle.table.specs.Bits.{sum, tabulate}
-use Rattle.table.specs.Cells.{cells}
-use Rattle.table.specs.Pick.{pickOf, rank, tableSpace}
+use Rattle.table.specs.Cells.{cells, wires}
+use Rattle.table.specs.Inner.Ranks.{pickOf, rank}
 use Rattle.table.proofs.Bits.{tabulate-at, tabulate-length, sum-cong}
 use Rattle.relation.specs.Source.{Tables}
-use Rattle.relation.specs.Tests.{ofSets, wires, agree}
-use Rattle.relation.specs.Masks.{maskOf, agreed}
+use Rattle.relation.specs.Tests.{ofSets, agree}
+use Rattle.relation.specs.Inner.Masks.{maskOf, agreed}
 use Rattle.relation.proofs.Splits.{agree-well-defined}
 use Rattle.relation.proofs.Sets.{agreed-agree, agreed-narrow}
 use Rattle.base.proofs.Tabulate.{filled-tabulate}
-use Rattle.search.specs.declared.State.{State}
-use Rattle.search.specs.Search.{tablesOf, total, pick, left, quick, start}
-use Rattle.search.specs.TreeBoard.{tree}
-use Rattle.search.specs.Kept.{Sized, Sets}
-use Rattle.search.proofs.Picks.{wires-tables, pick-fits}
-use Rattle.search.proofs.Keeping.{narrow, kept-pick, least, rank-parts}
+use Rattle.branch_bound.specs.declared.State.{State}
+use Rattle.branch_bound.specs.Search.{replyTables, total, pick, left, quick, start}
+use Rattle.branch_bound.specs.TreeBoard.{tree}
+use Rattle.parts.specs.Inner.Ranks.{tableIn, cellsIn, cellsSpace}
+use Rattle.parts.specs.Inner.Parts.{InLimits, PartSets}
+use Rattle.branch_bound.proofs.Picks.{wires-tables, pick-fits}
+use Rattle.parts.proofs.Keeping.{narrow, kept-pick, least}
+use Rattle.parts.proofs.Packing.{rank-table, rank-cells}
 
 -- the table chosen for wire i
 abbrev chosen : ℕ → ℕ → List ℕ → Tables
 chosen n m sets i = pick (tree n m) (left (tree n m) (ofSets sets) i) i
 
 -- where wires 0 to j - 1 are chosen: what is left of the sets, the tables, and their cells
-pub record Taken (n m : ℕ) (sets : List ℕ) (j : ℕ) (rest tables : List ℕ) (sums : ℕ) : Type 0 where
+pub record ChosenBelow (n m : ℕ) (sets : List ℕ) (j : ℕ) (rest tables : List ℕ) (sums : ℕ) : Type 0 where
   pub reached : j ≤ m
-  pub kept : Sets n m rest
+  pub kept : PartSets n m rest
   pub is-left : ofSets rest ≡ left (tree n m) (ofSets sets) j
-  pub are-chosen : tables ≡ tablesOf j (chosen n m sets)
+  pub are-chosen : tables ≡ replyTables j (chosen n m sets)
   pub counted : sums ≡ sum j (λ i. cells n (chosen n m sets i))
-  pub few : sums ≤ j * tableSpace
+  pub few : sums ≤ j * cellsSpace
 
-pub none-taken : (n m : ℕ) (sets : List ℕ) → Sets n m sets → Taken n m sets 0 sets (0 ∷ 0 ∷ 0 ∷ 0 ∷ []) 0
-unfolding left tablesOf tabulate sum
+pub none-taken : (n m : ℕ) (sets : List ℕ) → PartSets n m sets → ChosenBelow n m sets 0 sets (0 ∷ 0 ∷ 0 ∷ 0 ∷ []) 0
+unfolding left replyTables tabulate sum
 none-taken n m sets ok = record { reached = omega arith; kept = ok; is-left = refl; are-chosen = refl; counted = refl; few = omega arith }
 
 -- one table more in a row of tables
-more-tables : (j : ℕ) (X : Tables) (tables : List ℕ) → j < maxWires → tables ≡ tablesOf j X → set tables j (X j) ≡ tablesOf (j + 1) X
-unfolding tablesOf
+more-tables : (j : ℕ) (X : Tables) (tables : List ℕ) → j < maxWires → tables ≡ replyTables j X → set tables j (X j) ≡ replyTables (j + 1) X
+unfolding replyTables
 more-tables j X tables lj e =
     let f : ℕ → ℕ = λ i. cond (ltb i j) (X i) 0 in
     let g : ℕ → ℕ = λ i. cond (ltb i (j + 1)) (X i) 0 in
@@ -71,22 +73,22 @@ more-tables j X tables lj e =
     below q ne h = omega arith
 
 -- the next wire, from the rank of its pick
-module _ (n m : ℕ) (sz : Sized n m) (sets : List ℕ) (j : ℕ) (rest tables : List ℕ) (sums : ℕ) (tk : Taken n m sets j rest tables sums) (lj : j < m) (r : ℕ) (er : r ≡ rank n (pickOf n (maskOf rest j 0) (maskOf rest j 1))) where
+module _ (n m : ℕ) (sz : InLimits n m) (sets : List ℕ) (j : ℕ) (rest tables : List ℕ) (sums : ℕ) (tk : ChosenBelow n m sets j rest tables sums) (lj : j < m) (r : ℕ) (er : r ≡ rank n (pickOf n (maskOf rest j 0) (maskOf rest j 1))) where
   is-chosen : pick (tree n m) (ofSets rest) j ≡ chosen n m sets j
   is-chosen = ap (λ R. pick (tree n m) R j) (tk .is-left)
 
-  parts : (r % tableSpace ≡ pick (tree n m) (ofSets rest) j) × (r / tableSpace ≡ cells n (pick (tree n m) (ofSets rest) j))
+  parts : (tableIn r ≡ pick (tree n m) (ofSets rest) j) × (cellsIn r ≡ cells n (pick (tree n m) (ofSets rest) j))
   parts =
       let k = kept-pick n m sz rest (tk .kept) j in
       let t = pick (tree n m) (ofSets rest) j in
-      let q = rank-parts n t (sz .inputs) (least n m sz rest (tk .kept) j .0) in
+      let l = least n m sz rest (tk .kept) j .0 in
       let e = er ∙ ap (rank n) k in
-      (ap (λ x. x % tableSpace) e ∙ q .0, ap (λ x. x / tableSpace) e ∙ q .1)
+      (ap tableIn e ∙ rank-table n t (sz .inputs) l, ap cellsIn e ∙ rank-cells n t (sz .inputs) l)
 
-  small : (p : ℕ) → getD rest p 0 < 65536
-  small p = lt-of-lt-of-le (tk .kept .small p) (pow-mono {i = 2 ^ m} {j = 2 ^ 4} (pow-mono {i = m} {j = 4} (sz .wires)))
+  small : (p : ℕ) → getD rest p 0 < 2 ^ maxValues
+  small p = lt-of-lt-of-le (tk .kept .small p) (pow-mono {i = 2 ^ m} {j = maxValues} (pow-mono {i = m} {j = maxWires} (sz .wires)))
 
-  pub next-taken : (t s : ℕ) → t ≡ r % tableSpace → s ≡ r / tableSpace → s < tableSpace → Taken n m sets (j + 1) (agreed rest j t) (set tables j t) (sums + s)
+  pub next-taken : (t s : ℕ) → t ≡ tableIn r → s ≡ cellsIn r → s < cellsSpace → ChosenBelow n m sets (j + 1) (agreed rest j t) (set tables j t) (sums + s)
   unfolding left tree sum
   next-taken t s et es ls =
       let R = ofSets rest in
@@ -110,13 +112,13 @@ module _ (n m : ℕ) (sz : Sized n m) (sets : List ℕ) (j : ℕ) (rest tables :
       }
 
 -- with all wires chosen it is the start of the search
-pub all-taken : (n m : ℕ) (sz : Sized n m) (sets rest tables : List ℕ) (sums j : ℕ) → j ≡ m → Taken n m sets j rest tables sums
+pub all-taken : (n m : ℕ) (sz : InLimits n m) (sets rest tables : List ℕ) (sums j : ℕ) → j ≡ m → ChosenBelow n m sets j rest tables sums
     → _≡_ {A = State} (record { tables = tables; cells = sums; visits = 0; stopped = false }) (start (tree n m) (ofSets sets))
 unfolding start quick total tree
 all-taken n m sz sets rest tables sums j e tk =
-    let et : tables ≡ tablesOf m (chosen n m sets) = tk .are-chosen ∙ ap (λ k. tablesOf k (chosen n m sets)) e in
-    let ec : sums ≡ sum m (λ i. cells n (wires (tablesOf m (chosen n m sets)) i)) =
+    let et : tables ≡ replyTables m (chosen n m sets) = tk .are-chosen ∙ ap (λ k. replyTables k (chosen n m sets)) e in
+    let ec : sums ≡ sum m (λ i. cells n (wires (replyTables m (chosen n m sets)) i)) =
     tk .counted ∙ ap (λ k. sum k (λ i. cells n (chosen n m sets i))) e
-    ∙ sum-cong m (λ i. cells n (chosen n m sets i)) (λ i. cells n (wires (tablesOf m (chosen n m sets)) i))
+    ∙ sum-cong m (λ i. cells n (chosen n m sets i)) (λ i. cells n (wires (replyTables m (chosen n m sets)) i))
     (λ i l. ap (cells n) (sym (wires-tables n m (sz .wires) (chosen n m sets) i l))) in
     rw (et, ec)

@@ -1,14 +1,8 @@
-pub mod Picks
-pub mod Promised
-pub mod Depth
-pub mod Families
-pub mod MaskPairs
-pub mod Keeping
-pub mod Whole
 pub mod Opening
+pub mod Carrying
 pub mod Steps
-pub mod Branching
-pub mod Changes
+pub mod Halves
+pub mod Tallies
 pub mod FirstAnswer
 pub mod Entry
 pub mod Cases

@@ -7,27 +7,30 @@ use mathlib.Core.List.{List}
 use native.Mathlib.Omega.{arith}
 use lib.Dec.{T, T-not, not-T, ltb, nltb→le, ltb→lt}
 use lib.ListN.{getD, List·getD-eq-default}
-use Rattle.sheet.specs.Limits.{maxWires}
+use Rattle.sheet.specs.Limits.{maxWires, maxPatterns}
 use Rattle.base.specs.Lowest.{lowest}
 use Rattle.base.proofs.Tests.{cond-has, decide, test-yes, test-no}
 use Rattle.base.proofs.Lowest.{lowest-at, lowest-below}
 use Rattle.table.specs.Bits.{tabulate}
 use Rattle.table.proofs.Bits.{tabulate-at, tabulate-length}
 use Rattle.relation.specs.Source.{Rel, Tables, value}
-use Rattle.relation.specs.Tests.{ofSets, wires, free, freeWire, compatible, conflict}
-use Rattle.relation.specs.Masks.{member, sideBySide, valueIn}
+use Rattle.relation.specs.Tests.{ofSets, free, freeWire, compatible, conflict}
+use Rattle.table.specs.Cells.{wires}
+use Rattle.relation.specs.Inner.Masks.{member, sideBySide, valueIn}
 use Rattle.relation.proofs.Decide.{compatible-at, compatible-test, conflict-is, freeWire-is}
 use Rattle.relation.proofs.Sets.{member-sets, free-four, value-four}
 use Rattle.relation.proofs.Side.{side-value}
-use Rattle.search.specs.declared.Open.the-variants.{Pair, Closed}
-use Rattle.search.specs.Search.{tablesOf, pick, picks}
-use Rattle.search.specs.TreeBoard.{tree}
-use Rattle.search.specs.Kept.{Sized, Sets, Settled, openOf}
-use Rattle.search.proofs.Picks.{wires-tables, pick-fits}
+use Rattle.search.specs.declared.SplitPlace.{SplitPlace}
+use Rattle.search.specs.declared.SplitPlace.the-variants.{Pair, Nowhere}
+use Rattle.branch_bound.specs.Search.{replyTables, pick, picks}
+use Rattle.branch_bound.specs.TreeBoard.{tree}
+use Rattle.parts.specs.Inner.Parts.{InLimits, PartSets}
+use Rattle.search.specs.Inner.Conflicts.{Settled, splitPlace}
+use Rattle.branch_bound.proofs.Picks.{wires-tables, pick-fits}
 
 -- a reply's tables past the last wire are 0
-pub tables-past : (m : ℕ) (X : Tables) (j : ℕ) → m ≤ j → wires (tablesOf m X) j ≡ 0
-unfolding tablesOf
+pub tables-past : (m : ℕ) (X : Tables) (j : ℕ) → m ≤ j → wires (replyTables m X) j ≡ 0
+unfolding replyTables
 tables-past m X j l =
     let f : ℕ → ℕ = λ i. cond (ltb i m) (X i) 0 in
     ⊎-elim
@@ -37,12 +40,12 @@ tables-past m X j l =
     (decide (ltb j maxWires))
 
 -- what a pair found tells
-pub pair-told : (n m : ℕ) (R : Rel) (X : Tables) (p j : ℕ) → openOf n m R X ≡ Pair p j
+pub pair-told : (n m : ℕ) (R : Rel) (X : Tables) (p j : ℕ) → splitPlace n m R X ≡ Pair p j
     → T (not (compatible n m R X)) × (conflict n m R X ≡ p) × (freeWire m (R p) ≡ j)
-unfolding openOf
+unfolding splitPlace
 pair-told n m R X p j e =
     ⊎-elim
-    (λ t. let z : Closed ≡ Pair p j = rw (test-yes (compatible n m R X) t) at e in let y : _≡_ {A = ℕ} 0 1 = cc in absurd (omega arith))
+    (λ t. let z : Nowhere ≡ Pair p j = rw (test-yes (compatible n m R X) t) at e in let y : _≡_ {A = ℕ} 0 1 = cc in absurd (omega arith))
     (λ t.
     let z : Pair (conflict n m R X) (freeWire m (R (conflict n m R X))) ≡ Pair p j = rw (test-no (compatible n m R X) t) at e in
     let ep : conflict n m R X ≡ p = cc in
@@ -50,20 +53,32 @@ pair-told n m R X p j e =
     (t, ep, rw ep at ej))
     (decide (compatible n m R X))
 
-module _ (n m : ℕ) (sz : Sized n m) (sets : List ℕ) (ok : Sets n m sets) (tables : List ℕ) (are : tables ≡ picks (tree n m) (ofSets sets)) where
+-- what no pair found tells
+pub found-nowhere : (n m : ℕ) (R : Rel) (X : Tables) → splitPlace n m R X ≡ Nowhere → T (compatible n m R X)
+unfolding splitPlace
+found-nowhere n m R X e =
+    ⊎-elim (λ t. t)
+    (λ t.
+    let c = conflict n m R X in
+    let z : Pair c (freeWire m (R c)) ≡ Nowhere = rw (test-no (compatible n m R X) t) at e in
+    let y : _≡_ {A = ℕ} 0 1 = cc in absurd (omega arith))
+    (decide (compatible n m R X))
+
+module _ {n m : ℕ} (sz : InLimits n m) {sets : List ℕ} (ok : PartSets n m sets) {tables : List ℕ} (are : tables ≡ picks (tree n m) (ofSets sets)) where
   -- the code's tests
-  pub allowed-test : ((j : ℕ) → getD tables j 0 < 65536) → (p s v : ℕ) → p < 16 → s ≡ sideBySide tables → v ≡ valueIn s p
-      → member (getD sets p 0) v ≡ ofSets sets p (value m (wires (picks (tree n m) (ofSets sets))) p)
+  pub allowed-test : ((j : ℕ) → getD tables j 0 < 2 ^ maxPatterns) → (p : ℕ) → p < maxPatterns → {s v : ℕ} → s ≡ sideBySide tables → v ≡ valueIn s p
+      → {r : Bool} → r ≡ member (getD sets p 0) v → r ≡ ofSets sets p (value m (wires (picks (tree n m) (ofSets sets))) p)
   unfolding picks tree
-  allowed-test small p s v l es ev =
-      ap₂ (λ (S : ℕ → Bool) v. S v) (sym (member-sets sets p))
+  allowed-test small p l es ev er =
+      er
+      ∙ ap₂ (λ (S : ℕ → Bool) v. S v) (sym (member-sets sets p))
       (ev
       ∙ ap (λ x. valueIn x p) es
       ∙ side-value tables p l small
       ∙ value-four m tables p (sz .wires) (λ j l. ap (λ ts. wires ts j) are ∙ tables-past m (pick (tree n m) (ofSets sets)) j l)
       ∙ ap (λ ts. value m (wires ts) p) are)
 
-  pub open-test : (p j : ℕ) → free 4 (member (getD sets p 0)) j ≡ free m (ofSets sets p) j
+  pub open-test : (p j : ℕ) → free maxWires (member (getD sets p 0)) j ≡ free m (ofSets sets p) j
   open-test p j = free-four m (getD sets p 0) j (sz .wires) (ok .small p) ∙ ap (λ S. free m S j) (sym (member-sets sets p))
 
   -- every pick fits, so a pattern in conflict has an open wire
@@ -75,14 +90,14 @@ module _ (n m : ℕ) (sz : Sized n m) (sets : List ℕ) (ok : Sets n m sets) (ta
       (λ j l. rw (are, wires-tables n m (sz .wires) (pick (tree n m) R) j l) (pick-fits (tree n m) R (ok .defined) j)) p lp t in
       T-not (free m (R p) (freeWire m (R p))) (h (freeWire m (R p)) (w .0)) (w .1)
 
-  pub none-open : ((p : ℕ) → p < 2 ^ n → T (ofSets sets p (value m (wires tables) p))) → openOf n m (ofSets sets) (wires tables) ≡ Closed
-  unfolding openOf
+  pub none-open : ((p : ℕ) → p < 2 ^ n → T (ofSets sets p (value m (wires tables) p))) → splitPlace n m (ofSets sets) (wires tables) ≡ Nowhere
+  unfolding splitPlace
   none-open h = rw (test-yes (compatible n m (ofSets sets) (wires tables)) (compatible-test n m (ofSets sets) (wires tables) h))
 
   pub pair-open : (p j : ℕ) → p < 2 ^ n → j < m → ((q : ℕ) → q < p → T (ofSets sets q (value m (wires tables) q)))
       → T (not (ofSets sets p (value m (wires tables) p))) → ((i : ℕ) → i < j → T (not (free m (ofSets sets p) i))) → T (free m (ofSets sets p) j)
-      → openOf n m (ofSets sets) (wires tables) ≡ Pair p j
-  unfolding openOf conflict freeWire
+      → splitPlace n m (ofSets sets) (wires tables) ≡ Pair p j
+  unfolding splitPlace conflict freeWire
   pair-open p j lp lj before here below free-here =
       let R = ofSets sets in
       let X = wires tables in
@@ -94,34 +109,22 @@ module _ (n m : ℕ) (sz : Sized n m) (sets : List ℕ) (ok : Sets n m sets) (ta
       rw (no, at, wire)
 
   -- what is found is an open pair
-  pub found-open : (p j : ℕ) → openOf n m (ofSets sets) (wires tables) ≡ Pair p j → (p < 2 ^ n) × (j < m) × T (free m (ofSets sets p) j)
+  pub found-open : {f : SplitPlace} → f ≡ splitPlace n m (ofSets sets) (wires tables) → {p j : ℕ} → f ≡ Pair p j → (p < 2 ^ n) × (j < m) × T (free m (ofSets sets p) j)
   unfolding picks tree
-  found-open p j e =
+  found-open ef {p} {j} e =
       let R = ofSets sets in
-      let told = pair-told n m R (wires tables) p j e in
+      let told = pair-told n m R (wires tables) p j (sym ef ∙ e) in
       let at = rw (told .1) at (conflict-is n m R (wires tables) (told .0)) in
       let w = freeWire-is n m R (wires tables) (ok .defined)
       (λ j l. rw (are, wires-tables n m (sz .wires) (pick (tree n m) R) j l) (pick-fits (tree n m) R (ok .defined) j)) p (at .0) (at .1) in
       let v = rw (told .2) at w in (at .0, v .0, v .1)
 
   -- and below it nothing is in conflict
-  pub found-below : (p j : ℕ) → openOf n m (ofSets sets) (wires tables) ≡ Pair p j → p < 2 ^ n → Settled m sets tables p
+  pub found-below : {f : SplitPlace} → f ≡ splitPlace n m (ofSets sets) (wires tables) → {p j : ℕ} → f ≡ Pair p j → p < 2 ^ n → Settled m sets tables p
   unfolding conflict
-  found-below p j e lp q l =
+  found-below ef {p} {j} e lp q l =
       let R = ofSets sets in
-      let told = pair-told n m R (wires tables) p j e in
+      let told = pair-told n m R (wires tables) p j (sym ef ∙ e) in
       ⊎-elim (λ t. t)
       (λ t. absurd (omega (arith, told .1, lowest-below (2 ^ n) (λ p. not (R p (value m (wires tables) p))) q (omega arith) t)))
       (decide (R q (value m (wires tables) q)))
-
-  pub found-closed : openOf n m (ofSets sets) (wires tables) ≡ Closed → T (compatible n m (ofSets sets) (wires tables))
-  unfolding openOf
-  found-closed e =
-      let R = ofSets sets in
-      let X = wires tables in
-      ⊎-elim (λ t. t)
-      (λ t.
-      let c = conflict n m R X in
-      let z : Pair c (freeWire m (R c)) ≡ Closed = rw (test-no (compatible n m R X) t) at e in
-      let y : _≡_ {A = ℕ} 0 1 = cc in absurd (omega arith))
-      (decide (compatible n m R X))

@@ -1,65 +1,60 @@
 -- The cases of a visit: each return of the code is the written treatment of the part.
-use Prim.Native.Nat.{ℕ, _^_, _<_}
-use mathlib.Core.Path.{_≡_, sym, _∙_}
+use Prim.Native.Nat.{ℕ, _<_}
+use mathlib.Core.Path.{_≡_, sym, ap, _∙_}
 use mathlib.Core.Bool.{not}
 use mathlib.Core.List.{List}
 use native.Mathlib.Omega.{arith}
 use lib.Dec.{T, leb, not-T, leb→le}
 use Rattle.base.proofs.Tests.{test-yes, test-no}
-use Rattle.relation.specs.Source.{Rel}
-use Rattle.relation.specs.Tests.{ofSets, wires, free, compatible, openPairs}
-use Rattle.relation.specs.Masks.{narrowed}
-use Rattle.relation.proofs.Splits.{keep-closes}
-use Rattle.search.specs.declared.State.{State}
-use Rattle.search.specs.declared.Open.the-variants.{Pair, Closed}
-use Rattle.search.specs.Search.{picks, floor, discarded, usedUp, halted, charged, improved, split, expand, charge, treat, searchPart}
-use Rattle.search.specs.TreeBoard.{tree}
-use Rattle.search.specs.Kept.{Sized, Sets, openOf}
-use Rattle.search.proofs.Depth.{search-step}
-use Rattle.search.proofs.Opening.{found-closed, pair-told}
-use Rattle.search.proofs.Keeping.{with-keep}
+use Rattle.relation.specs.Tests.{ofSets, compatible}
+use Rattle.table.specs.Cells.{wires}
+use Rattle.branch_bound.specs.declared.State.{State}
+use Rattle.branch_bound.specs.Search.{discarded, usedUp, halted, charged, improved, split, expand, charge, treat, searchPart}
+use Rattle.branch_bound.specs.TreeBoard.{tree}
+use Rattle.branch_bound.proofs.Depth.{search-step}
+use Rattle.search.specs.declared.SplitPlace.{SplitPlace}
+use Rattle.search.specs.declared.SplitPlace.the-variants.{Pair, Nowhere}
+use Rattle.parts.specs.Inner.Ranks.{tablesIn, floorIn}
+use Rattle.parts.specs.Inner.Parts.{Carried}
+use Rattle.search.specs.Inner.Conflicts.{splitPlace}
+use Rattle.search.proofs.Carrying.{floor-is, tables-are}
+use Rattle.search.proofs.Opening.{found-nowhere, pair-told}
 
 pub lt→nleb : (x y : ℕ) → y < x → T (not (leb x y))
 lt→nleb x y l = not-T (leb x y) (λ t. omega (arith, leb→le x y t))
 
-module _ (n m budget : ℕ) (sz : Sized n m) (sets : List ℕ) (ok : Sets n m sets) (s : State) {f : ℕ} (ef : f ≡ floor (tree n m) (ofSets sets)) where
-  on : Rel → State → State
-  on = searchPart (tree n m) budget
-
-  step : searchPart (tree n m) budget (ofSets sets) s ≡ treat (tree n m) budget (searchPart (tree n m) budget) (ofSets sets) s
+module _ {n m : ℕ} {S ws rs : List ℕ} (h : Carried n m S ws rs) (budget : ℕ) (s : State) {f : ℕ} (ef : f ≡ floorIn rs) where
+  step : searchPart (tree n m) budget (ofSets S) s ≡ treat (tree n m) budget (searchPart (tree n m) budget) (ofSets S) s
   unfolding tree
-  step = search-step (tree n m) (sz .wires) budget (ofSets sets) s (ok .defined)
+  step = search-step (tree n m) (h .sized .wires) budget (ofSets S) s (h .sets .defined)
 
-  pub discards : T (discarded s f) → s ≡ searchPart (tree n m) budget (ofSets sets) s
+  pub discards : T (discarded s f) → s ≡ searchPart (tree n m) budget (ofSets S) s
   unfolding treat
-  discards h = sym (step ∙ rw (← ef, test-yes (discarded s f) h))
+  discards t = sym (step ∙ rw (← floor-is h ef, test-yes (discarded s f) t))
 
   module _ (more : T (not (discarded s f))) where
-    pub halts : T (usedUp budget s) → halted s ≡ searchPart (tree n m) budget (ofSets sets) s
+    pub halts : T (usedUp budget s) → {u : State} → u ≡ halted s → u ≡ searchPart (tree n m) budget (ofSets S) s
     unfolding treat charge
-    halts h = sym (step ∙ rw (← ef, test-no (discarded s f) more, test-yes (usedUp budget s) h))
+    halts t e = e ∙ sym (step ∙ rw (← floor-is h ef, test-no (discarded s f) more, test-yes (usedUp budget s) t))
 
-    module _ (left : T (not (usedUp budget s))) {tables : List ℕ} (et : tables ≡ picks (tree n m) (ofSets sets)) where
-      expands : treat (tree n m) budget (searchPart (tree n m) budget) (ofSets sets) s ≡ expand (tree n m) budget (searchPart (tree n m) budget) (ofSets sets) s
+    module _ (left : T (not (usedUp budget s))) where
+      expands : treat (tree n m) budget (searchPart (tree n m) budget) (ofSets S) s ≡ expand (tree n m) budget (searchPart (tree n m) budget) (ofSets S) s
       unfolding treat charge
-      expands = rw (← ef, test-no (discarded s f) more, test-no (usedUp budget s) left)
+      expands = rw (← floor-is h ef, test-no (discarded s f) more, test-no (usedUp budget s) left)
 
-      pub improves : openOf n m (ofSets sets) (wires tables) ≡ Closed → improved tables f (charged s) ≡ searchPart (tree n m) budget (ofSets sets) s
-      unfolding expand tree
-      improves e =
-          let t = test-yes (compatible n m (ofSets sets) (wires tables)) (found-closed n m sz sets ok tables et e) in
-          sym (step ∙ expands ∙ rw (← et, t, ← ef))
+      -- the code's tables and where it splits
+      module _ {tables : List ℕ} (et : tables ≡ tablesIn rs) {found : SplitPlace} (ep : found ≡ splitPlace n m (ofSets S) (wires tables)) {u : State} where
+        pub improves : found ≡ Nowhere → u ≡ improved tables f (charged s) → u ≡ searchPart (tree n m) budget (ofSets S) s
+        unfolding expand tree
+        improves e eu =
+            let t = test-yes (compatible n m (ofSets S) (wires tables)) (found-nowhere n m (ofSets S) (wires tables) (sym ep ∙ e)) in
+            eu ∙ sym (step ∙ expands ∙ rw (← tables-are h et, t, ← floor-is h ef))
 
-      pub splits : (p j : ℕ) → openOf n m (ofSets sets) (wires tables) ≡ Pair p j
-          → split (tree n m) budget (searchPart (tree n m) budget) (ofSets sets) p j (charged s) ≡ searchPart (tree n m) budget (ofSets sets) s
-      unfolding expand tree
-      splits p j e =
-          let told = pair-told n m (ofSets sets) (wires tables) p j e in
-          let t = test-no (compatible n m (ofSets sets) (wires tables)) (told .0) in
-          sym (step ∙ expands ∙ rw (← et, t, told .1, told .2))
-
--- a split closes an open pair
-pub fewer-open : (n m : ℕ) (sz : Sized n m) (sets : List ℕ) (ok : Sets n m sets) (p j b : ℕ) → p < 2 ^ n → j < m → T (free m (ofSets sets p) j) → b < 2
-    → openPairs n m (ofSets (narrowed sets p j b)) < openPairs n m (ofSets sets)
-fewer-open n m sz sets ok p j b lp lj t lb =
-    rw (with-keep n m sz sets ok p j b lp lj t lb) (keep-closes n m (ofSets sets) p j b lp lj t)
+        pub splits : {p j : ℕ} → found ≡ Pair p j → {v : State} → v ≡ charged s
+            → u ≡ split (tree n m) budget (searchPart (tree n m) budget) (ofSets S) p j v → u ≡ searchPart (tree n m) budget (ofSets S) s
+        unfolding expand tree
+        splits {p} {j} e ev eu =
+            let told = pair-told n m (ofSets S) (wires tables) p j (sym ep ∙ e) in
+            let t = test-no (compatible n m (ofSets S) (wires tables)) (told .0) in
+            eu ∙ ap (split (tree n m) budget (searchPart (tree n m) budget) (ofSets S) p j) ev
+            ∙ sym (step ∙ expands ∙ rw (← tables-are h et, t, told .1, told .2))

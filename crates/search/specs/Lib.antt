@@ -1,7 +1,3 @@
--- The search of document 01, over the count of cells and the order of picks as parameters, and its promise.
-pub mod Search
-pub mod Promise
-pub mod TreeBoard
-pub mod Reply
-pub mod Kept
+-- The answer of a search told by document 01's numbers; under Inner, what the contracts of inner functions speak of.
 pub mod Cases
+pub mod Inner

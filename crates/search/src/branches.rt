@@ -2,39 +2,44 @@
 // The sets are lent down: a split narrows the set of its pattern and puts it back, so that no part is copied. Lent too are the best tables so far and
 // the tally: their cells, the visits charged, and 1 once a part was left.
 // Inner functions: `search_sets` and the cycle itself meet what they require.
-use crate::Open;
+use crate::SplitPlace;
 use crate::conflicts::first_open;
-use crate::pairs::cut_pairs;
-use crate::parts::ranks_again;
-use crate::ranks::first_change;
-use crate::ranks::floor_of;
-use crate::ranks::tables_of;
+use parts::pairs::cut_pairs;
+use parts::ranks::first_change;
+use parts::ranks::floor_of;
+use parts::ranks::tables_of;
+use parts::ranks_again;
 use relation::values::with_bit;
+use sheet::Sheet;
+use table::picks::ENTRIES;
 ghost use mathlib.Core.Path.{_≡_};
 ghost use Prim.Native.Nat.{_<_, _≤_, _^_};
 ghost use lib.Dec.{T};
 ghost use lib.ListN.{length};
-ghost use Rattle.table.specs.Blocks.{Blocks};
+ghost use Rattle.table.specs.Inner.Blocks.{Blocks};
 ghost use Rattle.relation.specs.Tests.{ofSets, free};
-ghost use Rattle.search.specs.Search.{split as splitOf, searchPart};
-ghost use Rattle.search.specs.TreeBoard.{tree};
-ghost use Rattle.search.specs.Kept.{Held, Settled, cellsIn, tablesIn, stateOf};
+ghost use Rattle.branch_bound.specs.Search.{split as splitOf, searchPart};
+ghost use Rattle.branch_bound.specs.TreeBoard.{tree};
+ghost use Rattle.parts.specs.Inner.Ranks.{tablesIn, floorIn};
+ghost use Rattle.parts.specs.Inner.Parts.{Carried};
+ghost use Rattle.search.specs.Inner.Conflicts.{Settled};
+ghost use Rattle.search.specs.Inner.Tally.{stateOf};
 
 // Steps 1 to 4 of the search for one part. Its picks are allowed on the patterns below `from`.
 pub fn visit(
-    e: &[u16; 256],
-    sets: &mut [u16; 16],
-    best: &mut [u16; 4],
+    e: &[u16; ENTRIES],
+    sets: &mut [u16; Sheet::MAX_PATTERNS],
+    best: &mut [u16; Sheet::WIRES],
     tally: &mut [u32; 3],
     n: u8,
     m: u8,
-    pairs: [u32; 4],
-    ranks: [u32; 4],
+    pairs: [u32; Sheet::WIRES],
+    ranks: [u32; Sheet::WIRES],
     floor: u32,
     from: u8,
     budget: u32,
 )
-    requires { ⌜ Blocks (now e) × Held n m (now sets) pairs ranks × (floor ≡ cellsIn ranks) × (from ≤ 2 ^ n) × Settled m (now sets) (tablesIn ranks) from × (length (now tally) ≡ 3) ⌝ }
+    requires { ⌜ Blocks (now e) × Carried n m (now sets) pairs ranks × (floor ≡ floorIn ranks) × (from ≤ 2 ^ n) × Settled m (now sets) (tablesIn ranks) from × (length (now tally) ≡ 3) ⌝ }
     ensures { λ _. ⌜ (now (sets .exit) ≡ now (sets .entry)) × (stateOf (now (best .exit)) (now (tally .exit)) ≡ searchPart (tree n m) budget (ofSets (now (sets .entry))) (stateOf (now (best .entry)) (now (tally .entry)))) × (length (now (tally .exit)) ≡ 3) ⌝ }
 {
     if tally[0] <= floor {
@@ -48,11 +53,11 @@ pub fn visit(
     let tables = tables_of(ranks);
     let found = first_open(n, m, from, sets, tables);
     match found {
-        Open::Closed => {
+        SplitPlace::Nowhere => {
             *best = tables;
             tally[0] = floor;
         }
-        Open::Pair(p, j) => {
+        SplitPlace::Pair(p, j) => {
             split(e, sets, best, tally, n, m, pairs, ranks, p, j, budget);
         }
     }
@@ -61,19 +66,19 @@ pub fn visit(
 // The two parts of a split, wire j at 0 on pattern p before wire j at 1. The picks of both are made before the first visit, while what they are made from is
 // at hand; w and r are a part's pairs and ranks. A part that will be discarded is not visited.
 fn split(
-    e: &[u16; 256],
-    sets: &mut [u16; 16],
-    best: &mut [u16; 4],
+    e: &[u16; ENTRIES],
+    sets: &mut [u16; Sheet::MAX_PATTERNS],
+    best: &mut [u16; Sheet::WIRES],
     tally: &mut [u32; 3],
     n: u8,
     m: u8,
-    pairs: [u32; 4],
-    ranks: [u32; 4],
+    pairs: [u32; Sheet::WIRES],
+    ranks: [u32; Sheet::WIRES],
     p: u8,
     j: u8,
     budget: u32,
 )
-    requires { ⌜ Blocks (now e) × Held n m (now sets) pairs ranks × (p < 2 ^ n) × (j < m) × T (free m (ofSets (now sets) p) j) × Settled m (now sets) (tablesIn ranks) p × (length (now tally) ≡ 3) ⌝ }
+    requires { ⌜ Blocks (now e) × Carried n m (now sets) pairs ranks × (p < 2 ^ n) × (j < m) × T (free m (ofSets (now sets) p) j) × Settled m (now sets) (tablesIn ranks) p × (length (now tally) ≡ 3) ⌝ }
     ensures { λ _. ⌜ (now (sets .exit) ≡ now (sets .entry)) × (stateOf (now (best .exit)) (now (tally .exit)) ≡ splitOf (tree n m) budget (searchPart (tree n m) budget) (ofSets (now (sets .entry))) p j (stateOf (now (best .entry)) (now (tally .entry)))) × (length (now (tally .exit)) ≡ 3) ⌝ }
 {
     let at = p as usize;

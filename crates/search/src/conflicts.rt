@@ -1,23 +1,32 @@
 // The pattern and wire to split at.
 // Inner function: `visit` meets what it requires.
-use crate::Open;
-use relation::patterns::patterns_of;
+use crate::SplitPlace;
 use relation::patterns::side_by_side;
 use relation::patterns::value_in;
 use relation::values::contains;
 use relation::values::is_open;
+use sheet::Sheet;
+use sheet::limits::patterns_of;
 ghost use mathlib.Core.Path.{_≡_};
 ghost use Prim.Native.Nat.{_<_, _≤_, _^_};
-ghost use Rattle.relation.specs.Tests.{ofSets, wires};
-ghost use Rattle.search.specs.Search.{picks};
-ghost use Rattle.search.specs.TreeBoard.{tree};
-ghost use Rattle.search.specs.Kept.{Sized, Sets, Settled, openOf};
+ghost use Rattle.relation.specs.Tests.{ofSets};
+ghost use Rattle.table.specs.Cells.{wires};
+ghost use Rattle.branch_bound.specs.Search.{picks};
+ghost use Rattle.branch_bound.specs.TreeBoard.{tree};
+ghost use Rattle.parts.specs.Inner.Parts.{InLimits, PartSets};
+ghost use Rattle.search.specs.Inner.Conflicts.{Settled, splitPlace};
 
 // The lowest pattern on which the picks' value is not allowed, and the lowest wire open there. A pattern in conflict has an open wire, since every pick
 // fits its projection. Patterns below `from` are known to be without conflict.
-pub fn first_open(n: u8, m: u8, from: u8, sets: &[u16; 16], tables: [u16; 4]) -> Open
-    requires { ⌜ Sized n m × Sets n m (now sets) × (tables ≡ picks (tree n m) (ofSets (now sets))) × (from ≤ 2 ^ n) × Settled m (now sets) tables from ⌝ }
-    ensures { λ r. ⌜ r ≡ openOf n m (ofSets (now (sets .entry))) (wires tables) ⌝ }
+pub fn first_open(
+    n: u8,
+    m: u8,
+    from: u8,
+    sets: &[u16; Sheet::MAX_PATTERNS],
+    tables: [u16; Sheet::WIRES],
+) -> SplitPlace
+    requires { ⌜ InLimits n m × PartSets n m (now sets) × (tables ≡ picks (tree n m) (ofSets (now sets))) × (from ≤ 2 ^ n) × Settled m (now sets) tables from ⌝ }
+    ensures { λ r. ⌜ r ≡ splitPlace n m (ofSets (now (sets .entry))) (wires tables) ⌝ }
 {
     let count = patterns_of(n);
     let side = side_by_side(tables);
@@ -37,8 +46,8 @@ pub fn first_open(n: u8, m: u8, from: u8, sets: &[u16; 16], tables: [u16; 4]) ->
         p += 1;
     }
     if p < count {
-        Open::Pair(p, j)
+        SplitPlace::Pair(p, j)
     } else {
-        Open::Closed
+        SplitPlace::Nowhere
     }
 }

@@ -1,46 +1,28 @@
-// The branch and bound: the smallest stage that keeps to a relation.
+// The branch and bound: the smallest stage that keeps to a relation. What it carries of a part is the crate `parts`, and what it means `branch_bound`.
 use base::Refusal;
 use base::Verdict;
+use parts::ranks::floor_of;
+use parts::whole_part;
 use relation::Relation;
 use relation::patterns::clear_past;
+use sheet::Sheet;
 use table::picks::blocks;
 ghost use mathlib.Core.Path.{_≡_};
 ghost use Rattle.relation.specs.Tests.{ofSets};
-ghost use Rattle.search.specs.Search.{run};
-ghost use Rattle.search.specs.TreeBoard.{tree};
+ghost use Rattle.branch_bound.specs.Search.{run};
+ghost use Rattle.branch_bound.specs.TreeBoard.{tree};
 ghost use Rattle.search.specs.Cases.{searchReply};
-ghost use Rattle.search.specs.Reply.{answerOf, searchOf};
-ghost use Rattle.search.specs.Kept.{Sized, Sets};
+ghost use Rattle.branch_bound.specs.Reply.{answerOf, searchOf};
+ghost use Rattle.parts.specs.Inner.Parts.{InLimits, PartSets};
 
-mod ranks; // a pick as one number
-mod pairs; // the two masks of a wire in one number
-mod parts; // what is kept of a part, and its two halves by a split
 mod conflicts; // where to split: the first conflict
 mod quick_solver; // the first answer
 mod branches; // the cycle of visits and splits
 
-// A part (subrelation) of n inputs and m wires: its sets, and for each wire the patterns on which it can be 0 and those on which it can be 1, in one
-// number, and the rank of its pick.
-struct Part {
-    n: u8,
-    m: u8,
-    sets: [u16; 16],
-    pairs: [u32; 4],
-    ranks: [u32; 4],
-}
-
-// The best so far (incumbent), the visits charged (nodes expanded), and whether a part was left.
-pub struct State {
-    pub tables: [u16; 4],
-    pub cells: u32,
-    pub visits: u32,
-    pub stopped: bool,
-}
-
-// A pattern in conflict with its lowest open wire, or no conflict.
-enum Open {
+// Where to split: the lowest pattern in conflict with its lowest open wire; nowhere without a conflict.
+enum SplitPlace {
     Pair(u8, u8),
-    Closed,
+    Nowhere,
 }
 
 // The mark of a reply.
@@ -50,9 +32,9 @@ pub enum Mark {
     Refused(Refusal),
 }
 
-// The reply (document 01, "Search"): a table for each of four wires, their cells, the floor (lower bound) and the visits. All 0 on a refusal.
+// The reply (document 01, "Search"): a table for each wire that there may be, their cells, the floor (lower bound) and the visits. All 0 on a refusal.
 pub struct Answer {
-    pub tables: [u16; 4],
+    pub tables: [u16; Sheet::WIRES],
     pub cells: u32,
     pub floor: u32,
     pub visits: u32,
@@ -60,16 +42,16 @@ pub struct Answer {
 }
 
 // The search of a relation whose sizes and sets were tested, with its sets past the last pattern emptied.
-fn search_sets(n: u8, m: u8, sets: [u16; 16], budget: u32) -> Answer
-    requires { ⌜ Sized n m × Sets n m sets ⌝ }
+fn search_sets(n: u8, m: u8, sets: [u16; Sheet::MAX_PATTERNS], budget: u32) -> Answer
+    requires { ⌜ InLimits n m × PartSets n m sets ⌝ }
     ensures { λ r. ⌜ searchReply r ≡ answerOf n m (ofSets sets) (run (tree n m) budget (ofSets sets)) ⌝ }
 {
     let table = blocks();
-    let whole = parts::whole(&table, n, m, sets);
+    let whole = whole_part(&table, n, m, sets);
     let ranks = whole.ranks;
     let start = quick_solver::quick(&table, n, m, sets, ranks[0]);
     let pairs = whole.pairs;
-    let floor = ranks::floor_of(ranks);
+    let floor = floor_of(ranks);
     let mut own = sets;
     let mut tables = start.tables;
     let mut tally = [start.cells, 0, 0];
@@ -118,7 +100,7 @@ pub fn search(relation: Relation, budget: u32) -> Answer
     match checked {
         Verdict::Accepted => search_sets(n, m, clear_past(n, sets), budget),
         Verdict::Refused(refusal) => Answer {
-            tables: [0; 4],
+            tables: [0; Sheet::WIRES],
             cells: 0,
             floor: 0,
             visits: 0,

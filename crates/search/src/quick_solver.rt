@@ -1,21 +1,31 @@
 // The first answer, one wire after the other (QuickSolver of source 001, section 6.2).
 // Inner functions: `search_sets` and `quick` meet what they require.
-use crate::State;
-use crate::parts::wire_rank;
-use crate::ranks::cells_of;
-use crate::ranks::table_of;
+use branch_bound::State;
+use parts::ranks::cells_of;
+use parts::ranks::table_of;
+use parts::wire_rank;
 use relation::patterns::agreeing;
+use sheet::Sheet;
+use table::picks::ENTRIES;
 ghost use mathlib.Core.Path.{_≡_};
 ghost use Prim.Native.Nat.{_<_};
-ghost use Rattle.table.specs.Blocks.{Blocks};
+ghost use Rattle.sheet.specs.Limits.{maxWires};
+ghost use Rattle.table.specs.Inner.Blocks.{Blocks};
 ghost use Rattle.relation.specs.Tests.{ofSets};
-ghost use Rattle.search.specs.Search.{start};
-ghost use Rattle.search.specs.TreeBoard.{tree};
-ghost use Rattle.search.specs.Kept.{Sized, Sets, rankOf};
+ghost use Rattle.branch_bound.specs.Search.{start};
+ghost use Rattle.branch_bound.specs.TreeBoard.{tree};
+ghost use Rattle.parts.specs.Inner.Parts.{InLimits, PartSets, rankOf};
 
 // The rank of wire j's pick once the wires before it are chosen. Before the first wire nothing is: its pick is the whole relation's, which the caller has.
-fn rank_left(e: &[u16; 256], n: u8, m: u8, left: [u16; 16], j: u8, first: u32) -> u32
-    requires { ⌜ Blocks (now e) × Sized n m × Sets n m left × (j < 4) × (j ≡ 0 → first ≡ rankOf n left 0) ⌝ }
+fn rank_left(
+    e: &[u16; ENTRIES],
+    n: u8,
+    m: u8,
+    left: [u16; Sheet::MAX_PATTERNS],
+    j: u8,
+    first: u32,
+) -> u32
+    requires { ⌜ Blocks (now e) × InLimits n m × PartSets n m left × (j < maxWires) × (j ≡ 0 → first ≡ rankOf n left 0) ⌝ }
     ensures { λ r. ⌜ r ≡ rankOf n left j ⌝ }
 {
     if j == 0 {
@@ -25,12 +35,18 @@ fn rank_left(e: &[u16; 256], n: u8, m: u8, left: [u16; 16], j: u8, first: u32) -
     }
 }
 
-pub fn quick(e: &[u16; 256], n: u8, m: u8, sets: [u16; 16], first: u32) -> State
-    requires { ⌜ Blocks (now e) × Sized n m × Sets n m sets × (first ≡ rankOf n sets 0) ⌝ }
+pub fn quick(
+    e: &[u16; ENTRIES],
+    n: u8,
+    m: u8,
+    sets: [u16; Sheet::MAX_PATTERNS],
+    first: u32,
+) -> State
+    requires { ⌜ Blocks (now e) × InLimits n m × PartSets n m sets × (first ≡ rankOf n sets 0) ⌝ }
     ensures { λ r. ⌜ r ≡ start (tree n m) (ofSets sets) ⌝ }
 {
     let mut left = sets;
-    let mut tables = [0u16; 4];
+    let mut tables = [0u16; Sheet::WIRES];
     let mut cells: u32 = 0;
     for j in 0..m {
         let rank = rank_left(e, n, m, left, j, first);

@@ -12,7 +12,7 @@ use lib.ListN.{length, getD}
 use Rattle.sheet.specs.declared.Command.{Command}
 use Rattle.sheet.specs.declared.Command.the-variants.{Sizes}
 use Rattle.sheet.specs.Commands.{collect, inputsOf, wiresOf, isMarked, isDontCare, hasRow, gatesOf, outputsOf, rowsOn, dontCaresOn}
-use Rattle.sheet.specs.Gathered.{tabulate, meet, gathered, noMark, rowMark, dontCareMark, markOn, valueOn, limitOn, gateAt, outputAt}
+use Rattle.sheet.specs.Gathered.{tabulate, meet, gathered, noMark, rowMark, dontCareMark, markOn, presentOn, limitOn, gateAt, outputAt}
 use Rattle.base.proofs.Tabulate.{tabulate-at}
 
 -- without commands nothing is gathered, as with sizes 0
@@ -42,9 +42,9 @@ module _ (cs : List Command) where
     unfolding gathered
     mark-field = tabulate-at maxPatterns (λ q. markOn q cs) p h
 
-    pub value-field : getD (gathered cs .values) p 0 ≡ valueOn p cs
+    pub value-field : getD (gathered cs .values) p 0 ≡ presentOn p cs
     unfolding gathered
-    value-field = tabulate-at maxPatterns (λ q. valueOn q cs) p h
+    value-field = tabulate-at maxPatterns (λ q. presentOn q cs) p h
 
     pub limit-field : getD (gathered cs .limits) p 0 ≡ limitOn p cs
     unfolding gathered

@@ -24,8 +24,8 @@ abbrev pub markOn : ℕ → List Command → ℕ
 markOn p cs = cond (isDontCare p cs) dontCareMark (cond (hasRow p cs) rowMark noMark)
 
 -- the present value on pattern p; 0 where it has no 02
-abbrev pub valueOn : ℕ → List Command → ℕ
-valueOn p cs = getD (rowsOn p cs) 0 0
+abbrev pub presentOn : ℕ → List Command → ℕ
+presentOn p cs = getD (rowsOn p cs) 0 0
 
 -- a set and others, intersected
 unfoldable pub meet : ℕ → List ℕ → ℕ
@@ -51,7 +51,7 @@ gathered cs =
       n = inputsOf cs;
       m = wiresOf cs;
       marks = tabulate maxPatterns (λ p. markOn p cs);
-      values = tabulate maxPatterns (λ p. valueOn p cs);
+      values = tabulate maxPatterns (λ p. presentOn p cs);
       limits = tabulate maxPatterns (λ p. limitOn p cs);
       «gate_count» = length (gatesOf cs);
       kinds = tabulate maxGates (λ i. gateAt i cs .kind);

@@ -6,6 +6,7 @@ use native.Mathlib.Omega.{arith}
 use lib.ListN.{length, getD, take, length-append, length-map}
 use lib.Seq.{length-take-le, take-suc}
 use lib.Pow.{pow-mono}
+use Rattle.table.specs.Drawing.{drawnCells}
 use Rattle.sheet.specs.Limits.{maxInputs, maxWires, maxPatterns}
 use Rattle.table.specs.Bits.{sum}
 use Rattle.table.specs.Cells.{cells}
@@ -13,7 +14,8 @@ use Rattle.table.specs.Tree.{Tree, con, sel, selectors, reduced}
 use Rattle.table.proofs.Bits.{sum-bound}
 use Rattle.table.proofs.Cells.{cells-lt}
 use Rattle.table.proofs.Trees.{reduced-selectors}
-use Rattle.stage.specs.Bytes.{treeBytes, wireBytes, wiresBytes, stageBytes, size, longestStage}
+use Rattle.stage.specs.Bytes.{treeBytes, wireBytes, wiresBytes, stageBytes, longestStage}
+use Rattle.stage.specs.Trees.{size}
 use Rattle.stage.specs.Written.{stageTrees, stageOf, stageCells}
 
 -- a tree takes a byte, and three more for each selector
@@ -23,7 +25,7 @@ tree-length (con b) = refl
 tree-length (sel k z o) = omega (arith, length-append (treeBytes z) (treeBytes o), tree-length z, tree-length o)
 
 pub wires-length : (j : ℕ) (xs : List Tree) → length (wiresBytes j xs) ≡ 3 * length xs + 3 * size xs
-unfolding wiresBytes size
+unfolding wiresBytes drawnCells
 wires-length j [] = refl
 wires-length j (x ∷ xs) = omega (arith, length-append (treeBytes x) (wiresBytes (suc j) xs), tree-length x, wires-length (suc j) xs)
 
@@ -32,7 +34,7 @@ unfolding stageBytes
 stage-bytes-length n m xs = omega (arith, length-append (wiresBytes 0 xs) (0x2F ∷ []), wires-length 0 xs)
 
 pub size-append : (xs ys : List Tree) → size (xs ++ ys) ≡ size xs + size ys
-unfolding size
+unfolding drawnCells
 size-append [] ys = omega arith
 size-append (x ∷ xs) ys = omega (arith, size-append xs ys)
 
@@ -42,7 +44,7 @@ unfolding stageTrees
 trees-length n m tables h = length-map (take m tables) (reduced n 0) ∙ length-take-le m tables h
 
 pub trees-size : (n m : ℕ) (tables : List ℕ) → m ≤ length tables → size (stageTrees n m tables) ≡ stageCells n m tables
-unfolding stageTrees stageCells sum size
+unfolding stageTrees stageCells sum drawnCells
 trees-size n zero tables h = refl
 trees-size n (suc m) tables h =
     let t = getD tables m 0 in

@@ -6,3 +6,4 @@ pub mod Written
 pub mod RoundTrip
 pub mod Prefix
 pub mod Rows
+pub mod TreeCounts

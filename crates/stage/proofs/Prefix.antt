@@ -8,13 +8,14 @@ use lib.Dec.{leb, eqb, leb→le, nleb→lt}
 use lib.ListN.{length, take, drop, length-append, take-append-drop}
 use lib.Pow.{pow-pos, pow-mono}
 use lib.Seq.{take-all, length-take-le}
+use Rattle.base.specs.Each.{Each}
 use Rattle.base.specs.declared.Refusal.{Refusal}
 use Rattle.sheet.specs.Limits.{maxInputs, maxPatterns, countOut, sizesOut}
 use Rattle.base.proofs.Tests.{decide, cond-has₂, test-no}
 use Rattle.table.specs.Tree.{Tree, Ordered}
-use Rattle.stage.specs.Bytes.{treeBytes, wiresBytes, stageBytes, AllOrdered, longestStage}
-use Rattle.stage.specs.Read.{Read, taken, fault, andThen, dueNumber, due, operand, branchesAt, selectorAt, treeFrom, treeAt, wireAt, wiresAt}
-use Rattle.stage.specs.Read.{nothingAfter, endAt, StageSheet, got, noStage, closed, readStage}
+use Rattle.stage.specs.Bytes.{treeBytes, wiresBytes, stageBytes, longestStage}
+use Rattle.stage.specs.Read.{Read, taken, fault, andThen, dueNumber, due, operand, branchesAt, selectorAt, treeFrom, treeAt, wireAt, wiresAt, nothingAfter, endAt, closed, readStage}
+use Rattle.table.specs.Drawing.{StageSheet, got, noStage}
 use Rattle.stage.proofs.Lengths.{tree-length}
 use Rattle.sheet.proofs.Sizes.{count-in, sizes-in}
 use Rattle.stage.proofs.Reading.{ToldTree, tree-is, tree-told}
@@ -134,8 +135,8 @@ wires-more (suc left) n m j at bytes q h =
     rw (wires-more left n m (suc j) next rest q (omega arith)) (then-more q (wiresAt left n m (suc j) next rest) _ (λ _ _ _ _. refl))))
 
 -- the wires leave two bytes to the end
-wires-short : (n left j : ℕ) (xs : List Tree) → length xs ≡ left → AllOrdered n xs → length (wiresBytes j xs) + 2 ≤ roomFor n left
-unfolding AllOrdered wiresBytes roomFor
+wires-short : (n left j : ℕ) (xs : List Tree) → length xs ≡ left → Each (Ordered n 0) xs → length (wiresBytes j xs) + 2 ≤ roomFor n left
+unfolding wiresBytes roomFor
 wires-short n left j [] e o = room-least n left
 wires-short n zero j (x ∷ xs) e o = absurd (omega arith)
 wires-short n (suc left) j (x ∷ xs) e o =
@@ -144,7 +145,7 @@ wires-short n (suc left) j (x ∷ xs) e o =
     omega (arith, length-append (treeBytes x) (wiresBytes (suc j) xs), first, others)
 
 -- the end is told by two bytes
-end-more : (whole : StageSheet) (at : ℕ) (rest q : List ℕ) → 2 ≤ length rest → endAt noStage whole at (rest ++ q) ≡ endAt noStage whole at rest
+end-more : (whole : StageSheet Tree) (at : ℕ) (rest q : List ℕ) → 2 ≤ length rest → endAt noStage whole at (rest ++ q) ≡ endAt noStage whole at rest
 unfolding endAt nothingAfter
 end-more whole at [] q h = absurd (omega arith)
 end-more whole at (b ∷ []) q h = absurd (omega arith)

@@ -2,16 +2,17 @@
 use Prim.Native.Nat.{ℕ}
 use mathlib.Core.Path.{_≡_, refl}
 use mathlib.Core.List.{List, [], _∷_}
+use Rattle.table.specs.Drawing.{drawnCells, got, noStage}
 use Rattle.base.specs.Cases.{accepting, acceptedOutcome, refusedCase}
 use Rattle.base.specs.Refusals.{refusalAt, cutShort, unknown, outOfRange, trailing, outOfTurn, notAscending, shortBuffer}
 use Rattle.base.specs.Lowest.{lowest}
 use Rattle.table.specs.Bits.{bit, sum, ofBits, tabulate}
 use Rattle.table.specs.Cells.{low, high}
 use Rattle.table.specs.Tree.{con, sel, follow, selectors, reduced}
-use Rattle.stage.specs.Bytes.{treeBytes, wiresBytes, stageBytes, size}
+use Rattle.stage.specs.Bytes.{treeBytes, wiresBytes, stageBytes}
+use Rattle.stage.specs.Trees.{size}
 use Rattle.stage.specs.Written.{stageTrees, stageOf, firstOut, writtenOf}
-use Rattle.stage.specs.Read.{andThen, misplaced, dueNumber, due, operand, branchesAt, selectorAt, treeFrom, treeWithin, treeAt, wireAt, wiresAt}
-use Rattle.stage.specs.Read.{nothingAfter, endAt, got, noStage, closed, readStage}
+use Rattle.stage.specs.Read.{andThen, misplaced, dueNumber, due, operand, branchesAt, selectorAt, treeFrom, treeWithin, treeAt, wireAt, wiresAt, nothingAfter, endAt, closed, readStage}
 use Rattle.stage.specs.Reply.{tableOf, stageTables}
 
 -- all meanings of reading, and of writing, open
@@ -37,7 +38,7 @@ unfolding stageTables tableOf ofBits sum tabulate follow bit
 a-tables = refl
 
 pub a-cells : size (sel 1 (con 1) (con 0) ∷ sel 2 (con 0) (con 1) ∷ []) ≡ 2
-unfolding size selectors
+unfolding drawnCells selectors
 a-cells = refl
 
 pub a-bytes : stageOf 2 2 (3 ∷ 10 ∷ 0 ∷ 0 ∷ []) ≡ stage-a

@@ -9,16 +9,17 @@ use lib.Dec.{leb, eqb, eqb→eq}
 use lib.ListN.{length, getD, take, length-append}
 use lib.Seq.{getD-take, length-take-le}
 use borrow.Author.Tests.{eq-eqb, lt-leb}
+use Rattle.base.specs.Each.{Each}
 use Rattle.base.specs.declared.Refusal.{Refusal}
 use Rattle.base.specs.Refusals.{refusalAt, outOfTurn}
 use Rattle.sheet.specs.Limits.{sizesOut}
 use Rattle.base.proofs.Tests.{cond-has, test-no}
 use Rattle.table.specs.Tree.{Tree, Ordered, reduced}
 use Rattle.table.proofs.Trees.{reduced-ordered}
-use Rattle.stage.specs.Bytes.{treeBytes, wiresBytes, stageBytes, AllOrdered}
+use Rattle.stage.specs.Bytes.{treeBytes, wiresBytes, stageBytes}
 use Rattle.stage.specs.Written.{stageTrees, stageOf}
-use Rattle.stage.specs.Read.{Read, taken, fault, andThen, known, misplaced, dueNumber, due, operand, treeAt, wireAt, wiresAt, nothingAfter}
-use Rattle.stage.specs.Read.{endAt, StageSheet, got, noStage, closed, readStage}
+use Rattle.stage.specs.Read.{Read, taken, fault, andThen, known, misplaced, dueNumber, due, operand, treeAt, wireAt, wiresAt, nothingAfter, endAt, closed, readStage}
+use Rattle.table.specs.Drawing.{StageSheet, got, noStage}
 use Rattle.stage.proofs.Lengths.{trees-length}
 use Rattle.sheet.specs.Inner.Sized.{Sized}
 use Rattle.sheet.proofs.Sizes.{sizes-in, sizes-fit}
@@ -69,13 +70,13 @@ wire-back x n m j at q l o = rw (lt-leb m j l, eq-eqb j j refl) (tree-back x n 0
 -- the wires from j on
 abbrev pub ToldWires : ℕ → ℕ → ℕ → ℕ → List ℕ → Read (List Tree) → Type 0
 ToldWires left n j at bytes (taken xs next rest) =
-    (bytes ≡ wiresBytes j xs ++ rest) × (next ≡ at + length (wiresBytes j xs)) × (length xs ≡ left) × AllOrdered n xs
+    (bytes ≡ wiresBytes j xs ++ rest) × (next ≡ at + length (wiresBytes j xs)) × (length xs ≡ left) × Each (Ordered n 0) xs
 ToldWires left n j at bytes (fault f) = Unit {0}
 
 more-told : (left n j at : ℕ) (x : Tree) (next : ℕ) (bytes rest : List ℕ) → ToldWire n j at bytes (taken x next rest)
     → (y : Read (List Tree)) → ToldWires left n (suc j) next rest y
     → ToldWires (suc left) n j at bytes (andThen y (λ xs at″ rest″. taken (x ∷ xs) at″ rest″))
-unfolding andThen wiresBytes AllOrdered
+unfolding andThen wiresBytes
 more-told left n j at x next bytes rest h (fault f) t = tt
 more-told left n j at x next bytes rest h (taken xs past q) t = (
   h .0 ∙ ap (λ (l : List ℕ). 0x21 ∷ j ∷ l) (ap (λ (l : List ℕ). treeBytes x ++ l) (t .0) ∙ sym (append-assoc (treeBytes x) (wiresBytes (suc j) xs) q)),
@@ -85,7 +86,7 @@ more-told left n j at x next bytes rest h (taken xs past q) t = (
 )
 
 pub wires-told : (left n m j at : ℕ) (bytes : List ℕ) → ToldWires left n j at bytes (wiresAt left n m j at bytes)
-unfolding wiresAt andThen wiresBytes AllOrdered
+unfolding wiresAt andThen wiresBytes
 wires-told zero n m j at bytes = (refl, omega arith, refl, tt)
 wires-told (suc left) n m j at bytes =
     go (wireAt n m j at bytes) (wire-told n m j at bytes) (λ next rest. wires-told left n m (suc j) next rest)
@@ -95,9 +96,9 @@ wires-told (suc left) n m j at bytes =
     go (fault f) h t = tt
     go (taken x next rest) h t = more-told left n j at x next bytes rest h (wiresAt left n m (suc j) next rest) (t next rest)
 
-wires-back : (xs : List Tree) (n m j at : ℕ) (q : List ℕ) → j + length xs ≤ m → AllOrdered n xs
+wires-back : (xs : List Tree) (n m j at : ℕ) (q : List ℕ) → j + length xs ≤ m → Each (Ordered n 0) xs
     → wiresAt (length xs) n m j at (wiresBytes j xs ++ q) ≡ taken xs (at + length (wiresBytes j xs)) q
-unfolding wiresAt wiresBytes AllOrdered andThen
+unfolding wiresAt wiresBytes andThen
 wires-back [] n m j at q l o = ap (λ z. taken [] z q) (omega arith)
 wires-back (x ∷ xs) n m j at q l o =
     let y = wiresBytes (suc j) xs in
@@ -113,9 +114,9 @@ pub record SheetOf (bytes : List ℕ) (n m : ℕ) (trees : List Tree) : Type 0 w
   pub is : bytes ≡ stageBytes n m trees
   pub sizes : Sized n m
   pub one-each : length trees ≡ m
-  pub ordered : AllOrdered n trees
+  pub ordered : Each (Ordered n 0) trees
 
-abbrev ToldSheet : List ℕ → StageSheet → Type 0
+abbrev ToldSheet : List ℕ → StageSheet Tree → Type 0
 ToldSheet bytes (got n m trees) = SheetOf bytes n m trees
 ToldSheet bytes (noStage f) = Unit {0}
 
@@ -161,7 +162,7 @@ pub accepted : (bytes : List ℕ) (n m : ℕ) (trees : List Tree) → readStage 
 accepted bytes n m trees e = subst (ToldSheet bytes) e (sheet-told bytes)
 
 -- (1) the bytes of ordered trees, one for each wire, are read as those trees
-pub read-back : (n m : ℕ) (trees : List Tree) → Sized n m → length trees ≡ m → AllOrdered n trees → readStage (stageBytes n m trees) ≡ got n m trees
+pub read-back : (n m : ℕ) (trees : List Tree) → Sized n m → length trees ≡ m → Each (Ordered n 0) trees → readStage (stageBytes n m trees) ≡ got n m trees
 unfolding readStage due dueNumber operand stageBytes closed endAt nothingAfter
 read-back n m trees z l o =
     let w = wires-back trees n m 0 3 (0x2F ∷ []) (omega arith) o in
@@ -169,8 +170,7 @@ read-back n m trees z l o =
     rw (sizes-fit n m z, w′)
 
 -- (3) what is written is read back as the trees written (the whole round trip: proofs/RoundTrip)
-pub trees-ordered : (n : ℕ) (ts : List ℕ) → ((j : ℕ) → j < length ts → getD ts j 0 < 2 ^ (2 ^ n)) → AllOrdered n (map (reduced n 0) ts)
-unfolding AllOrdered
+pub trees-ordered : (n : ℕ) (ts : List ℕ) → ((j : ℕ) → j < length ts → getD ts j 0 < 2 ^ (2 ^ n)) → Each (Ordered n 0) (map (reduced n 0) ts)
 trees-ordered n [] h = tt
 trees-ordered n (t ∷ ts) h = (reduced-ordered n n 0 t (zero-add n) (h 0 (omega arith)), trees-ordered n ts (λ j l. h (suc j) (omega arith)))
 

@@ -28,16 +28,6 @@ wiresBytes j (x ∷ xs) = wireBytes j x ++ wiresBytes (suc j) xs
 unfoldable pub stageBytes : ℕ → ℕ → List Tree → List ℕ
 stageBytes n m trees = 0x20 ∷ n ∷ m ∷ wiresBytes 0 trees ++ 0x2F ∷ []
 
--- in no tree does a branch come back to an input at or before one that it has passed
-unfoldable pub AllOrdered : ℕ → List Tree → Type 0
-AllOrdered n [] = Unit {0}
-AllOrdered n (x ∷ xs) = Ordered n 0 x × AllOrdered n xs
-
--- the selectors in all trees
-unfoldable pub size : List Tree → ℕ
-size [] = zero
-size (x ∷ xs) = selectors x + size xs
-
 -- no stage has more cells: a tree has fewer selectors than there are patterns
 abbrev pub mostCells : ℕ
 mostCells = maxWires * (maxPatterns - 1)

@@ -2,5 +2,6 @@
 pub mod Bytes
 pub mod Written
 pub mod Read
+pub mod Trees
 pub mod Reply
 pub mod RoundTrip

@@ -9,6 +9,7 @@ use lib.ListN.{drop}
 use Rattle.base.specs.Refusals.{refusalAt, cutShort, unknown, outOfRange, trailing, outOfTurn, notAscending}
 use Rattle.base.specs.declared.Refusal.{Refusal}
 use Rattle.sheet.specs.Limits.{countOut, sizesOut}
+use Rattle.table.specs.Drawing.{StageSheet, got, noStage}
 use Rattle.table.specs.Tree.{Tree, con, sel}
 
 -- what reading at a place takes, with the place and the bytes after it; or the refusal
@@ -95,17 +96,13 @@ nothingAfter stop whole at (b ∷ rest) = stop (refusalAt trailing (at + 1))
 unfoldable pub endAt : {A : Type 0} → (Refusal → A) → A → ℕ → List ℕ → A
 endAt stop whole at = due stop 0x2F at (nothingAfter stop whole at)
 
--- what a stage sheet holds: its sizes and one tree for each wire; or the refusal
-pub data StageSheet : Type 0 where
-  got : ℕ → ℕ → List Tree → StageSheet
-  noStage : Refusal → StageSheet
-
-unfoldable pub closed : ℕ → ℕ → Read (List Tree) → StageSheet
+-- the end after the wires
+unfoldable pub closed : ℕ → ℕ → Read (List Tree) → StageSheet Tree
 closed n m (taken trees at rest) = endAt noStage (got n m trees) at rest
 closed n m (fault f) = noStage f
 
 -- a whole stage sheet: the head with its sizes, a tree for each wire, and the end
-unfoldable pub readStage : List ℕ → StageSheet
+unfoldable pub readStage : List ℕ → StageSheet Tree
 readStage =
     due noStage 0x20 0
     (operand noStage 0

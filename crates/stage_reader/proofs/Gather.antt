@@ -6,15 +6,17 @@ use native.Mathlib.Omega.{arith}
 use native.Mathlib.Nat.{add-assoc, zero-add}
 use native.Mathlib.Numerals.{add-one}
 use lib.ListN.{length, set, drop, replicate}
+use Rattle.table.specs.Drawing.{drawnCells, StageSheet, got, noStage}
 use Rattle.base.specs.Cases.{acceptedCase, refusedCase, verdictCase}
 use Rattle.base.specs.declared.Refusal.{Refusal}
 use Rattle.sheet.specs.Limits.{maxInputs, maxWires, maxPatterns}
 use Rattle.table.specs.Bits.{tabulate}
 use Rattle.table.specs.Tree.{Tree, selectors}
-use Rattle.stage.specs.Bytes.{wireBytes, size}
+use Rattle.stage.specs.Bytes.{wireBytes}
+use Rattle.stage.specs.Trees.{size}
 use Rattle.stage.specs.Reply.{StageReply, tableOf, stageTables, refusedReply, replyToStage}
 use Rattle.stage_reader.specs.Inner.Trees.{takenTree, refusedTree, stepOf}
-use Rattle.stage.specs.Read.{Read, taken, fault, andThen, wireAt, wiresAt, endAt, StageSheet, got, noStage, closed}
+use Rattle.stage.specs.Read.{Read, taken, fault, andThen, wireAt, wiresAt, endAt, closed}
 use Rattle.base.specs.declared.Verdict.{Verdict}
 use Rattle.stage.proofs.Sheets.{ToldWire, wire-told, ToldWires, wires-told}
 use Rattle.stage_reader.proofs.Ends.{end-map, byVerdict, end-verdict}
@@ -41,7 +43,7 @@ filled n tables j [] = tables
 filled n tables j (x ∷ xs) = filled n (set tables j (tableOf n x)) (suc j) xs
 
 -- the reply of a sheet whose wires below j are gathered already
-unfoldable pub replyWith : List ℕ → ℕ → ℕ → StageSheet → StageReply
+unfoldable pub replyWith : List ℕ → ℕ → ℕ → StageSheet Tree → StageReply
 replyWith tables cells j (got n m trees) = record { n = n; m = m; tables = filled n tables j trees; cells = cells + size trees; answer = acceptedCase }
 replyWith tables cells j (noStage f) = refusedReply f
 
@@ -49,7 +51,7 @@ replyWith tables cells j (noStage f) = refusedReply f
 end-more : (tables : List ℕ) (cells n m j : ℕ) (x : Tree) (xs : List Tree) (at : ℕ) (rest : List ℕ)
     → replyWith tables cells j (endAt noStage (got n m (x ∷ xs)) at rest)
     ≡ replyWith (set tables j (tableOf n x)) (cells + selectors x) (suc j) (endAt noStage (got n m xs) at rest)
-unfolding replyWith filled size
+unfolding replyWith filled drawnCells
 end-more tables cells n m j x xs at rest =
     let more = replyWith (set tables j (tableOf n x)) (cells + selectors x) (suc j) in
     end-map (replyWith tables cells j) noStage (got n m (x ∷ xs)) at rest

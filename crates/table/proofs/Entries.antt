@@ -6,8 +6,9 @@ use native.Mathlib.Omega.{arith}
 use lib.Arith.{digits-div, digits-mod}
 use lib.Bits.{bitAnd}
 use Rattle.table.specs.Cells.{cells, low, high}
-use Rattle.table.specs.Pick.{Proj, leastOf, masked, pickOf, rank}
-use Rattle.table.specs.Blocks.{entryOf, blockOf, Shown, Covered}
+use Rattle.table.specs.Pick.{Proj, leastOf}
+use Rattle.table.specs.Inner.Ranks.{masked, pickOf, rank}
+use Rattle.table.specs.Inner.Blocks.{entryOf, blockOf, Shown, Covered}
 use Rattle.table.proofs.Cells.{cells-lt}
 use Rattle.table.proofs.Count.{repeated}
 use Rattle.table.proofs.Halving.{upper, common, join, IsBest, least-best}

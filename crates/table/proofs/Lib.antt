@@ -9,3 +9,5 @@ pub mod Masks
 pub mod Entries
 pub mod Pairs
 pub mod Places
+pub mod BitColumns
+pub mod Drawings

@@ -10,8 +10,9 @@ use lib.Dec.{T, T-not, eqb}
 use Rattle.base.proofs.Tests.{cond-has, eq-test}
 use Rattle.table.specs.Bits.{bit, ofBits}
 use Rattle.table.specs.Cells.{cells, low, high}
-use Rattle.table.specs.Pick.{Proj, suits, least, orZero, leastOf, masked, pickOf}
-use Rattle.table.specs.Blocks.{Covered}
+use Rattle.table.specs.Pick.{Proj, suits, least, orZero, leastOf}
+use Rattle.table.specs.Inner.Ranks.{masked, pickOf}
+use Rattle.table.specs.Inner.Blocks.{Covered}
 use Rattle.table.proofs.Bits.{all-cong, all-intro, all-at, ofBits-lt, bit-ofBits, bit-lt, bit-cases, test-and}
 use Rattle.table.proofs.Cells.{low-bit, high-bit}
 use Rattle.table.proofs.Least.{Least, least-is, least-eq}

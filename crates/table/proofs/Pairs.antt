@@ -5,7 +5,7 @@ use native.Mathlib.Omega.{arith}
 use native.Mathlib.Nat.{add-comm}
 use lib.Pow.{shr-shr}
 use Rattle.table.specs.Bits.{bit}
-use Rattle.table.specs.Pairs.{seat, zerosIn, onesIn}
+use Rattle.table.specs.Inner.Pairs.{seat, zerosIn, onesIn}
 use Rattle.table.proofs.Bits.{bit-lt, bit-mod, bit-div, bit-ext, bit-ofBits, ofBits-lt}
 
 -- a pattern in each mask

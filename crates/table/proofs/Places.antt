@@ -10,9 +10,10 @@ use lib.Bits.{bitAnd, and-shr, and-mod}
 use lib.Pow.{shr-shr}
 use lib.ListN.{getD}
 use Rattle.table.specs.Cells.{cells}
-use Rattle.table.specs.Pick.{leastOf, masked}
-use Rattle.table.specs.Blocks.{blockOf, Blocks, Shown}
-use Rattle.table.specs.Pairs.{zerosIn, onesIn}
+use Rattle.table.specs.Pick.{leastOf}
+use Rattle.table.specs.Inner.Ranks.{masked}
+use Rattle.table.specs.Inner.Blocks.{blockOf, Blocks, Shown}
+use Rattle.table.specs.Inner.Pairs.{zerosIn, onesIn}
 use Rattle.table.proofs.Pairs.{Place, byte-place, first-place, zeros-lt, ones-lt}
 use Rattle.table.proofs.Entries.{entry-le, three-shown, four-shown}
 

@@ -9,7 +9,7 @@ use lib.Dec.{T-not, eqb, ltb, ltb→lt, nltb→le, eqb→eq}
 use Rattle.base.proofs.Tests.{cond-has, decide, eq-test}
 use Rattle.table.specs.Cells.{cells}
 use Rattle.table.specs.Pick.{Proj, leastOf}
-use Rattle.table.specs.Blocks.{noTable, Shown}
+use Rattle.table.specs.Inner.Blocks.{noTable, Shown}
 use Rattle.table.proofs.Cells.{cells-lt, cells-same, cells-differ}
 use Rattle.table.proofs.Halving.{upper, common, join, joins, closer, closest, Best, IsBest, least-best, least-halves, join-low, join-high, join-lt, suits-common, common-suits}
 

@@ -25,3 +25,8 @@ sum (suc k) f = sum k f + f k
 -- the number whose bit i is f i, for i below k
 unfoldable pub ofBits : ℕ → (ℕ → ℕ) → ℕ
 ofBits k f = sum k (λ i. f i * 2 ^ i)
+
+-- a test as a number
+unfoldable pub isOne : Bool → ℕ
+isOne true = 1
+isOne false = 0

@@ -1,8 +1,11 @@
 -- Document 01, "Cells": how many selectors the reduced ordered decision tree of a table has.
 -- Bit p of a table is the wire on pattern p, so a table of n inputs is a number below 2 ^ (2 ^ n).
-use Prim.Native.Nat.{ℕ, zero, suc, _+_, _^_, _/_, _%_, _-_}
-use mathlib.Core.Bool.{Bool, cond, _||_}
+use Prim.Native.Nat.{ℕ, zero, suc, _+_, _^_, _/_, _%_}
+use mathlib.Core.Bool.{cond}
+use mathlib.Core.List.{List}
 use lib.Dec.{eqb}
+use lib.ListN.{getD}
+use Rattle.table.specs.Bits.{sum}
 
 -- the halves of a table of n + 1 inputs by its first input: `low` where that is 0, `high` where it is 1
 unfoldable pub low : ℕ → ℕ → ℕ
@@ -19,15 +22,10 @@ cells (suc n) t =
     let b = suc (a + cells n (high n t)) in
     cond (eqb (low n t) (high n t)) a b
 
--- the table is constant 0 or constant 1
-unfoldable pub isConstant : ℕ → ℕ → Bool
-isConstant n t = eqb t 0 || eqb t (2 ^ (2 ^ n) - 1)
+-- the tables of a list, in the order of the wires; 0 past its end
+abbrev pub wires : List ℕ → ℕ → ℕ
+wires ts j = getD ts j 0
 
--- the same count with the rule for constants written apart, as the document has it (proofs/Cells, `cells-written`)
-unfoldable pub cellsWritten : ℕ → ℕ → ℕ
-cellsWritten zero t = zero
-cellsWritten (suc n) t =
-    let a = cellsWritten n (low n t) in
-    let b = suc (a + cellsWritten n (high n t)) in
-    let c = cond (eqb (low n t) (high n t)) a b in
-    cond (isConstant (suc n) t) zero c
+-- the count of each of m wires' tables, summed: with `cells`, the cells of a stage
+unfoldable pub total : (ℕ → ℕ) → ℕ → (ℕ → ℕ) → ℕ
+total count m X = sum m (λ j. count (X j))

@@ -2,6 +2,6 @@
 pub mod Bits
 pub mod Cells
 pub mod Tree
+pub mod Drawing
 pub mod Pick
-pub mod Blocks
-pub mod Pairs
+pub mod Inner

@@ -1,11 +1,10 @@
 -- Document 01, "Search": the pick, which is the least table that a projection admits, by cells and of equals by number
 -- (the minimum of an incompletely specified function).
-use Prim.Native.Nat.{ℕ, zero, suc, _+_, _*_, _^_}
+use Prim.Native.Nat.{ℕ, zero, suc, _^_}
 use mathlib.Core.Bool.{Bool, cond}
 use mathlib.Core.Option.{Option, none, some}
-use lib.Dec.{ltb, eqb}
+use lib.Dec.{ltb}
 use Rattle.table.specs.Bits.{bit, all}
-use Rattle.table.specs.Cells.{cells}
 
 -- which bits occur on a pattern: the projection of a relation on a wire
 abbrev pub Proj : Type 0
@@ -36,18 +35,3 @@ orZero (some t) = t
 -- among all tables of n inputs that suit the projection
 unfoldable pub leastOf : (ℕ → ℕ) → ℕ → Proj → Option ℕ
 leastOf key n P = least key (suits n P) (2 ^ (2 ^ n))
-
--- the projection that two masks tell: 0 may stand on the patterns of zeros, 1 on those of ones
-unfoldable pub masked : ℕ → ℕ → Proj
-masked zeros ones p b = eqb (bit (cond (eqb b 0) zeros ones) p) 1
-
--- the pick between two masks
-unfoldable pub pickOf : ℕ → ℕ → ℕ → ℕ
-pickOf n zeros ones = orZero (leastOf (cells n) n (masked zeros ones))
-
--- a table and its cells as one number: the lesser number is the better pick
-abbrev pub tableSpace : ℕ
-tableSpace = 65536
-
-unfoldable pub rank : ℕ → ℕ → ℕ
-rank n t = cells n t * tableSpace + t

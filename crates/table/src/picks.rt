@@ -2,16 +2,21 @@
 // Both masks come in one number, the pair: a byte for each four patterns, `zeros` in its upper half and `ones` in its lower.
 // A result is one number, its rank: cells, then the table. Blocks of two inputs are looked up in a table that the caller lends, since a constant is
 // copied by every function that names it. Each byte of the pair is the place of a block in that table, so no place has to be made.
+use sheet::Sheet;
 ghost use mathlib.Core.Path.{_≡_};
 ghost use Prim.Native.Nat.{_<_, _≤_, _^_, _+_, _*_, _/_, _%_, min};
 ghost use Rattle.table.specs.Cells.{cells};
-ghost use Rattle.table.specs.Pick.{leastOf, masked, pickOf, rank};
-ghost use Rattle.table.specs.Blocks.{blockOf, Blocks, Shown, Covered};
-ghost use Rattle.table.specs.Pairs.{zerosIn, onesIn};
+ghost use Rattle.table.specs.Pick.{leastOf};
+ghost use Rattle.table.specs.Inner.Ranks.{masked, pickOf, rank};
+ghost use Rattle.table.specs.Inner.Blocks.{blockOf, Blocks, Shown, Covered};
+ghost use Rattle.table.specs.Inner.Pairs.{zerosIn, onesIn};
+
+// The entries of that table: one for each pair of masks of two inputs, which is each byte.
+pub const ENTRIES: usize = 256;
 
 // The pick of each pair of masks of two inputs, at zeros * 16 + ones: cells * 256 + table * 17, the table twice side by side.
 // Where some pattern is in no mask there is none: 64 cells.
-const BLOCKS: [u16; 256] = [
+const BLOCKS: [u16; ENTRIES] = [
     0x4000,
     0x4000,
     0x4000,
@@ -270,8 +275,11 @@ const BLOCKS: [u16; 256] = [
     0x0000,
 ];
 
+// Above every table: tables have at most so many bits as there are patterns.
+pub const TABLE_SPACE: u32 = 1 << Sheet::MAX_PATTERNS;
+
 // The table of blocks, to be lent to the functions below.
-pub fn blocks() -> [u16; 256]
+pub fn blocks() -> [u16; ENTRIES]
     ensures { λ r. ⌜ Blocks r ⌝ }
 {
     BLOCKS
@@ -284,7 +292,7 @@ fn lesser(a: u32, b: u32) -> u32
 }
 
 // Two inputs: an entry of the table.
-fn block(e: &[u16; 256], at: u32) -> u32
+fn block(e: &[u16; ENTRIES], at: u32) -> u32
     requires { ⌜ Blocks (now e) × (at < 256) ⌝ }
     ensures { λ r. ⌜ (r ≡ blockOf (at / 16) (at % 16)) × (r ≤ 16384) ⌝ }
 {
@@ -293,7 +301,7 @@ fn block(e: &[u16; 256], at: u32) -> u32
 
 // Three inputs, from the places of the lower and the upper half: cells * 256 + table. Two places, bit by bit together, are the place of what both
 // blocks have.
-fn pick3(e: &[u16; 256], low: u32, high: u32) -> u32
+fn pick3(e: &[u16; ENTRIES], low: u32, high: u32) -> u32
     requires { ⌜ Blocks (now e) × (low < 256) × (high < 256) ⌝ }
     ensures { λ r. ⌜ Shown 3 256 (leastOf (cells 3) 3 (masked (high / 16 * 16 + low / 16) (high % 16 * 16 + low % 16))) r × (r ≤ 16384) ⌝ }
 {
@@ -304,7 +312,7 @@ fn pick3(e: &[u16; 256], low: u32, high: u32) -> u32
 }
 
 // Four inputs: the rank.
-fn pick4(e: &[u16; 256], pair: u32) -> u32
+fn pick4(e: &[u16; ENTRIES], pair: u32) -> u32
     requires { ⌜ Blocks (now e) ⌝ }
     ensures { λ r. ⌜ Shown 4 65536 (leastOf (cells 4) 4 (masked (zerosIn pair) (onesIn pair))) r ⌝ }
 {
@@ -320,7 +328,7 @@ fn pick4(e: &[u16; 256], pair: u32) -> u32
 
 // The rank of the pick between the two masks of a pair, among the tables of n inputs. The search calls it with the masks of a wire, which cover every pattern.
 // One input is looked up as two: times 5, the two patterns of each mask stand there twice.
-pub fn pick(e: &[u16; 256], n: u8, pair: u32) -> u32
+pub fn pick(e: &[u16; ENTRIES], n: u8, pair: u32) -> u32
     requires { ⌜ Blocks (now e) × (1 ≤ n) × (n ≤ 4) × (zerosIn pair < 2 ^ (2 ^ n)) × (onesIn pair < 2 ^ (2 ^ n)) × Covered n (zerosIn pair) (onesIn pair) ⌝ }
     ensures { λ r. ⌜ r ≡ rank n (pickOf n (zerosIn pair) (onesIn pair)) ⌝ }
 {

@@ -16,7 +16,7 @@ use Rattle.sheet.specs.Gathered.{outputAt}
 use Rattle.sheet.proofs.Fields.{outputs-field, output-field}
 use Rattle.unit.specs.Gates.{signalsOn, outputsFor}
 use Rattle.unit.specs.Relation.{sameList}
-use Rattle.unit.specs.Parts.{Held, Signals, codeOf}
+use Rattle.unit.specs.Inner.Parts.{WasRead, Signals, codeOf}
 use Rattle.unit.proofs.Signals.{AllBits, upTo-bits, gates-upTo}
 use Rattle.unit.proofs.Placed.{placed, wires-bits, signals-made}
 
@@ -80,7 +80,7 @@ module _ (cs : List Command) where
       (λ t. eq-test (code-same v u (same-list (outputsFor cs v) (outputsFor cs u) t)))
 
 -- the outputs as the code gathers them, from a list that holds the signals
-module _ {sheet : Sheet} (h : Held sheet) (v : ℕ) (signals : List ℕ) (is : Signals (h .commands) v signals) where
+module _ {sheet : Sheet} (h : WasRead sheet) (v : ℕ) (signals : List ℕ) (is : Signals (h .commands) v signals) where
   count : sheet .«output_count» ≡ length (outputsOf (h .commands))
   count = subst (λ x. x .«output_count» ≡ length (outputsOf (h .commands))) (sym (h .gathers)) (outputs-field (h .commands))
 

@@ -20,11 +20,11 @@ use Rattle.reader.specs.Reading.{readingOf, replyTold}
 use Rattle.reader.proofs.Replies.{accepted-reply}
 use Rattle.reader.proofs.Sound.{sound}
 use Rattle.unit.specs.Formed.{relationIn, turnedAway, formedFrom, formedOf}
-use Rattle.unit.specs.Parts.{Held, afterCheck}
+use Rattle.unit.specs.Inner.Parts.{WasRead, checkedReply}
 use Rattle.unit.proofs.Told.{emptyIn, refused-empty, passes-whole}
 
 -- a reply that accepts comes from a sheet that was read
-unfoldable pub accepted-held : (bytes : List ℕ) (r : Reply) → sheetReply r ≡ replyTold (readingOf bytes) → r .answer ≡ Accepted → Held (r .sheet)
+unfoldable pub accepted-held : (bytes : List ℕ) (r : Reply) → sheetReply r ≡ replyTold (readingOf bytes) → r .answer ≡ Accepted → WasRead (r .sheet)
 accepted-held bytes r e a =
     let x = accepted-reply r (readingOf bytes) e a in
     record { bytes = bytes; commands = x .commands; held = x .holds-them; gathers = x .sheet-is }
@@ -46,7 +46,7 @@ module _ (bytes : List ℕ) where
     formed-whole l = rw (e, le-ltb (emptyIn cs) (2 ^ inputsOf cs) l)
 
     -- what the test of the relation gives is what forming it gives
-    pub after-check : afterCheck (relationIn cs) (checkOf (relationIn cs)) ≡ formedOf bytes
+    pub after-check : checkedReply (relationIn cs) (checkOf (relationIn cs)) ≡ formedOf bytes
     after-check =
         let s = sound bytes cs e in
         let p = emptyIn cs in

@@ -6,10 +6,9 @@ use mathlib.Core.Bool.{Bool, true, false}
 use native.Mathlib.Omega.{arith}
 use lib.Dec.{eqb, ltb, ltb→lt, nltb→le}
 use Rattle.base.proofs.Tests.{decide}
-use Rattle.table.specs.Bits.{bit, ofBits}
+use Rattle.table.specs.Bits.{bit, ofBits, isOne}
 use Rattle.table.proofs.Bits.{bit-lt, bit-ext, bit-past, bit-ofBits, ofBits-lt, ofBits-more, ofBits-short}
-use Rattle.relation.specs.Tests.{isOne}
-use Rattle.relation.proofs.Columns.{one-test, isOne-lt-two}
+use Rattle.table.proofs.BitColumns.{one-test, isOne-lt-two}
 use Rattle.sheet.proofs.Lists.{never}
 use Rattle.unit.proofs.Bits.{two-bits}
 

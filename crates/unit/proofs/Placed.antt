@@ -16,11 +16,11 @@ use Rattle.sheet.specs.declared.Sheet.{Sheet}
 use Rattle.sheet.specs.Commands.{LogicGate, noGate, wiresOf, gatesOf, outputsOf, signalsMade}
 use Rattle.sheet.specs.Gathered.{gathered, gateAt}
 use Rattle.reader.proofs.Sound.{Sound, sound}
-use Rattle.sheet.proofs.Each.{each-getD}
+use Rattle.base.proofs.Each.{each-getD}
 use Rattle.reader.proofs.Wiring.{Wired}
 use Rattle.sheet.proofs.Fields.{inputs-field, wires-field, gates-field, outputs-field, kind-field, left-field, right-field, output-field}
 use Rattle.unit.specs.Gates.{signalsOn}
-use Rattle.unit.specs.Parts.{Held}
+use Rattle.unit.specs.Inner.Parts.{WasRead}
 use Rattle.unit.proofs.Signals.{AllBits, upTo, upTo-cong, gates-upTo}
 
 -- the gate in place i
@@ -75,7 +75,7 @@ module _ (cs : List Command) (s : Sound cs) where
       (gates-upTo (tabulate (wiresOf cs) (bit v)) (gatesOf cs)
       ∙ upTo-cong (tabulate (wiresOf cs) (bit v)) (λ i. getD (gatesOf cs) i noGate) (gateOf (gathered cs)) (length (gatesOf cs)) (λ i l. sym (gate-is i l)))
 
-module _ {sheet : Sheet} (h : Held sheet) where
+module _ {sheet : Sheet} (h : WasRead sheet) where
   abbrev pub held-sound : Sound (h .commands)
   held-sound = sound (h .bytes) (h .commands) (h .held)
 

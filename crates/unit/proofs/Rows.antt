@@ -4,8 +4,8 @@ use mathlib.Core.List.{List, [], _∷_}
 use Prim.Native.Nat.{ℕ}
 use Rattle.base.specs.Cases.{acceptedCase}
 use Rattle.base.specs.Lowest.{lowest}
-use Rattle.table.specs.Bits.{bit, any, sum, ofBits, tabulate}
-use Rattle.relation.specs.Tests.{isOne, emptyPattern}
+use Rattle.table.specs.Bits.{bit, any, sum, ofBits, tabulate, isOne}
+use Rattle.relation.specs.Tests.{emptyPattern}
 use Rattle.sheet.specs.Commands.{collect}
 use Rattle.reader.specs.Reader.{nextOf}
 use Rattle.sheet.specs.Judged.{judged, ending}

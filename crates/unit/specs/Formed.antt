@@ -6,9 +6,9 @@ use lib.Dec.{ltb}
 use Rattle.base.specs.declared.Refusal.{Refusal}
 use Rattle.base.specs.Refusals.{refusalAt, empty}
 use Rattle.base.specs.Cases.{acceptedCase, refusedCase}
-use Rattle.table.specs.Bits.{ofBits, tabulate}
+use Rattle.table.specs.Bits.{ofBits, tabulate, isOne}
 use Rattle.relation.specs.declared.Relation.{Relation}
-use Rattle.relation.specs.Tests.{isOne, emptyPattern}
+use Rattle.relation.specs.Tests.{emptyPattern}
 use Rattle.sheet.specs.declared.Command.{Command}
 use Rattle.sheet.specs.Commands.{inputsOf, wiresOf}
 use Rattle.sheet.specs.Limits.{maxPatterns, maxValues}

@@ -5,4 +5,4 @@ pub mod Rival
 pub mod Present
 pub mod Cases
 pub mod Formed
-pub mod Parts
+pub mod Inner

@@ -7,12 +7,12 @@ use Rattle.table.specs.Bits.{bit, sum, ofBits, tabulate}
 use Rattle.table.specs.Cells.{cells}
 use Rattle.sheet.specs.declared.Command.{Command}
 use Rattle.sheet.specs.Commands.{inputsOf, wiresOf}
-use Rattle.sheet.specs.Gathered.{valueOn}
+use Rattle.sheet.specs.Gathered.{presentOn}
 use Rattle.sheet.specs.Judged.{Reading, holds, refused}
 
 -- the table of wire j: its bit p is the wire's bit in the value on pattern p, 0 where p has no 02
 unfoldable pub presentTable : List Command → ℕ → ℕ
-presentTable cs j = ofBits (2 ^ inputsOf cs) (λ p. bit (valueOn p cs) j)
+presentTable cs j = ofBits (2 ^ inputsOf cs) (λ p. bit (presentOn p cs) j)
 
 unfoldable pub presentTables : Reading → List ℕ
 presentTables (holds cs) = tabulate maxWires (presentTable cs)

@@ -6,10 +6,10 @@ ghost use lib.ListN.{getD};
 ghost use Rattle.sheet.specs.Limits.{maxWires};
 ghost use Rattle.table.specs.Bits.{bit};
 ghost use Rattle.unit.specs.Gates.{gateBit};
-ghost use Rattle.unit.specs.Parts.{Held, Signals, codeOf};
+ghost use Rattle.unit.specs.Inner.Parts.{WasRead, Signals, codeOf};
 
 // Room for a signal of each wire and of each gate.
-const MAX_SIGNALS: usize = Sheet::MAX_WIRES as usize + Sheet::MAX_GATES as usize;
+const MAX_SIGNALS: usize = Sheet::WIRES + Sheet::MAX_GATES as usize;
 
 // What a gate of a kind makes of two bits. A sheet that was read names no other kind.
 fn gate_bit(kind: u8, a: u8, b: u8) -> u8
@@ -48,8 +48,8 @@ fn wires_on(v: u8) -> [u8; MAX_SIGNALS]
 
 // The signals for a wire value: the wires, and after them the gates as they come.
 fn signals_on(sheet: Sheet, v: u8) -> [u8; MAX_SIGNALS]
-    requires { ⌜ Held sheet ⌝ }
-    ensures { λ r. ⌜ ((h : Held sheet) → Signals (h .commands) v r) ⌝ }
+    requires { ⌜ WasRead sheet ⌝ }
+    ensures { λ r. ⌜ ((h : WasRead sheet) → Signals (h .commands) v r) ⌝ }
 {
     let m = sheet.m;
     let kinds = sheet.kinds;
@@ -67,8 +67,8 @@ fn signals_on(sheet: Sheet, v: u8) -> [u8; MAX_SIGNALS]
 
 // The outputs for a wire value as one number, so that two values are alike where the numbers are equal. `form` has the sheet from its reader.
 pub(crate) fn outputs_on(sheet: Sheet, v: u8) -> u8
-    requires { ⌜ Held sheet ⌝ }
-    ensures { λ r. ⌜ ((h : Held sheet) → r ≡ codeOf (h .commands) v) ⌝ }
+    requires { ⌜ WasRead sheet ⌝ }
+    ensures { λ r. ⌜ ((h : WasRead sheet) → r ≡ codeOf (h .commands) v) ⌝ }
 {
     let outputs = sheet.signals;
     let signals = signals_on(sheet, v);

@@ -3,11 +3,12 @@ use crate::sets::relation_of;
 use base::Refusal;
 use base::Verdict;
 use relation::Relation;
+use sheet::Sheet;
 ghost use mathlib.Core.Path.{_≡_};
 ghost use Rattle.relation.specs.Handed.{checkOf};
 ghost use Rattle.unit.specs.Cases.{formedReply};
 ghost use Rattle.unit.specs.Formed.{turnedAway, formedOf};
-ghost use Rattle.unit.specs.Parts.{afterCheck};
+ghost use Rattle.unit.specs.Inner.Parts.{checkedReply};
 
 mod gates; // gates.rt: signals and outputs for a wire value
 mod sets; // sets.rt: the relation, pattern by pattern
@@ -24,7 +25,7 @@ fn turned_away(f: Refusal) -> Formed
     let relation = Relation {
         n: 0,
         m: 0,
-        sets: [0; 16],
+        sets: [0; Sheet::MAX_PATTERNS],
     };
     Formed {
         relation,
@@ -34,7 +35,7 @@ fn turned_away(f: Refusal) -> Formed
 
 // A relation with an empty pattern is refused: 10.
 fn judge(relation: Relation) -> Formed
-    ensures { λ r. ⌜ formedReply r ≡ afterCheck relation (checkOf relation) ⌝ }
+    ensures { λ r. ⌜ formedReply r ≡ checkedReply relation (checkOf relation) ⌝ }
 {
     let checked = relation.check();
     match checked {

@@ -1,39 +1,35 @@
 // The relation of a sheet that was read, pattern by pattern.
 use crate::gates::outputs_on;
 use relation::Relation;
-use relation::patterns::patterns_of;
 use sheet::Sheet;
+use sheet::limits::patterns_of;
 ghost use mathlib.Core.Path.{_≡_};
 ghost use Prim.Native.Nat.{_<_, _^_};
 ghost use lib.Dec.{eqb};
 ghost use lib.ListN.{getD};
-ghost use Rattle.table.specs.Bits.{ofBits};
-ghost use Rattle.relation.specs.Tests.{isOne};
+ghost use Rattle.table.specs.Bits.{ofBits, isOne};
 ghost use Rattle.sheet.specs.Limits.{maxValues};
-ghost use Rattle.unit.specs.Parts.{Held, Codes};
+ghost use Rattle.unit.specs.Inner.Parts.{WasRead, Codes};
 ghost use Rattle.unit.specs.Formed.{setOn, relationIn};
 
-// Room for a code of each wire value.
-const MAX_VALUES: usize = 1 << Sheet::MAX_WIRES;
-
 // The outputs of every wire value, each as one number.
-fn codes_of(sheet: Sheet) -> [u8; MAX_VALUES]
-    requires { ⌜ Held sheet ⌝ }
-    ensures { λ r. ⌜ ((h : Held sheet) → Codes (h .commands) r) ⌝ }
+fn codes_of(sheet: Sheet) -> [u8; Sheet::MAX_VALUES]
+    requires { ⌜ WasRead sheet ⌝ }
+    ensures { λ r. ⌜ ((h : WasRead sheet) → Codes (h .commands) r) ⌝ }
 {
-    let mut codes = [0; MAX_VALUES];
-    for v in 0..MAX_VALUES as u8 {
+    let mut codes = [0; Sheet::MAX_VALUES];
+    for v in 0..Sheet::MAX_VALUES as u8 {
         codes[v as usize] = outputs_on(sheet, v);
     }
     codes
 }
 
 // The set of the values with these outputs.
-fn alike(codes: [u8; MAX_VALUES], code: u8) -> u16
+fn alike(codes: [u8; Sheet::MAX_VALUES], code: u8) -> u16
     ensures { λ r. ⌜ r ≡ ofBits maxValues (λ v. isOne (eqb (getD codes v 0) code)) ⌝ }
 {
     let mut found: u16 = 0;
-    for v in 0..MAX_VALUES as u8 {
+    for v in 0..Sheet::MAX_VALUES as u8 {
         if codes[v as usize] == code {
             found += 1 << v;
         }
@@ -42,9 +38,9 @@ fn alike(codes: [u8; MAX_VALUES], code: u8) -> u16
 }
 
 // The values that pattern p may have: the permitted ones and, unless it is impossible, of those only the ones that are alike to its present value.
-fn set_on(sheet: Sheet, codes: [u8; MAX_VALUES], p: u8) -> u16
-    requires { ⌜ Held sheet × (p < 2 ^ sheet .n) ⌝ }
-    ensures { λ r. ⌜ ((h : Held sheet) → Codes (h .commands) codes → r ≡ setOn (h .commands) p) ⌝ }
+fn set_on(sheet: Sheet, codes: [u8; Sheet::MAX_VALUES], p: u8) -> u16
+    requires { ⌜ WasRead sheet × (p < 2 ^ sheet .n) ⌝ }
+    ensures { λ r. ⌜ ((h : WasRead sheet) → Codes (h .commands) codes → r ≡ setOn (h .commands) p) ⌝ }
 {
     let at = p as usize;
     let allowed = sheet.limits[at];
@@ -57,8 +53,8 @@ fn set_on(sheet: Sheet, codes: [u8; MAX_VALUES], p: u8) -> u16
 
 // The relation, with empty sets past the last pattern. `form` has the sheet from its reader.
 pub(crate) fn relation_of(sheet: Sheet) -> Relation
-    requires { ⌜ Held sheet ⌝ }
-    ensures { λ r. ⌜ ((h : Held sheet) → r ≡ relationIn (h .commands)) ⌝ }
+    requires { ⌜ WasRead sheet ⌝ }
+    ensures { λ r. ⌜ ((h : WasRead sheet) → r ≡ relationIn (h .commands)) ⌝ }
 {
     let n = sheet.n;
     let m = sheet.m;

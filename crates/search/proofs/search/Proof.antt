@@ -1,12 +1,13 @@
 use Rattle.table.specs.Bits.{tabulate}
 use mathlib.Core.Path.{_≡_, ap, sym, subst, _∙_}
 use lib.ListN.{length}
+use Rattle.sheet.specs.Limits.{maxPatterns}
 use Rattle.base.specs.Cases.{verdictCase}
 use Rattle.relation.specs.Tests.{ofSets}
-use Rattle.search.specs.Search.{run}
-use Rattle.search.specs.TreeBoard.{tree}
-use Rattle.search.specs.Reply.{answerOf, refusedWith}
-use Rattle.search.specs.Kept.{Sets}
+use Rattle.branch_bound.specs.Search.{run}
+use Rattle.branch_bound.specs.TreeBoard.{tree}
+use Rattle.branch_bound.specs.Reply.{answerOf, refusedWith}
+use Rattle.parts.specs.Inner.Parts.{PartSets}
 use Rattle.search.proofs.Entry.{inputs, sized, as-held, held, answered, turned-away}
 use borrow.Author.Needs.{needs}
 use Rattle.search.proofs.search.Statement.{statement}
@@ -26,15 +27,15 @@ enum-told c = search needs
 clear-past-requires : tie.Need-clear-past-requires
 clear-past-requires c κs =
     let a = c .before .before .before .before .args in
-    let l : length (a .relation .sets) ≡ 16 = search needs in
+    let l : length (a .relation .sets) ≡ maxPatterns = search needs in
     inputs (a .relation) l (sym (c .before .before .check .ensures) ∙ ap verdictCase (c .enum-told .given .1))
 
 search-sets-requires : tie.Need-search-sets-requires
 search-sets-requires c κs =
     let a = c .before .before .before .before .before .args in
-    let l : length (a .relation .sets) ≡ 16 = search needs in
+    let l : length (a .relation .sets) ≡ maxPatterns = search needs in
     let p = sym (c .before .before .before .check .ensures) ∙ ap verdictCase (c .before .enum-told .given .1) in
-    (sized (a .relation) l p, subst (Sets (a .relation .n) (a .relation .m)) (sym (c .clear-past .ensures)) (held (a .relation) l p))
+    (sized (a .relation) l p, subst (PartSets (a .relation .n) (a .relation .m)) (sym (c .clear-past .ensures)) (held (a .relation) l p))
 
 enum-known-checked : tie.Need-enum-known-checked
 enum-known-checked c = search needs
@@ -43,7 +44,7 @@ returns : tie.Need-returns
 returns c =
     let a = c .before .before .before .before .before .before .args in
     let r = a .relation in
-    let l : length (r .sets) ≡ 16 = search needs in
+    let l : length (r .sets) ≡ maxPatterns = search needs in
     let p = sym (c .before .before .before .before .check .ensures) ∙ ap verdictCase (c .before .before .enum-told .given .1) in
     c .search-sets .ensures
     ∙ ap (λ R. answerOf (r .n) (r .m) R (run (tree (r .n) (r .m)) (a .budget) R)) (ap ofSets (c .before .clear-past .ensures) ∙ as-held r l p)

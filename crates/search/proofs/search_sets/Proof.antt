@@ -2,12 +2,12 @@ use mathlib.Core.Path.{_≡_, refl}
 use native.Mathlib.Omega.{arith}
 use borrow.Author.Tests.{eq-eqb, ne-eqb}
 use Rattle.relation.specs.Tests.{ofSets}
-use Rattle.search.specs.Search.{run}
-use Rattle.search.specs.TreeBoard.{tree}
-use Rattle.search.specs.Kept.{stateOf}
-use Rattle.search.proofs.Branching.{floor-is}
-use Rattle.search.proofs.Whole.{rank-first}
-use Rattle.search.proofs.Entry.{held-whole, ran, stopped-answer, best-answer}
+use Rattle.branch_bound.specs.Search.{run}
+use Rattle.branch_bound.specs.TreeBoard.{tree}
+use Rattle.search.specs.Inner.Tally.{stateOf}
+use Rattle.search.proofs.Carrying.{floor-is}
+use Rattle.parts.proofs.Between.{rank-first}
+use Rattle.search.proofs.Entry.{ran, stopped-answer, best-answer}
 use borrow.Author.Needs.{needs}
 use Rattle.search.proofs.search_sets.Statement.{statement}
 use Rattle.search.proofs.search_sets.Tie as tie
@@ -15,8 +15,8 @@ use Rattle.search.proofs.search_sets.Tie as tie
 blocks-requires : tie.Need-blocks-requires
 blocks-requires c κs = search needs
 
-whole-requires : tie.Need-whole-requires
-whole-requires c κs = search needs
+whole-part-requires : tie.Need-whole-part-requires
+whole-part-requires c κs = search needs
 
 array-read-quick : tie.Need-array-read-quick
 array-read-quick c = search needs
@@ -25,16 +25,16 @@ quick-requires : tie.Need-quick-requires
 quick-requires c κs =
     let a = c .before .before .before .before .before .args in
     let q = c .before .before .before .before .before .pre in
-    let w = c .before .before .whole in
-    (c .before .before .before .before .blocks2 .ensures, q .0, q .1, rank-first (a .n) (a .sets) (held-whole (w .result) (w .ensures .0) (w .ensures .1) (w .ensures .2) (w .ensures .3) .ranks))
+    let w = c .before .before .whole-part in
+    (c .before .before .before .before .blocks2 .ensures, q .0, q .1, rank-first (a .n) (a .sets) (w .ensures .ranks))
 
 floor-of-requires : tie.Need-floor-of-requires
 floor-of-requires c κs = search needs
 
 visit-requires : tie.Need-visit-requires
 visit-requires c κs =
-    let w = c .before .before .before .before .before .before .before .before .before .before .whole in
-    (c .before .before .before .before .before .before .before .before .before .before .before .before .blocks2 .ensures, held-whole (w .result) (w .ensures .0) (w .ensures .1) (w .ensures .2) (w .ensures .3), c .before .before .before .before .before .floor-of .ensures, omega arith, λ q l. absurd (omega arith), refl)
+    let w = c .before .before .before .before .before .before .before .before .before .before .whole-part in
+    (c .before .before .before .before .before .before .before .before .before .before .before .before .blocks2 .ensures, w .ensures, c .before .before .before .before .before .floor-of .ensures, omega arith, λ q l. absurd (omega arith), refl)
 
 array-read-cells : tie.Need-array-read-cells
 array-read-cells c = search needs
@@ -57,12 +57,12 @@ at-end c =
 returns : tie.Need-returns
 returns c =
     let a = c .before .before .before .before .before .before .before .before .before .before .before .before .before .before .before .args in
-    let w = c .before .before .before .before .before .before .before .before .before .before .before .before .whole in
+    let w = c .before .before .before .before .before .before .before .before .before .before .before .before .whole-part in
     let v = c .before .visit in
     let R = ofSets (a .sets) in
     let f = c .before .before .before .before .before .before .before .floor-of in
     stopped-answer (a .n) (a .m) R (stateOf (v .last .1 .1 .0) (v .last .1 .1 .1 .0)) (run (tree (a .n) (a .m)) (a .budget) R) (f .result) (at-end (c .before)) (eq-eqb _ _ (c .if1 .taken))
-    (floor-is (held-whole (w .result) (w .ensures .0) (w .ensures .1) (w .ensures .2) (w .ensures .3)) (f .ensures))
+    (floor-is (w .ensures) (f .ensures))
 
 returns-2 : tie.Need-returns-2
 returns-2 c =
@@ -76,7 +76,7 @@ search-sets-spec =
     tie.close
     (tie.spec
     blocks-requires
-    whole-requires
+    whole-part-requires
     array-read-quick
     quick-requires
     floor-of-requires

@@ -5,11 +5,12 @@ use native.Mathlib.Nat.{sub-zero, add-zero}
 use native.Mathlib.Omega.{arith}
 use borrow.Author.Needs.{needs}
 use lib.ListN.{length, drop, length-set}
+use Rattle.table.specs.Drawing.{drawnCells, got}
 use Rattle.sheet.specs.Limits.{maxWires, maxPatterns}
-use Rattle.stage.specs.Bytes.{size}
+use Rattle.stage.specs.Trees.{size}
 use Rattle.stage_reader.specs.Inner.Trees.{treeReply, stepOf}
 use Rattle.table.specs.Tree.{Tree}
-use Rattle.stage.specs.Read.{Read, got, wireAt, closed}
+use Rattle.stage.specs.Read.{Read, wireAt, closed}
 use Rattle.stage.specs.Reply.{refusedReply, replyToStage}
 use mathlib.Core.List.{[]}
 use Rattle.stage_reader.proofs.Ends.{byVerdict}
@@ -136,7 +137,7 @@ no-stage-requires-2 : tie.Need-no-stage-requires-2 Inv-loop μ-loop
 no-stage-requires-2 c κs = search needs
 
 returns-2 : tie.Need-returns-2 Inv-loop μ-loop
-unfolding replyWith filled size
+unfolding replyWith filled drawnCells
 returns-2 c = simp (c .enum-told .given .1, add-zero, sub-zero) at (ended (c .before .before))
 
 returns-3 : tie.Need-returns-3 Inv-loop μ-loop

@@ -10,8 +10,9 @@ use Rattle.base.proofs.Tests.{denied, granted, test-yes, test-no}
 use Rattle.table.specs.Bits.{all}
 use Rattle.table.proofs.Bits.{all-at, all-intro}
 use Rattle.relation.specs.Source.{value}
-use Rattle.relation.specs.Tests.{ofSets, wires}
-use Rattle.relation.specs.Masks.{member}
+use Rattle.relation.specs.Tests.{ofSets}
+use Rattle.table.specs.Cells.{wires}
+use Rattle.relation.specs.Inner.Masks.{member}
 use Rattle.relation.proofs.Sets.{member-sets}
 use Rattle.quote.proofs.audits.allowed_everywhere.Statement.{statement}
 use Rattle.quote.proofs.audits.allowed_everywhere.Tie as tie

@@ -6,10 +6,11 @@ use lib.Dec.{eqb}
 use lib.ListN.{getD}
 use borrow.Author.Needs.{needs}
 use Rattle.base.specs.Lowest.{lowest}
+use Rattle.sheet.proofs.Sizes.{sizes-in}
 use Rattle.relation.specs.declared.Relation.{Relation}
 use Rattle.relation.specs.Handed.{widePattern, relationOf}
 use Rattle.relation.specs.Tests.{emptyPattern}
-use Rattle.relation.proofs.Fits.{sizes-in, none-wide, empty-zero, check-sizes, check-wide, check-none, check-passed}
+use Rattle.relation.proofs.Fits.{none-wide, empty-zero, check-sizes, check-wide, check-none, check-passed}
 use Rattle.relation.proofs.Relation.check.Statement.{statement}
 use Rattle.relation.proofs.Relation.check.Tie as tie
 
@@ -31,14 +32,13 @@ returns c =
     rw (c .at .ensures, check-sizes r (sym (c .before .before .sizes-out .ensures) ∙ c .before .if1 .taken))
 
 patterns-of-requires : tie.Need-patterns-of-requires
-patterns-of-requires c κs =
-    let r = c .before .before .before .args .self in
-    omega (arith, sizes-in (r .n) (r .m) (sym (c .before .sizes-out .ensures) ∙ c .if1 .left))
+patterns-of-requires c κs = search needs
 
 wide-pattern-requires : tie.Need-wide-pattern-requires
 wide-pattern-requires c κs =
     let r = c .before .before .before .before .args .self in
-    omega (arith, sizes-in (r .n) (r .m) (sym (c .before .before .sizes-out .ensures) ∙ c .before .if1 .left))
+    let z = sizes-in (r .n) (r .m) (sym (c .before .before .sizes-out .ensures) ∙ c .before .if1 .left) in
+    (z .n-most, z .m-most)
 
 cast-at : tie.Need-cast-at
 cast-at c = search needs
@@ -50,17 +50,19 @@ returns-2 : tie.Need-returns-2
 returns-2 c =
     let r = c .before .before .before .before .before .before .before .args .self in
     let wide = c .before .before .wide-pattern in
-    let e : widePattern (r .n) (r .m) (r .sets) < 2 ^ r .n = omega (arith, wide .ensures, c .before .before .before .patterns-of .ensures, c .before .if2 .taken) in
+    let sizes = sym (c .before .before .before .before .before .sizes-out .ensures) ∙ c .before .before .before .before .if1 .left in
+    let count = c .before .before .before .patterns-of .ensures .2 (sizes-in (r .n) (r .m) sizes .n-most) in
+    let e : widePattern (r .n) (r .m) (r .sets) < 2 ^ r .n = omega (arith, wide .ensures, count, c .before .if2 .taken) in
     rw (
       c .at2 .ensures,
-      check-wide r (sym (c .before .before .before .before .before .sizes-out .ensures) ∙ c .before .before .before .before .if1 .left) e,
+      check-wide r sizes e,
       wide .ensures,
     )
 
 empty-pattern-requires : tie.Need-empty-pattern-requires
 empty-pattern-requires c κs =
     let r = c .before .before .before .before .before .before .args .self in
-    omega (arith, sizes-in (r .n) (r .m) (sym (c .before .before .before .before .sizes-out .ensures) ∙ c .before .before .before .if1 .left))
+    sizes-in (r .n) (r .m) (sym (c .before .before .before .before .sizes-out .ensures) ∙ c .before .before .before .if1 .left) .n-most
 
 cast-at-2 : tie.Need-cast-at-2
 cast-at-2 c = search needs
@@ -71,32 +73,27 @@ at-requires-3 c κs = search needs
 returns-3 : tie.Need-returns-3
 returns-3 c =
     let r = c .before .before .before .before .before .before .before .before .before .args .self in
-    let count = c .before .before .before .before .before .patterns-of in
+    let sizes = sym (c .before .before .before .before .before .before .before .sizes-out .ensures) ∙ c .before .before .before .before .before .before .if1 .left in
+    let count = c .before .before .before .before .before .patterns-of .ensures .2 (sizes-in (r .n) (r .m) sizes .n-most) in
     let none = c .before .before .empty-pattern in
     let w : 2 ^ r .n ≤ widePattern (r .n) (r .m) (r .sets) =
-    omega (arith, c .before .before .before .before .wide-pattern .ensures, count .ensures, c .before .before .before .if2 .left) in
+    omega (arith, c .before .before .before .before .wide-pattern .ensures, count, c .before .before .before .if2 .left) in
     let e = none-is r (none .result) w (none .ensures) in
     rw (
       c .at3 .ensures,
-      check-none r
-          (sym (c .before .before .before .before .before .before .before .sizes-out .ensures) ∙ c .before .before .before .before .before .before .if1 .left)
-          w
-          (omega (arith, e, count .ensures, c .before .if3 .taken)),
+      check-none r sizes w (omega (arith, e, count, c .before .if3 .taken)),
       e,
     )
 
 returns-4 : tie.Need-returns-4
 returns-4 c =
     let r = c .before .before .before .before .before .before .before .before .args .self in
-    let count = c .before .before .before .before .patterns-of in
+    let sizes = sym (c .before .before .before .before .before .before .sizes-out .ensures) ∙ c .before .before .before .before .before .if1 .left in
+    let count = c .before .before .before .before .patterns-of .ensures .2 (sizes-in (r .n) (r .m) sizes .n-most) in
     let none = c .before .empty-pattern in
     let w : 2 ^ r .n ≤ widePattern (r .n) (r .m) (r .sets) =
-    omega (arith, c .before .before .before .wide-pattern .ensures, count .ensures, c .before .before .if2 .left) in
-    sym
-    (check-passed r
-    (sym (c .before .before .before .before .before .before .sizes-out .ensures) ∙ c .before .before .before .before .before .if1 .left)
-    w
-    (omega (arith, none-is r (none .result) w (none .ensures), count .ensures, c .if3 .left)))
+    omega (arith, c .before .before .before .wide-pattern .ensures, count, c .before .before .if2 .left) in
+    sym (check-passed r sizes w (omega (arith, none-is r (none .result) w (none .ensures), count, c .if3 .left)))
 
 pub check-spec : {M : Type 1} → statement M
 check-spec =

@@ -55,8 +55,9 @@ returns-2 : tie.Need-returns-2 Inv-loop μ-loop
 returns-2 c =
     let a = c .before .before .before .args in
     let l = c .before .loop in
-    let e : l .p ≡ c .before .before .patterns-of .result = omega arith in
-    c .before .before .patterns-of .ensures .0
+    let count : c .before .before .patterns-of .result ≡ 2 ^ a .n = c .before .before .patterns-of .ensures .2 (omega arith) in
+    let e : l .p ≡ 2 ^ a .n = omega arith in
+    count
     ∙ sym (lowest-none (2 ^ a .n) (λ q. eqb (getD (a .t2) q 0) 0) (λ q b. l .inv .1 q (omega arith)))
 
 pub empty-pattern-spec : {M : Type 1} → statement M

@@ -19,8 +19,8 @@ Inv-loop n m sets limit count p₀ p = (p ≤ count) × (limit ≡ 2 ^ (2 ^ m)) 
 abbrev μ-loop : tie.MeasureT-loop
 μ-loop n m sets limit count p₀ p = count - p
 
-patterns-of-requires : tie.Need-patterns-of-requires Inv-loop μ-loop
-patterns-of-requires c κs = search needs
+values-of-requires : tie.Need-values-of-requires Inv-loop μ-loop
+values-of-requires c κs = search needs
 
 cast-limit : tie.Need-cast-limit Inv-loop μ-loop
 cast-limit c = search needs
@@ -28,13 +28,13 @@ cast-limit c = search needs
 shl-limit : tie.Need-shl-limit Inv-loop μ-loop
 shl-limit c = search needs
 
-patterns-of-requires-2 : tie.Need-patterns-of-requires-2 Inv-loop μ-loop
-patterns-of-requires-2 c κs = search needs
+patterns-of-requires : tie.Need-patterns-of-requires Inv-loop μ-loop
+patterns-of-requires c κs = search needs
 
 loop-holds : tie.Need-loop-holds Inv-loop μ-loop
 loop-holds c =
-    let limit = c .before .patterns-of in
-    (omega arith, shifted-one (limit .result) 32 (omega arith) ∙ ap (λ k. 2 ^ k) (limit .ensures .0), below-none _)
+    let limit = c .before .values-of in
+    (omega arith, shifted-one (limit .result) 32 (omega arith) ∙ ap (λ k. 2 ^ k) (limit .ensures .2 (omega arith)), below-none _)
 
 cast-if1 : tie.Need-cast-if1 Inv-loop μ-loop
 cast-if1 c = search needs
@@ -78,8 +78,9 @@ unfolding widePattern
 returns-2 c =
     let a = c .before .before .before .before .args in
     let l = c .before .loop in
-    let e : l .p ≡ c .before .before .patterns-of2 .result = omega arith in
-    c .before .before .patterns-of2 .ensures .0
+    let count : c .before .before .patterns-of .result ≡ 2 ^ a .n = c .before .before .patterns-of .ensures .2 (omega arith) in
+    let e : l .p ≡ 2 ^ a .n = omega arith in
+    count
     ∙ sym (lowest-none (2 ^ a .n) (λ q. leb (2 ^ (2 ^ a .m)) (getD (a .t3) q 0)) (λ q b. l .inv .2 q (omega arith)))
 
 pub wide-pattern-spec : {M : Type 1} → statement M
@@ -88,10 +89,10 @@ wide-pattern-spec =
     (tie.spec
     Inv-loop
     μ-loop
-    patterns-of-requires
+    values-of-requires
     cast-limit
     shl-limit
-    patterns-of-requires-2
+    patterns-of-requires
     loop-holds
     cast-if1
     mul-if1

@@ -10,7 +10,9 @@ use lib.ListN.{length, getD, length-set}
 use borrow.Author.Needs.{needs}
 use Rattle.table.specs.Bits.{bit}
 use Rattle.table.proofs.Bits.{bit-cases}
-use Rattle.relation.specs.Masks.{columnOf, withBit, agreed}
+use Rattle.table.specs.Inner.Columns.{columnOf}
+use Rattle.sheet.specs.Limits.{maxPatterns}
+use Rattle.relation.specs.Inner.Masks.{withBit, agreed}
 use Rattle.base.proofs.Tabulate.{filled-more, filled-tabulate}
 use Rattle.relation.proofs.patterns.agreeing.Statement.{statement}
 use Rattle.relation.proofs.patterns.agreeing.Tie as tie
@@ -24,10 +26,10 @@ chosen j t p {z} {o} ez eo eb =
     (bit-cases t p)
 
 abbrev Inv-loop : tie.InvT-loop
-Inv-loop j t sets zero one next₀ p₀ next p = (p ≤ 16) × (length next ≡ 16) × ((q : ℕ) → q < p → getD next q 0 ≡ withBit (getD sets q 0) j (bit t q))
+Inv-loop j t sets zero one next₀ p₀ next p = (p ≤ maxPatterns) × (length next ≡ maxPatterns) × ((q : ℕ) → q < p → getD next q 0 ≡ withBit (getD sets q 0) j (bit t q))
 
 abbrev μ-loop : tie.MeasureT-loop
-μ-loop j t sets zero one next₀ p₀ next p = 16 - p
+μ-loop j t sets zero one next₀ p₀ next p = maxPatterns - p
 
 column-requires : tie.Need-column-requires Inv-loop μ-loop
 column-requires c κs = search needs
@@ -84,8 +86,8 @@ unfolding agreed
 returns c =
     let a = c .before .before .before .before .args in
     let l = c .before .loop in
-    let e : l .p ≡ 16 = omega arith in
-    filled-tabulate 16 (λ q. withBit (getD (a .t1) q 0) (a .j) (bit (a .t) q)) (l .next) (l .inv .1) (λ q b. l .inv .2 q (omega arith))
+    let e : l .p ≡ maxPatterns = omega arith in
+    filled-tabulate maxPatterns (λ q. withBit (getD (a .t1) q 0) (a .j) (bit (a .t) q)) (l .next) (l .inv .1) (λ q b. l .inv .2 q (omega arith))
 
 pub agreeing-spec : {M : Type 1} → statement M
 agreeing-spec =

@@ -6,16 +6,17 @@ use native.Mathlib.Omega.{arith}
 use lib.Dec.{ltb}
 use lib.ListN.{length, getD, length-set}
 use borrow.Author.Needs.{needs}
-use Rattle.relation.specs.Masks.{cleared}
+use Rattle.sheet.specs.Limits.{maxPatterns}
+use Rattle.relation.specs.Inner.Masks.{cleared}
 use Rattle.base.proofs.Tabulate.{filled-more, filled-tabulate}
 use Rattle.relation.proofs.patterns.clear_past.Statement.{statement}
 use Rattle.relation.proofs.patterns.clear_past.Tie as tie
 
 abbrev Inv-loop : tie.InvT-loop
-Inv-loop n sets count next₀ p₀ next p = (p ≤ 16) × (length next ≡ 16) × ((q : ℕ) → q < p → getD next q 0 ≡ cond (ltb q (2 ^ n)) (getD sets q 0) 0)
+Inv-loop n sets count next₀ p₀ next p = (p ≤ maxPatterns) × (length next ≡ maxPatterns) × ((q : ℕ) → q < p → getD next q 0 ≡ cond (ltb q (2 ^ n)) (getD sets q 0) 0)
 
 abbrev μ-loop : tie.MeasureT-loop
-μ-loop n sets count next₀ p₀ next p = 16 - p
+μ-loop n sets count next₀ p₀ next p = maxPatterns - p
 
 patterns-of-requires : tie.Need-patterns-of-requires Inv-loop μ-loop
 patterns-of-requires c κs = search needs
@@ -55,7 +56,7 @@ loop-again c =
       omega arith,
       simp length-set (l .inv .1),
       filled-more (λ q. cond (ltb q (2 ^ a .n)) (getD (a .t2) q 0) 0) (l .next) (l .p) (c .within .result) (omega arith) (l .inv .2)
-          (c .within .ensures ∙ ap (λ x. cond (ltb (l .p) x) (getD (a .t2) (l .p) 0) 0) (k .ensures .0)),
+          (c .within .ensures ∙ ap (λ x. cond (ltb (l .p) x) (getD (a .t2) (l .p) 0) 0) (k .ensures .2 (c .before .before .before .before .pre))),
     )
 
 returns : tie.Need-returns Inv-loop μ-loop
@@ -63,8 +64,8 @@ unfolding cleared
 returns c =
     let a = c .before .before .before .args in
     let l = c .before .loop in
-    let e : l .p ≡ 16 = omega arith in
-    filled-tabulate 16 (λ q. cond (ltb q (2 ^ a .n)) (getD (a .t2) q 0) 0) (l .next) (l .inv .1) (λ q b. l .inv .2 q (omega arith))
+    let e : l .p ≡ maxPatterns = omega arith in
+    filled-tabulate maxPatterns (λ q. cond (ltb q (2 ^ a .n)) (getD (a .t2) q 0) 0) (l .next) (l .inv .1) (λ q b. l .inv .2 q (omega arith))
 
 pub clear-past-spec : {M : Type 1} → statement M
 clear-past-spec =

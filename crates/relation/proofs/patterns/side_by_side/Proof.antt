@@ -6,7 +6,7 @@ use lib.ListN.{getD}
 use mir.Val.{Fits}
 use mir.Syntax.{w16}
 use borrow.Author.Needs.{needs}
-use Rattle.relation.specs.Masks.{sideBySide}
+use Rattle.relation.specs.Inner.Masks.{sideBySide}
 use Rattle.relation.proofs.patterns.side_by_side.Statement.{statement}
 use Rattle.relation.proofs.patterns.side_by_side.Tie as tie
 use Rattle.relation.proofs.patterns.side_by_side.Reads as reads

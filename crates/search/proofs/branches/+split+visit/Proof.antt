@@ -1,18 +1,20 @@
 use Prim.Native.Nat.{ℕ, _+_, _*_, _<_}
-use mathlib.Core.Path.{_≡_, refl, sym, ap, ap₂, subst, _∙_}
+use mathlib.Core.Path.{_≡_, refl, subst, _∙_}
 use mathlib.Core.Logic.{⊎-elim}
 use native.Mathlib.Omega.{arith}
 use borrow.Author.Needs.{needs}
 use lib.Dec.{le→leb}
-use lib.ListN.{length, getD, set, length-set}
+use lib.ListN.{getD, set, length-set}
 use lib.Seq.{set-getD}
-use Rattle.relation.specs.Tests.{ofSets, wires, openPairs}
-use Rattle.search.specs.Search.{split as splitOf, searchPart}
-use Rattle.search.specs.TreeBoard.{tree}
-use Rattle.search.specs.Kept.{Settled, stateOf}
+use Rattle.relation.specs.Tests.{ofSets, openPairs}
+use Rattle.relation.specs.Inner.Masks.{withBit}
+use Rattle.search.specs.Inner.Conflicts.{Settled}
+use Rattle.search.specs.Inner.Tally.{stateOf}
+use Rattle.search.proofs.Carrying.{tables-are, pattern-lt}
 use Rattle.search.proofs.Opening.{found-open, found-below}
 use Rattle.search.proofs.Steps.{lt→nleb, discards, halts, improves, splits}
-use Rattle.search.proofs.Branching.{treated, treated-both, floor-is, tables-are, pattern-lt, next-pairs, next-cover, next-held, next-settled, next-same, next-treated, next-discards, halted-tally, charged-tally, improved-tally}
+use Rattle.search.proofs.Halves.{Half, half-cover, Reached, none-reached, both-reached, Made, made-fewer, ready, visited, passed-over}
+use Rattle.search.proofs.Tallies.{halted-tally, charged-tally, improved-tally}
 use borrow.Fn.Kinds.{In}
 use borrow.Fn.PlainCycle.{Measures, is, falls, and}
 use Rattle.search.proofs.branches.split.Reads as split
@@ -23,11 +25,11 @@ use Rattle.search.proofs.branches.visit.Kinds as visit-kinds
 use Rattle.search.proofs.branches.+split+visit.Lts-visit as visit-lts
 use Rattle.relation.proofs.values.with_bit.Reads as with-bit-reads
 use Rattle.search.proofs.conflicts.first_open.Reads as first-open-reads
-use Rattle.search.proofs.pairs.cut_pairs.Reads as cut-pairs-reads
-use Rattle.search.proofs.parts.ranks_again.Reads as ranks-again-reads
-use Rattle.search.proofs.ranks.floor_of.Reads as floor-of-reads
-use Rattle.search.proofs.ranks.first_change.Reads as first-change-reads
-use Rattle.search.proofs.ranks.tables_of.Reads as tables-of-reads
+use Rattle.parts.proofs.pairs.cut_pairs.Reads as cut-pairs-reads
+use Rattle.parts.proofs.ranks_again.Reads as ranks-again-reads
+use Rattle.parts.proofs.ranks.floor_of.Reads as floor-of-reads
+use Rattle.parts.proofs.ranks.first_change.Reads as first-change-reads
+use Rattle.parts.proofs.ranks.tables_of.Reads as tables-of-reads
 use Rattle.search.proofs.branches.+split+visit.{statement}
 use Rattle.search.proofs.branches.+split+visit.Tie.{close}
 
@@ -80,6 +82,37 @@ split-with-bit-requires t c κs = let q = c .before .pre .1 in (omega (arith, q 
 split-with-bit-requires-2 : (t : ℕ) → split-lts.Need-with-bit-requires-2 (split-claims t) (split-at t) split.Post
 split-with-bit-requires-2 t c κs = let q = c .before .before .pre .1 in (omega (arith, q .3, q .1 .sized .wires), omega arith)
 
+-- the two parts
+split-half : {t : ℕ} (c : split-lts.Start (split-claims t) (split-at t) split.Post) (b : ℕ) → b < 2 → {w : ℕ} → w ≡ withBit (getD (c .args .sets .now) (c .args .p) 0) (c .args .j) b
+    → Half (c .args .n) (c .args .m) (c .args .sets .now) (c .args .pairs) (c .args .ranks) (c .args .p) (c .args .j) b w
+split-half c b lb e =
+    let q = c .pre .1 in
+    record { carried = q .1; pattern = q .2; wire = q .3; is-open = q .4; side = lb; left = e }
+
+split-zero : {t : ℕ} (c : split-lts.After-floor-of2 (split-claims t) (split-at t) split.Post)
+    → let a = c .before .before .before .before .before .before .before .before .before .args in
+    Made (a .n) (a .m) (a .sets .now) (a .pairs) (a .ranks) (a .p) (a .j) 0 (c .before .before .before .before .before .before .before .with-bit .result)
+    (c .before .before .before .before .before .cut-pairs .result) (c .before .before .before .ranks-again .result) (c .before .floor-of .result)
+split-zero c =
+    record {
+      half = split-half (c .before .before .before .before .before .before .before .before .before) 0 (omega arith) (c .before .before .before .before .before .before .before .with-bit .ensures);
+      pairs = c .before .before .before .before .before .cut-pairs .ensures;
+      ranks = c .before .before .before .ranks-again .ensures;
+      floor = c .before .floor-of .ensures;
+    }
+
+split-one : {t : ℕ} (c : split-lts.After-floor-of2 (split-claims t) (split-at t) split.Post)
+    → let a = c .before .before .before .before .before .before .before .before .before .args in
+    Made (a .n) (a .m) (a .sets .now) (a .pairs) (a .ranks) (a .p) (a .j) 1 (c .before .before .before .before .before .before .with-bit2 .result)
+    (c .before .before .before .before .cut-pairs2 .result) (c .before .before .ranks-again2 .result) (c .floor-of2 .result)
+split-one c =
+    record {
+      half = split-half (c .before .before .before .before .before .before .before .before .before) 1 (omega arith) (c .before .before .before .before .before .before .with-bit2 .ensures);
+      pairs = c .before .before .before .before .cut-pairs2 .ensures;
+      ranks = c .before .before .ranks-again2 .ensures;
+      floor = c .floor-of2 .ensures;
+    }
+
 split-cut-pairs-requires : (t : ℕ) → split-lts.Need-cut-pairs-requires (split-claims t) (split-at t) split.Post
 split-cut-pairs-requires t c κs = let q = c .before .before .before .pre .1 in pattern-lt (q .1 .sized) (q .2)
 
@@ -88,23 +121,15 @@ split-cut-pairs-requires-2 t c κs = let q = c .before .before .before .before .
 
 split-ranks-again-requires : (t : ℕ) → split-lts.Need-ranks-again-requires (split-claims t) (split-at t) split.Post
 split-ranks-again-requires t c κs =
-    let a = c .before .before .before .before .before .args in
-    let q = c .before .before .before .before .before .pre .1 in
-    let w = c .before .before .before .with-bit in
-    let S = a .sets .now in
-    let N = set S (a .p) (w .result) in
-    let eN : N ≡ set S (a .p) (w .result) = refl in
-    (q .0, q .1 .sized .one, q .1 .sized .inputs, pattern-lt (q .1 .sized) (q .2), next-cover (a .n) (a .m) S (a .pairs) (a .ranks) (q .1) (a .p) (a .j) (q .2) (q .3) (q .4) 0 (omega arith) (w .result) (w .ensures) N eN (c .before .cut-pairs .ensures))
+    let i = c .before .before .before .before .before in
+    let q = i .pre .1 in
+    (q .0, q .1 .sized .one, q .1 .sized .inputs, pattern-lt (q .1 .sized) (q .2), half-cover (split-half i 0 (omega arith) (c .before .before .before .with-bit .ensures)) refl (c .before .cut-pairs .ensures))
 
 split-ranks-again-requires-2 : (t : ℕ) → split-lts.Need-ranks-again-requires-2 (split-claims t) (split-at t) split.Post
 split-ranks-again-requires-2 t c κs =
-    let a = c .before .before .before .before .before .before .args in
-    let q = c .before .before .before .before .before .before .pre .1 in
-    let w = c .before .before .before .with-bit2 in
-    let S = a .sets .now in
-    let N = set S (a .p) (w .result) in
-    let eN : N ≡ set S (a .p) (w .result) = refl in
-    (q .0, q .1 .sized .one, q .1 .sized .inputs, pattern-lt (q .1 .sized) (q .2), next-cover (a .n) (a .m) S (a .pairs) (a .ranks) (q .1) (a .p) (a .j) (q .2) (q .3) (q .4) 1 (omega arith) (w .result) (w .ensures) N eN (c .before .cut-pairs2 .ensures))
+    let i = c .before .before .before .before .before .before in
+    let q = i .pre .1 in
+    (q .0, q .1 .sized .one, q .1 .sized .inputs, pattern-lt (q .1 .sized) (q .2), half-cover (split-half i 1 (omega arith) (c .before .before .before .with-bit2 .ensures)) refl (c .before .cut-pairs2 .ensures))
 
 split-floor-of-requires : (t : ℕ) → split-lts.Need-floor-of-requires (split-claims t) (split-at t) split.Post
 split-floor-of-requires t c κs = search needs
@@ -124,49 +149,29 @@ split-element-write-sets t c = let q = c .before .before .before .before .before
 split-first-change-requires : (t : ℕ) → split-lts.Need-first-change-requires (split-claims t) (split-at t) split.Post
 split-first-change-requires t c κs = let q = c .before .before .before .before .before .before .before .before .before .before .before .pre .1 in pattern-lt (q .1 .sized) (q .2)
 
+-- no part is treated yet
+split-none : {t : ℕ} (c : split-lts.Start (split-claims t) (split-at t) split.Post)
+    → let a = c .args in
+    Reached (a .n) (a .m) (a .budget) (a .sets .now) (a .p) (a .j) (stateOf (a .best .now) (a .tally .now)) 0 (a .sets .now) (a .best .now) (a .tally .now)
+split-none c = none-reached (c .pre .1 .6)
+
 split-visit-requires : (t : ℕ) → split-lts.Need-visit-requires (split-claims t) (split-at t) split.Post
 split-visit-requires t c κs =
-    let a = c .before .before .before .before .before .before .before .before .before .before .before .before .before .before .before .args in
-    let q = c .before .before .before .before .before .before .before .before .before .before .before .before .before .before .before .pre .1 in
-    let w = c .before .before .before .before .before .before .before .before .before .before .before .before .before .with-bit in
-    let S = a .sets .now in
-    let N = set S (a .p) (w .result) in
-    let eN : N ≡ set S (a .p) (w .result) = refl in
-    let ex = c .before .before .before .before .before .before .before .before .before .before .before .cut-pairs .ensures in
-    let r = c .before .before .before .before .before .before .before .before .before .ranks-again in
-    let f = c .before .before .before .first-change in
-    let fewer = next-pairs (a .n) (a .m) S (a .pairs) (a .ranks) (q .1) (a .p) (a .j) (q .2) (q .3) (q .4) 0 (omega arith) (w .result) (w .ensures) N eN in (
-      omega (arith, fewer, c .before .before .before .before .before .before .before .before .before .before .before .before .before .before .before .pre .0),
-      (q .0, next-held (a .n) (a .m) S (a .pairs) (a .ranks) (q .1) (a .p) (a .j) (q .2) (q .3) (q .4) 0 (omega arith) (w .result) (w .ensures) N eN ex (r .ensures), c .before .before .before .before .before .before .before .floor-of .ensures, omega (arith, f .ensures .1, q .2), next-settled (a .n) (a .m) S (a .pairs) (a .ranks) (q .1) (a .p) (a .j) (q .2) (q .3) (q .4) 0 (omega arith) (w .result) (w .ensures) N eN (q .5) (r .result) (f .result) (f .ensures .1) (f .ensures .2), q .6),
-    )
+    let i = c .before .before .before .before .before .before .before .before .before .before .before .before .before .before .before in
+    let q = i .pre .1 in
+    let made = split-zero (c .before .before .before .before .before .before) in
+    let at = split-none i in
+    let f = c .before .before .before .first-change .ensures in
+    (omega (arith, made-fewer made at, i .pre .0), ready made at (q .0) (q .5) _ (f .1) (f .2))
 
 -- once the first part is treated
 split-first : (t : ℕ) (c : split-lts.Joined1 (split-claims t) (split-at t) split.Post)
-    → ((x : ℕ) → set (c .if1 .sets) (c .before .before .before .before .before .before .before .before .before .before .before .args .p) x ≡ set (c .before .before .before .before .before .before .before .before .before .before .before .args .sets .now) (c .before .before .before .before .before .before .before .before .before .before .before .args .p) x)
-    × (stateOf (c .if1 .best) (c .if1 .tally) ≡ treated (c .before .before .before .before .before .before .before .before .before .before .before .args .n) (c .before .before .before .before .before .before .before .before .before .before .before .args .m) (c .before .before .before .before .before .before .before .before .before .before .before .args .budget) (ofSets (c .before .before .before .before .before .before .before .before .before .before .before .args .sets .now)) (c .before .before .before .before .before .before .before .before .before .before .before .args .p) (c .before .before .before .before .before .before .before .before .before .before .before .args .j) (stateOf (c .before .before .before .before .before .before .before .before .before .before .before .args .best .now) (c .before .before .before .before .before .before .before .before .before .before .before .args .tally .now)) 1)
-    × (length (c .if1 .tally) ≡ 3)
-unfolding treated
+    → let a = c .before .before .before .before .before .before .before .before .before .before .before .args in
+    Reached (a .n) (a .m) (a .budget) (a .sets .now) (a .p) (a .j) (stateOf (a .best .now) (a .tally .now)) 1 (c .if1 .sets) (c .if1 .best) (c .if1 .tally)
 split-first t c =
-    let a = c .before .before .before .before .before .before .before .before .before .before .before .args in
-    let q = c .before .before .before .before .before .before .before .before .before .before .before .pre .1 in
-    let w = c .before .before .before .before .before .before .before .before .before .with-bit in
-    let S = a .sets .now in
-    let i = c .if1 in
-    let s₀ = stateOf (a .best .now) (a .tally .now) in
-    let N = set S (a .p) (w .result) in
-    let eN : N ≡ set S (a .p) (w .result) = refl in
-    let s = s₀ in
-    let before : s ≡ treated (a .n) (a .m) (a .budget) (ofSets S) (a .p) (a .j) s₀ 0 = refl in
-    let held = next-held (a .n) (a .m) S (a .pairs) (a .ranks) (q .1) (a .p) (a .j) (q .2) (q .3) (q .4) 0 (omega arith) (w .result) (w .ensures) N eN (c .before .before .before .before .before .before .before .cut-pairs .ensures) (c .before .before .before .before .before .ranks-again .ensures) in
-    ⊎-elim
-    (λ v.
-    let st : stateOf (i .best) (i .tally) ≡ searchPart (tree (a .n) (a .m)) (a .budget) (ofSets N) s = ap₂ stateOf (v .7) (v .8) ∙ v .5 .ensures .1 in
-    (next-same (a .n) (a .m) S (a .pairs) (a .ranks) (q .1) (a .p) (a .j) (q .2) (q .3) (q .4) 0 (omega arith) (w .result) (w .ensures) N eN (v .6 ∙ v .5 .ensures .0), next-treated (a .n) (a .m) S (a .pairs) (a .ranks) (q .1) (a .p) (a .j) (q .2) (q .3) (q .4) 0 (omega arith) (w .result) (w .ensures) N eN (a .budget) s (stateOf (i .best) (i .tally)) s₀ before st, ap length (v .8) ∙ v .5 .ensures .2))
-    (λ v.
-    let st : stateOf (i .best) (i .tally) ≡ searchPart (tree (a .n) (a .m)) (a .budget) (ofSets N) s =
-    ap₂ stateOf (v .2) (v .3) ∙ next-discards (a .n) (a .m) S (a .pairs) (a .ranks) (q .1) (a .p) (a .j) (q .2) (q .3) (q .4) 0 (omega arith) (w .result) (w .ensures) N eN (a .budget) held (c .before .before .before .floor-of .ensures) s (le→leb _ _ (v .0 .left)) in
-    (λ x. ap (λ l. set l (a .p) x) (v .1), next-treated (a .n) (a .m) S (a .pairs) (a .ranks) (q .1) (a .p) (a .j) (q .2) (q .3) (q .4) 0 (omega arith) (w .result) (w .ensures) N eN (a .budget) s (stateOf (i .best) (i .tally)) s₀ before st, ap length (v .3) ∙ q .6))
-    (i .came)
+    let made = split-zero (c .before .before) in
+    let at = split-none (c .before .before .before .before .before .before .before .before .before .before .before) in
+    ⊎-elim (λ v. visited made at (v .6) (v .7) (v .8) (v .5 .ensures)) (λ v. passed-over made at (v .1) (v .2) (v .3) (v .0 .left)) (c .if1 .came)
 
 split-element-copy-out-if2 : (t : ℕ) → split-lts.Need-element-copy-out-if2 (split-claims t) (split-at t) split.Post
 split-element-copy-out-if2 t c = search needs
@@ -182,50 +187,21 @@ split-first-change-requires-2 t c κs = let q = c .before .before .before .befor
 
 split-visit-requires-2 : (t : ℕ) → split-lts.Need-visit-requires-2 (split-claims t) (split-at t) split.Post
 split-visit-requires-2 t c κs =
-    let a = c .before .before .before .before .before .before .before .before .before .before .before .before .before .before .before .before .before .args in
-    let q = c .before .before .before .before .before .before .before .before .before .before .before .before .before .before .before .before .before .pre .1 in
-    let w = c .before .before .before .before .before .before .before .before .before .before .before .before .before .before .with-bit2 in
-    let S = a .sets .now in
-    let first = split-first t (c .before .before .before .before .before .before) in
-    let N = set (c .before .before .before .before .before .before .if1 .sets) (a .p) (w .result) in
-    let eN = first .0 (w .result) in
-    let ex = c .before .before .before .before .before .before .before .before .before .before .before .before .cut-pairs2 .ensures in
-    let r = c .before .before .before .before .before .before .before .before .before .before .ranks-again2 in
-    let f = c .before .before .before .first-change2 in
-    let fewer = next-pairs (a .n) (a .m) S (a .pairs) (a .ranks) (q .1) (a .p) (a .j) (q .2) (q .3) (q .4) 1 (omega arith) (w .result) (w .ensures) N eN in (
-      omega (arith, fewer, c .before .before .before .before .before .before .before .before .before .before .before .before .before .before .before .before .before .pre .0),
-      (q .0, next-held (a .n) (a .m) S (a .pairs) (a .ranks) (q .1) (a .p) (a .j) (q .2) (q .3) (q .4) 1 (omega arith) (w .result) (w .ensures) N eN ex (r .ensures), c .before .before .before .before .before .before .before .before .floor-of2 .ensures, omega (arith, f .ensures .1, q .2), next-settled (a .n) (a .m) S (a .pairs) (a .ranks) (q .1) (a .p) (a .j) (q .2) (q .3) (q .4) 1 (omega arith) (w .result) (w .ensures) N eN (q .5) (r .result) (f .result) (f .ensures .1) (f .ensures .2), first .2),
-    )
+    let i = c .before .before .before .before .before .before .before .before .before .before .before .before .before .before .before .before .before in
+    let q = i .pre .1 in
+    let made = split-one (c .before .before .before .before .before .before .before .before) in
+    let at = split-first t (c .before .before .before .before .before .before) in
+    let f = c .before .before .before .first-change2 .ensures in
+    (omega (arith, made-fewer made at, i .pre .0), ready made at (q .0) (q .5) _ (f .1) (f .2))
 
 -- and once the second is
 split-second : (t : ℕ) (c : split-lts.Joined2 (split-claims t) (split-at t) split.Post)
-    → ((x : ℕ) → set (c .if2 .sets) (c .before .before .before .before .before .before .before .before .before .before .before .before .before .args .p) x ≡ set (c .before .before .before .before .before .before .before .before .before .before .before .before .before .args .sets .now) (c .before .before .before .before .before .before .before .before .before .before .before .before .before .args .p) x)
-    × (stateOf (c .if2 .best) (c .if2 .tally) ≡ treated (c .before .before .before .before .before .before .before .before .before .before .before .before .before .args .n) (c .before .before .before .before .before .before .before .before .before .before .before .before .before .args .m) (c .before .before .before .before .before .before .before .before .before .before .before .before .before .args .budget) (ofSets (c .before .before .before .before .before .before .before .before .before .before .before .before .before .args .sets .now)) (c .before .before .before .before .before .before .before .before .before .before .before .before .before .args .p) (c .before .before .before .before .before .before .before .before .before .before .before .before .before .args .j) (stateOf (c .before .before .before .before .before .before .before .before .before .before .before .before .before .args .best .now) (c .before .before .before .before .before .before .before .before .before .before .before .before .before .args .tally .now)) 2)
-    × (length (c .if2 .tally) ≡ 3)
-unfolding treated
+    → let a = c .before .before .before .before .before .before .before .before .before .before .before .before .before .args in
+    Reached (a .n) (a .m) (a .budget) (a .sets .now) (a .p) (a .j) (stateOf (a .best .now) (a .tally .now)) 2 (c .if2 .sets) (c .if2 .best) (c .if2 .tally)
 split-second t c =
-    let a = c .before .before .before .before .before .before .before .before .before .before .before .before .before .args in
-    let q = c .before .before .before .before .before .before .before .before .before .before .before .before .before .pre .1 in
-    let w = c .before .before .before .before .before .before .before .before .before .before .with-bit2 in
-    let S = a .sets .now in
-    let i = c .if2 in
-    let s₀ = stateOf (a .best .now) (a .tally .now) in
-    let first = split-first t (c .before .before) in
-    let l = c .before .before .if1 in
-    let N = set (l .sets) (a .p) (w .result) in
-    let eN = first .0 (w .result) in
-    let s = stateOf (l .best) (l .tally) in
-    let before = first .1 in
-    let held = next-held (a .n) (a .m) S (a .pairs) (a .ranks) (q .1) (a .p) (a .j) (q .2) (q .3) (q .4) 1 (omega arith) (w .result) (w .ensures) N eN (c .before .before .before .before .before .before .before .before .cut-pairs2 .ensures) (c .before .before .before .before .before .before .ranks-again2 .ensures) in
-    ⊎-elim
-    (λ v.
-    let st : stateOf (i .best) (i .tally) ≡ searchPart (tree (a .n) (a .m)) (a .budget) (ofSets N) s = ap₂ stateOf (v .7) (v .8) ∙ v .5 .ensures .1 in
-    (next-same (a .n) (a .m) S (a .pairs) (a .ranks) (q .1) (a .p) (a .j) (q .2) (q .3) (q .4) 1 (omega arith) (w .result) (w .ensures) N eN (v .6 ∙ v .5 .ensures .0), next-treated (a .n) (a .m) S (a .pairs) (a .ranks) (q .1) (a .p) (a .j) (q .2) (q .3) (q .4) 1 (omega arith) (w .result) (w .ensures) N eN (a .budget) s (stateOf (i .best) (i .tally)) s₀ before st, ap length (v .8) ∙ v .5 .ensures .2))
-    (λ v.
-    let st : stateOf (i .best) (i .tally) ≡ searchPart (tree (a .n) (a .m)) (a .budget) (ofSets N) s =
-    ap₂ stateOf (v .2) (v .3) ∙ next-discards (a .n) (a .m) S (a .pairs) (a .ranks) (q .1) (a .p) (a .j) (q .2) (q .3) (q .4) 1 (omega arith) (w .result) (w .ensures) N eN (a .budget) held (c .before .before .before .before .floor-of2 .ensures) s (le→leb _ _ (v .0 .left)) in
-    (λ x. ap (λ l. set l (a .p) x) (v .1) ∙ first .0 x, next-treated (a .n) (a .m) S (a .pairs) (a .ranks) (q .1) (a .p) (a .j) (q .2) (q .3) (q .4) 1 (omega arith) (w .result) (w .ensures) N eN (a .budget) s (stateOf (i .best) (i .tally)) s₀ before st, ap length (v .3) ∙ first .2))
-    (i .came)
+    let made = split-one (c .before .before .before .before) in
+    let at = split-first t (c .before .before) in
+    ⊎-elim (λ v. visited made at (v .6) (v .7) (v .8) (v .5 .ensures)) (λ v. passed-over made at (v .1) (v .2) (v .3) (v .0 .left)) (c .if2 .came)
 
 split-mul-sets-3 : (t : ℕ) → split-lts.Need-mul-sets-3 (split-claims t) (split-at t) split.Post
 split-mul-sets-3 t c = omega arith
@@ -236,21 +212,18 @@ split-element-write-sets-3 t c = let q = c .before .before .before .before .befo
 split-returns : (t : ℕ) → split-lts.Need-returns (split-claims t) (split-at t) split.Post
 split-returns t c =
     let a = c .before .before .before .before .before .before .before .before .before .before .before .before .before .args in
-    let second = split-second t c in (
-      second .0 (getD (a .sets .now) (a .p) 0) ∙ set-getD (a .sets .now) (a .p) 0,
-      second .1 ∙ treated-both (a .n) (a .m) (a .budget) (ofSets (a .sets .now)) (a .p) (a .j) (stateOf (a .best .now) (a .tally .now)),
-      second .2,
-    )
+    let both = split-second t c in
+    (both .same (getD (a .sets .now) (a .p) 0) ∙ set-getD (a .sets .now) (a .p) 0, both-reached both, both .long)
 
 visit-element-copy-out-if1 : (t : ℕ) → visit-lts.Need-element-copy-out-if1 (visit-claims t) (visit-at t) visit.Post
 visit-element-copy-out-if1 t c = search needs
 
 visit-returns : (t : ℕ) → visit-lts.Need-returns (visit-claims t) (visit-at t) visit.Post
 visit-returns t c =
-    let a = c .before .before .args in
-    let q = c .before .before .pre .1 in
-    let h = q .1 in
-    (refl, discards (a .n) (a .m) (a .budget) (h .sized) (a .sets .now) (h .sets) (stateOf (a .best .now) (a .tally .now)) (floor-is h (q .2)) (le→leb (getD (a .tally .now) 0 0) (a .floor) (omega (arith, c .if1 .taken))), q .5)
+    let i = c .before .before in
+    let a = i .args in
+    let q = i .pre .1 in
+    (refl, discards (q .1) (a .budget) (stateOf (a .best .now) (a .tally .now)) (q .2) (le→leb _ _ (c .if1 .taken)), q .5)
 
 visit-element-copy-out-if2 : (t : ℕ) → visit-lts.Need-element-copy-out-if2 (visit-claims t) (visit-at t) visit.Post
 visit-element-copy-out-if2 t c = search needs
@@ -260,10 +233,14 @@ visit-element-write-tally t c = search needs
 
 visit-returns-2 : (t : ℕ) → visit-lts.Need-returns-2 (visit-claims t) (visit-at t) visit.Post
 visit-returns-2 t c =
-    let a = c .before .before .before .before .args in
-    let q = c .before .before .before .before .pre .1 in
-    let h = q .1 in
-    (refl, halted-tally (a .best .now) (a .tally .now) (q .5) ∙ halts (a .n) (a .m) (a .budget) (h .sized) (a .sets .now) (h .sets) (stateOf (a .best .now) (a .tally .now)) (floor-is h (q .2)) (lt→nleb _ _ (c .before .before .if1 .left)) (le→leb (a .budget) (getD (a .tally .now) 1 0) (omega (arith, c .if2 .taken))), length-set (a .tally .now) 2 1 ∙ q .5)
+    let i = c .before .before .before .before in
+    let a = i .args in
+    let q = i .pre .1 in
+    let s = stateOf (a .best .now) (a .tally .now) in (
+      refl,
+      halts (q .1) (a .budget) s (q .2) (lt→nleb _ _ (c .before .before .if1 .left)) (le→leb _ _ (c .if2 .taken)) (halted-tally (a .best .now) (a .tally .now) (q .5)),
+      length-set (a .tally .now) 2 1 ∙ q .5,
+    )
 
 visit-element-copy-out-tally : (t : ℕ) → visit-lts.Need-element-copy-out-tally (visit-claims t) (visit-at t) visit.Post
 visit-element-copy-out-tally t c = search needs
@@ -279,7 +256,6 @@ visit-tables-of-requires t c κs = search needs
 
 visit-first-open-requires : (t : ℕ) → visit-lts.Need-first-open-requires (visit-claims t) (visit-at t) visit.Post
 visit-first-open-requires t c κs =
-    let a = c .before .before .before .before .before .before .before .args in
     let q = c .before .before .before .before .before .before .before .pre .1 in
     let h = q .1 in
     let et = c .before .tables-of .ensures in
@@ -296,41 +272,44 @@ visit-enum-known-found t c = c .match .keys2
 
 visit-split-requires : (t : ℕ) → visit-lts.Need-split-requires (visit-claims t) (visit-at t) visit.Post
 visit-split-requires t c κs =
-    let a = c .before .before .before .before .before .before .before .before .before .before .before .before .before .before .args in
-    let q = c .before .before .before .before .before .before .before .before .before .before .before .before .before .before .pre .1 in
+    let i = c .before .before .before .before .before .before .before .before .before .before .before .before .before .before in
+    let a = i .args in
+    let q = i .pre .1 in
     let h = q .1 in
-    let p = c .before .before .before .before .found .given .0 .0 in
-    let j = c .before .before .before .before .found .given .0 .1 .0 in
-    let e = c .before .before .before .before .before .before .before .before .tables-of .ensures in
-    let found = sym (c .before .before .before .before .before .before .first-open .ensures) ∙ c .before .before .before .before .found .given .1 in
-    let o = found-open (a .n) (a .m) (h .sized) (a .sets .now) (h .sets) (c .before .before .before .before .before .before .before .before .tables-of .result) (tables-are h e) p j found in
-    let below = found-below (a .n) (a .m) (h .sized) (a .sets .now) (h .sets) (c .before .before .before .before .before .before .before .before .tables-of .result) (tables-are h e) p j found (o .0) in
-    (omega (arith, c .before .before .before .before .before .before .before .before .before .before .before .before .before .before .pre .0), (q .0, h, o .0, o .1, o .2, subst (λ x. Settled (a .m) (a .sets .now) x p) e below, length-set (a .tally .now) 1 _ ∙ q .5))
+    let et = c .before .before .before .before .before .before .before .before .tables-of .ensures in
+    let are = tables-are h et in
+    let found = c .before .before .before .before .found .given in
+    let ef = c .before .before .before .before .before .before .first-open .ensures in
+    let o = found-open (h .sized) (h .sets) are ef (found .1) in
+    let below = subst (λ x. Settled (a .m) (a .sets .now) x (found .0 .0)) et (found-below (h .sized) (h .sets) are ef (found .1) (o .0)) in
+    (omega (arith, i .pre .0), (q .0, h, o .0, o .1, o .2, below, length-set (a .tally .now) 1 _ ∙ q .5))
 
 visit-returns-3 : (t : ℕ) → visit-lts.Need-returns-3 (visit-claims t) (visit-at t) visit.Post
 visit-returns-3 t c =
-    let a = c .before .before .before .before .before .before .before .before .before .before .args in
-    let q = c .before .before .before .before .before .before .before .before .before .before .pre .1 in
-    let h = q .1 in
-    let e = c .before .before .before .before .tables-of .ensures in (
+    let i = c .before .before .before .before .before .before .before .before .before .before in
+    let a = i .args in
+    let q = i .pre .1 in
+    let s = stateOf (a .best .now) (a .tally .now) in
+    let more = lt→nleb _ _ (c .before .before .before .before .before .before .before .before .if1 .left) in
+    let left = lt→nleb _ _ (c .before .before .before .before .before .before .if2 .left) in
+    let tally = improved-tally (a .best .now) _ (a .floor) (a .tally .now) (q .5) in (
       refl,
-      improved-tally (a .best .now) (c .before .before .before .before .tables-of .result) (a .tally .now) (a .floor) (q .5)
-          ∙ improves (a .n) (a .m) (a .budget) (h .sized) (a .sets .now) (h .sets) (stateOf (a .best .now) (a .tally .now)) (floor-is h (q .2)) (lt→nleb _ _ (c .before .before .before .before .before .before .before .before .if1 .left)) (lt→nleb _ _ (c .before .before .before .before .before .before .if2 .left)) (tables-are h e) (sym (c .before .before .first-open .ensures) ∙ c .enum-told .given .1),
+      improves (q .1) (a .budget) s (q .2) more left (c .before .before .before .before .tables-of .ensures) (c .before .before .first-open .ensures) (c .enum-told .given .1) tally,
       length-set (set (a .tally .now) 1 _) 0 _ ∙ length-set (a .tally .now) 1 _ ∙ q .5,
     )
 
 visit-returns-4 : (t : ℕ) → visit-lts.Need-returns-4 (visit-claims t) (visit-at t) visit.Post
 visit-returns-4 t c =
-    let a = c .before .before .before .before .before .before .before .before .before .before .before .before .before .before .before .args in
-    let q = c .before .before .before .before .before .before .before .before .before .before .before .before .before .before .before .pre .1 in
-    let h = q .1 in
-    let p = c .before .before .before .before .before .found .given .0 .0 in
-    let j = c .before .before .before .before .before .found .given .0 .1 .0 in
-    let e = c .before .before .before .before .before .before .before .before .before .tables-of .ensures in (
+    let i = c .before .before .before .before .before .before .before .before .before .before .before .before .before .before .before in
+    let a = i .args in
+    let q = i .pre .1 in
+    let s = stateOf (a .best .now) (a .tally .now) in
+    let more = lt→nleb _ _ (c .before .before .before .before .before .before .before .before .before .before .before .before .before .if1 .left) in
+    let left = lt→nleb _ _ (c .before .before .before .before .before .before .before .before .before .before .before .if2 .left) in
+    let ef = c .before .before .before .before .before .before .before .first-open .ensures in
+    let tally = charged-tally (a .best .now) (a .tally .now) (q .5) in (
       c .split .ensures .0,
-      c .split .ensures .1
-          ∙ ap (splitOf (tree (a .n) (a .m)) (a .budget) (searchPart (tree (a .n) (a .m)) (a .budget)) (ofSets (a .sets .now)) p j) (charged-tally (a .best .now) (a .tally .now) (q .5))
-          ∙ splits (a .n) (a .m) (a .budget) (h .sized) (a .sets .now) (h .sets) (stateOf (a .best .now) (a .tally .now)) (floor-is h (q .2)) (lt→nleb _ _ (c .before .before .before .before .before .before .before .before .before .before .before .before .before .if1 .left)) (lt→nleb _ _ (c .before .before .before .before .before .before .before .before .before .before .before .if2 .left)) (tables-are h e) p j (sym (c .before .before .before .before .before .before .before .first-open .ensures) ∙ c .before .before .before .before .before .found .given .1),
+      splits (q .1) (a .budget) s (q .2) more left (c .before .before .before .before .before .before .before .before .before .tables-of .ensures) ef (c .before .before .before .before .before .found .given .1) tally (c .split .ensures .1),
       c .split .ensures .2,
     )
 

@@ -1,8 +1,8 @@
 use Rattle.base.proofs.Tests.{told-yes, told-no, denied, granted}
-use Rattle.search.specs.declared.Open.the-variants.{Pair}
-use Rattle.search.specs.Search.{picks}
-use Rattle.search.specs.TreeBoard.{tree}
-use Rattle.search.specs.Kept.{Settled, openOf}
+use Rattle.search.specs.declared.SplitPlace.the-variants.{Pair}
+use Rattle.branch_bound.specs.Search.{picks}
+use Rattle.branch_bound.specs.TreeBoard.{tree}
+use Rattle.search.specs.Inner.Conflicts.{Settled, splitPlace}
 use borrow.Author.Needs.{needs}
 use mir.Val.{Fits}
 use mir.Syntax.{w16}
@@ -14,7 +14,9 @@ use native.Mathlib.Omega.{arith}
 use borrow.Author.Count.{below-more}
 use lib.Dec.{T}
 use lib.ListN.{getD}
-use Rattle.relation.specs.Tests.{ofSets, wires, free}
+use Rattle.sheet.specs.Limits.{maxPatterns}
+use Rattle.relation.specs.Tests.{ofSets, free}
+use Rattle.table.specs.Cells.{wires}
 use Rattle.search.proofs.Opening.{allowed-test, open-test, some-open, none-open, pair-open}
 use Rattle.search.proofs.conflicts.first_open.Statement.{statement}
 use Rattle.search.proofs.conflicts.first_open.Tie as tie
@@ -33,7 +35,7 @@ abbrev μ-patterns : tie.MeasureT-patterns
 μ-patterns n m from sets count side p₀ j₀ p j = count - p
 
 patterns-of-requires : tie.Need-patterns-of-requires Inv-loop μ-loop Inv-patterns μ-patterns
-patterns-of-requires c κs = c .pre .0 .inputs
+patterns-of-requires c κs = tt
 
 side-by-side-requires : tie.Need-side-by-side-requires Inv-loop μ-loop Inv-patterns μ-patterns
 side-by-side-requires c κs = tt
@@ -42,7 +44,7 @@ patterns-holds : tie.Need-patterns-holds Inv-loop μ-loop Inv-patterns μ-patter
 patterns-holds c =
     let a = c .before .before .args in
     let q = c .before .before .pre in
-    (omega (arith, q .3, c .before .patterns-of .ensures .0), subst (λ ts. Settled (a .m) (a .sets .now) ts (a .from)) (q .2) (q .4))
+    (omega (arith, q .3, c .before .patterns-of .ensures .2 (q .0 .inputs)), subst (λ ts. Settled (a .m) (a .sets .now) ts (a .from)) (q .2) (q .4))
 
 cast-set : tie.Need-cast-set Inv-loop μ-loop Inv-patterns μ-patterns
 cast-set c = omega arith
@@ -76,8 +78,10 @@ loop-again c =
     let a = c .before .before .before .before .before .before .before .before .before .before .before .before .args in
     let q = c .before .before .before .before .before .before .before .before .before .before .before .before .pre in
     let p = c .before .before .before .before .before .before .before .before .before .patterns .p in
-    let j = c .before .before .before .loop .j in
-    (omega arith, below-more _ _ (c .before .before .before .loop .inv .1) (told-no (c .before .is-open .ensures ∙ open-test (a .n) (a .m) (q .0) (a .sets .now) (q .1) (a .tables) (q .2) p j) (c .if2 .left)))
+    let j = c .before .before .before .loop .j in (
+      omega arith,
+      below-more _ _ (c .before .before .before .loop .inv .1) (told-no (c .before .is-open .ensures ∙ open-test (q .0) (q .1) (q .2) p j) (c .if2 .left)),
+    )
 
 add-p : tie.Need-add-p Inv-loop μ-loop Inv-patterns μ-patterns
 add-p c = omega arith
@@ -91,13 +95,14 @@ patterns-again c =
     let q = c .before .before .before .before .before .before .before .before .pre in
     let p = c .before .before .before .before .before .patterns .p in
     let small : (j : ℕ) → Fits w16 (getD (a .tables) j 0) = λ j. search needs in
-    let lp : p < 2 ^ a .n = omega arith in
+    let lp : p < 2 ^ a .n = omega (arith, c .before .before .before .before .before .before .before .patterns-of .ensures .2 (q .0 .inputs)) in
     let v = c .before .before .value-in in
-    let here = c .before .contains .ensures ∙ allowed-test (a .n) (a .m) (q .0) (a .sets .now) (q .1) (a .tables) (q .2) (λ j. small j .fits) p _ (v .result) (omega arith) (c .before .before .before .before .before .before .side-by-side .ensures) (v .ensures .0) in (
+    let side = c .before .before .before .before .before .before .side-by-side .ensures in
+    let here = allowed-test (q .0) (q .1) (q .2) (λ j. small j .fits) p (omega arith) side (v .ensures .0) (c .before .contains .ensures) in (
       omega arith,
       below-more _ _ (c .before .before .before .before .before .patterns .inv .1)
           (⊎-elim
-          (λ w. absurd (some-open (a .n) (a .m) (q .0) (a .sets .now) (q .1) _ refl p lp (denied here (w .0 .taken)) (λ j l. w .1 .inv .1 j (omega (arith, w .2 .left, w .1 .inv .0)))))
+          (λ w. absurd (some-open (q .0) (q .1) refl p lp (denied here (w .0 .taken)) (λ j l. w .1 .inv .1 j (omega (arith, w .2 .left, w .1 .inv .0)))))
           (λ w. granted here (w .0 .left))
           (c .if1 .came)),
     )
@@ -109,16 +114,18 @@ returns c =
     let p = c .before .before .patterns .p in
     let small : (j : ℕ) → Fits w16 (getD (a .tables) j 0) = λ j. search needs in
     let few = c .before .before .before .before .patterns-of .ensures in
-    let lp : p < 2 ^ a .n = omega (arith, c .if3 .taken, few .0) in
+    let lp : p < 2 ^ a .n = omega (arith, c .if3 .taken, few .2 (q .0 .inputs)) in
     ⊎-elim
     (λ w. absurd (omega (arith, w .0 .left, c .if3 .taken)))
     (λ w.
-    let here = w .3 .ensures ∙ allowed-test (a .n) (a .m) (q .0) (a .sets .now) (q .1) (a .tables) (q .2) (λ j. small j .fits) p _ (w .2 .result) (omega (arith, few .1, c .if3 .taken)) (c .before .before .before .side-by-side .ensures) (w .2 .ensures .0) in
+    let lt : p < maxPatterns = omega (arith, few .1, c .if3 .taken) in
+    let here = allowed-test (q .0) (q .1) (q .2) (λ j. small j .fits) p lt (c .before .before .before .side-by-side .ensures) (w .2 .ensures .0) (w .3 .ensures) in
     let j = w .5 .j in
     ap (Pair p) (w .9)
-    ∙ sym (pair-open (a .n) (a .m) (q .0) (a .sets .now) (q .1) _ refl p j lp (omega (arith, w .6 .taken)) (c .before .before .patterns .inv .1) (denied here (w .4 .taken)) (w .5 .inv .1)
-    (told-yes (w .7 .ensures ∙ open-test (a .n) (a .m) (q .0) (a .sets .now) (q .1) (a .tables) (q .2) p j) (w .8 .taken)))
-    ∙ ap (λ ts. openOf (a .n) (a .m) (ofSets (a .sets .now)) (wires ts)) (sym (q .2)))
+    ∙ sym
+    (pair-open (q .0) (q .1) refl p j lp (omega (arith, w .6 .taken)) (c .before .before .patterns .inv .1) (denied here (w .4 .taken)) (w .5 .inv .1)
+    (told-yes (w .7 .ensures ∙ open-test (q .0) (q .1) (q .2) p j) (w .8 .taken)))
+    ∙ ap (λ ts. splitPlace (a .n) (a .m) (ofSets (a .sets .now)) (wires ts)) (sym (q .2)))
     (c .before .patterns-test .came)
 
 returns-2 : tie.Need-returns-2 Inv-loop μ-loop Inv-patterns μ-patterns
@@ -126,9 +133,9 @@ returns-2 c =
     let a = c .before .before .before .before .before .args in
     let q = c .before .before .before .before .before .pre in
     ⊎-elim
-    (λ w. sym (none-open (a .n) (a .m) (q .0) (a .sets .now) (q .1) _ refl
-    (λ p l. c .before .before .patterns .inv .1 p (omega (arith, w .0 .left, c .before .before .before .before .patterns-of .ensures .0))))
-    ∙ ap (λ ts. openOf (a .n) (a .m) (ofSets (a .sets .now)) (wires ts)) (sym (q .2)))
+    (λ w. sym (none-open (q .0) (q .1) refl
+    (λ p l. c .before .before .patterns .inv .1 p (omega (arith, w .0 .left, c .before .before .before .before .patterns-of .ensures .2 (q .0 .inputs)))))
+    ∙ ap (λ ts. splitPlace (a .n) (a .m) (ofSets (a .sets .now)) (wires ts)) (sym (q .2)))
     (λ w. absurd (omega (arith, w .0 .taken, c .if3 .left)))
     (c .before .patterns-test .came)
 

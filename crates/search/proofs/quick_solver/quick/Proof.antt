@@ -2,13 +2,13 @@ use Prim.Native.Nat.{_-_}
 use mathlib.Core.Path.{_≡_, refl, ap, sym, _∙_}
 use native.Mathlib.Omega.{arith}
 use borrow.Author.Needs.{needs}
-use Rattle.search.specs.Kept.{rankOf}
-use Rattle.search.proofs.FirstAnswer.{Taken, none-taken, next-taken, all-taken}
+use Rattle.parts.specs.Inner.Parts.{rankOf}
+use Rattle.search.proofs.FirstAnswer.{ChosenBelow, none-taken, next-taken, all-taken}
 use Rattle.search.proofs.quick_solver.quick.Statement.{statement}
 use Rattle.search.proofs.quick_solver.quick.Tie as tie
 
 abbrev Inv-loop : tie.InvT-loop
-Inv-loop e n m first left₀ tables₀ cells₀ j₀ left tables cells j = Taken n m left₀ j left tables cells × (j ≡ 0 → left ≡ left₀)
+Inv-loop e n m first left₀ tables₀ cells₀ j₀ left tables cells j = ChosenBelow n m left₀ j left tables cells × (j ≡ 0 → left ≡ left₀)
 
 abbrev μ-loop : tie.MeasureT-loop
 μ-loop e n m first left₀ tables₀ cells₀ j₀ left tables cells j = m - j

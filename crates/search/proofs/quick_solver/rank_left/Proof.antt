@@ -1,5 +1,5 @@
 use mathlib.Core.Path.{_≡_, ap, sym, _∙_}
-use Rattle.search.specs.Kept.{rankOf}
+use Rattle.parts.specs.Inner.Parts.{rankOf}
 use borrow.Author.Needs.{needs}
 use Rattle.search.proofs.quick_solver.rank_left.Statement.{statement}
 use Rattle.search.proofs.quick_solver.rank_left.Tie as tie

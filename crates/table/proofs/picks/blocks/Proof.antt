@@ -10,8 +10,9 @@ use lib.ListN.{getD}
 use Rattle.base.proofs.Table.{at}
 use Rattle.table.specs.Bits.{bit, all}
 use Rattle.table.specs.Cells.{cells, low, high}
-use Rattle.table.specs.Pick.{suits, nearer, least, leastOf, masked}
-use Rattle.table.specs.Blocks.{blockOf, entryOf}
+use Rattle.table.specs.Pick.{suits, nearer, least, leastOf}
+use Rattle.table.specs.Inner.Ranks.{masked}
+use Rattle.table.specs.Inner.Blocks.{blockOf, entryOf}
 use Rattle.table.proofs.picks.blocks.Statement.{statement}
 use Rattle.table.proofs.picks.blocks.Tie as tie
 

@@ -1,9 +1,9 @@
 use Prim.Native.Nat.{ℕ, _+_, _*_, _^_, _/_, _%_, _<_, _≤_}
 use mathlib.Core.Path.{_≡_, ap₂, subst, _∙_}
 use native.Mathlib.Omega.{arith}
-use Rattle.table.specs.Pick.{pickOf, rank}
-use Rattle.table.specs.Blocks.{blockOf, Covered}
-use Rattle.table.specs.Pairs.{zerosIn, onesIn}
+use Rattle.table.specs.Inner.Ranks.{pickOf, rank}
+use Rattle.table.specs.Inner.Blocks.{blockOf, Covered}
+use Rattle.table.specs.Inner.Pairs.{zerosIn, onesIn}
 use Rattle.table.proofs.Entries.{rank-one, rank-two, rank-three, rank-four}
 use Rattle.table.proofs.Pairs.{one-byte, two-bytes}
 use Rattle.table.proofs.Places.{pair-told}

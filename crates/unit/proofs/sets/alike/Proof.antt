@@ -11,15 +11,16 @@ use borrow.Author.Needs.{needs}
 use borrow.Author.Tests.{eq-eqb, ne-eqb}
 use Rattle.table.specs.Bits.{ofBits, sum}
 use Rattle.table.proofs.Bits.{shifted-one}
+use Rattle.sheet.specs.Limits.{maxValues}
 use Rattle.unit.proofs.Members.{told, told-lt, told-yes, told-not}
 use Rattle.unit.proofs.sets.alike.Statement.{statement}
 use Rattle.unit.proofs.sets.alike.Tie as tie
 
 abbrev Inv-loop : tie.InvT-loop
-Inv-loop code codes found₀ v₀ found v = (v ≤ 16) × (found ≡ told v (λ u. eqb (getD codes u 0) code))
+Inv-loop code codes found₀ v₀ found v = (v ≤ maxValues) × (found ≡ told v (λ u. eqb (getD codes u 0) code))
 
 abbrev μ-loop : tie.MeasureT-loop
-μ-loop code codes found₀ v₀ found v = 16 - v
+μ-loop code codes found₀ v₀ found v = maxValues - v
 
 loop-holds : tie.Need-loop-holds Inv-loop μ-loop
 unfolding ofBits sum
@@ -41,8 +42,8 @@ add-found : tie.Need-add-found Inv-loop μ-loop
 add-found c =
     let a = c .before .before .before .args in
     let l = c .before .before .loop in
-    let b : l .v < 16 = omega arith in
-    omega (arith, l .inv .1, shifted-one (l .v) 16 b, told-lt (λ u. eqb (getD (a .t1) u 0) (a .code)) (l .v), pow-mono {i = suc (l .v)} {j = 16} b)
+    let b : l .v < maxValues = omega arith in
+    omega (arith, l .inv .1, shifted-one (l .v) maxValues b, told-lt (λ u. eqb (getD (a .t1) u 0) (a .code)) (l .v), pow-mono {i = suc (l .v)} {j = maxValues} b)
 
 add-v : tie.Need-add-v Inv-loop μ-loop
 add-v c = search needs
@@ -55,10 +56,10 @@ loop-again c =
     let a = c .before .before .before .args in
     let l = c .before .before .loop in
     let f : ℕ → Bool = λ u. eqb (getD (a .t1) u 0) (a .code) in
-    let b : l .v < 16 = omega arith in (
+    let b : l .v < maxValues = omega arith in (
       omega arith,
       ⊎-elim
-          (λ w. omega (arith, w .1, l .inv .1, shifted-one (l .v) 16 b, told-yes f (l .v) (eq-eqb _ _ (w .0 .taken))))
+          (λ w. omega (arith, w .1, l .inv .1, shifted-one (l .v) maxValues b, told-yes f (l .v) (eq-eqb _ _ (w .0 .taken))))
           (λ w. omega (arith, w .1, l .inv .1, told-not f (l .v) (ne-eqb _ _ (w .0 .left))))
           (c .if1 .came),
     )
@@ -66,7 +67,7 @@ loop-again c =
 returns : tie.Need-returns Inv-loop μ-loop
 returns c =
     let a = c .before .before .args in
-    let e : c .before .loop .v ≡ 16 = omega arith in
+    let e : c .before .loop .v ≡ maxValues = omega arith in
     c .before .loop .inv .1 ∙ ap (λ v. told v (λ u. eqb (getD (a .t1) u 0) (a .code))) e
 
 pub alike-spec : {M : Type 1} → statement M

@@ -5,16 +5,17 @@ use native.Mathlib.Omega.{arith}
 use lib.ListN.{length, getD, length-set}
 use borrow.Author.Needs.{needs}
 use Rattle.base.proofs.Tabulate.{filled-more}
-use Rattle.unit.specs.Parts.{Held, codeOf}
+use Rattle.sheet.specs.Limits.{maxValues}
+use Rattle.unit.specs.Inner.Parts.{WasRead, codeOf}
 use Rattle.unit.proofs.sets.codes_of.Statement.{statement}
 use Rattle.unit.proofs.sets.codes_of.Tie as tie
 
 abbrev Inv-loop : tie.InvT-loop
 Inv-loop sheet codes₀ v₀ codes v =
-    (v ≤ 16) × (length codes ≡ 16) × ((h : Held sheet) (u : ℕ) → u < v → getD codes u 0 ≡ codeOf (h .commands) u)
+    (v ≤ maxValues) × (length codes ≡ maxValues) × ((h : WasRead sheet) (u : ℕ) → u < v → getD codes u 0 ≡ codeOf (h .commands) u)
 
 abbrev μ-loop : tie.MeasureT-loop
-μ-loop sheet codes₀ v₀ codes v = 16 - v
+μ-loop sheet codes₀ v₀ codes v = maxValues - v
 
 loop-holds : tie.Need-loop-holds Inv-loop μ-loop
 loop-holds c = (omega arith, search needs, λ h u l. absurd (omega arith))

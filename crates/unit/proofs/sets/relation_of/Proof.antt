@@ -12,18 +12,19 @@ use Rattle.base.proofs.Tests.{cond-has}
 use Rattle.table.specs.Bits.{tabulate}
 use Rattle.relation.specs.declared.Relation.{Relation}
 use Rattle.base.proofs.Tabulate.{filled-more, filled-tabulate, tabulate-entry}
+use Rattle.sheet.specs.Limits.{maxPatterns}
 use Rattle.sheet.specs.declared.Sheet.{Sheet}
 use Rattle.sheet.specs.Commands.{inputsOf, wiresOf}
 use Rattle.sheet.proofs.Fields.{inputs-field, wires-field}
 use Rattle.unit.specs.Formed.{setOn, relationIn}
-use Rattle.unit.specs.Parts.{Held}
+use Rattle.unit.specs.Inner.Parts.{WasRead}
 use Rattle.unit.proofs.Placed.{placed}
 use Rattle.unit.proofs.sets.relation_of.Statement.{statement}
 use Rattle.unit.proofs.sets.relation_of.Tie as tie
 
 abbrev Inv-loop : tie.InvT-loop
 Inv-loop sheet n m codes sets₀ p₀ p-end sets p =
-    (p ≤ p-end) × (length sets ≡ 16) × ((q : ℕ) → p ≤ q → getD sets q 0 ≡ 0) × ((h : Held sheet) (q : ℕ) → q < p → getD sets q 0 ≡ setOn (h .commands) q)
+    (p ≤ p-end) × (length sets ≡ maxPatterns) × ((q : ℕ) → p ≤ q → getD sets q 0 ≡ 0) × ((h : WasRead sheet) (q : ℕ) → q < p → getD sets q 0 ≡ setOn (h .commands) q)
 
 abbrev μ-loop : tie.MeasureT-loop
 μ-loop sheet n m codes sets₀ p₀ p-end sets p = p-end - p
@@ -33,7 +34,7 @@ cond-same true = refl
 cond-same false = refl
 
 -- the sets of the patterns there are, and none past them
-module _ {sheet : Sheet} (h : Held sheet) (sets : List ℕ) (long : length sets ≡ 16)
+module _ {sheet : Sheet} (h : WasRead sheet) (sets : List ℕ) (long : length sets ≡ maxPatterns)
     (told : (q : ℕ) → q < 2 ^ sheet .n → getD sets q 0 ≡ setOn (h .commands) q) (past : (q : ℕ) → 2 ^ sheet .n ≤ q → getD sets q 0 ≡ 0) where
   inputs : sheet .n ≡ inputsOf (h .commands)
   inputs = ap (λ (x : Sheet). x .n) (h .gathers) ∙ inputs-field (h .commands)
@@ -41,14 +42,14 @@ module _ {sheet : Sheet} (h : Held sheet) (sets : List ℕ) (long : length sets 
   wires : sheet .m ≡ wiresOf (h .commands)
   wires = ap (λ (x : Sheet). x .m) (h .gathers) ∙ wires-field (h .commands)
 
-  entry : (q : ℕ) → q < 16 → getD sets q 0 ≡ cond (ltb q (2 ^ inputsOf (h .commands))) (setOn (h .commands) q) 0
+  entry : (q : ℕ) → q < maxPatterns → getD sets q 0 ≡ cond (ltb q (2 ^ inputsOf (h .commands))) (setOn (h .commands) q) 0
   entry q _ =
       subst (λ n. getD sets q 0 ≡ cond (ltb q (2 ^ n)) (setOn (h .commands) q) 0) inputs
       (cond-has (λ x. getD sets q 0 ≡ x) (ltb q (2 ^ sheet .n)) (λ l. told q (ltb→lt q (2 ^ sheet .n) l)) (λ l. past q (nltb→le q (2 ^ sheet .n) l)))
 
   whole : _≡_ {A = Relation} (record { n = sheet .n; m = sheet .m; sets = sets }) (relationIn (h .commands))
   unfolding relationIn
-  whole = same inputs wires (filled-tabulate 16 (λ p. cond (ltb p (2 ^ inputsOf (h .commands))) (setOn (h .commands) p) 0) sets long entry)
+  whole = same inputs wires (filled-tabulate maxPatterns (λ p. cond (ltb p (2 ^ inputsOf (h .commands))) (setOn (h .commands) p) 0) sets long entry)
     where
       same : {n n′ m m′ : ℕ} {s s′ : List ℕ} → n ≡ n′ → m ≡ m′ → s ≡ s′
           → _≡_ {A = Relation} (record { n = n; m = m; sets = s }) (record { n = n′; m = m′; sets = s′ })
@@ -58,15 +59,17 @@ codes-of-requires : tie.Need-codes-of-requires Inv-loop μ-loop
 codes-of-requires c κs = c .pre
 
 patterns-of-requires : tie.Need-patterns-of-requires Inv-loop μ-loop
-patterns-of-requires c κs = placed (c .before .pre) .few-inputs
+patterns-of-requires c κs = search needs
 
 loop-holds : tie.Need-loop-holds Inv-loop μ-loop
 unfolding tabulate
 loop-holds c =
-    (omega arith, search needs, λ q l. tabulate-entry 16 (λ _. 0) q ∙ cond-same (ltb q 16), λ h q l. absurd (omega arith))
+    (omega arith, search needs, λ q l. tabulate-entry maxPatterns (λ _. 0) q ∙ cond-same (ltb q maxPatterns), λ h q l. absurd (omega arith))
 
 set-on-requires : tie.Need-set-on-requires Inv-loop μ-loop
-set-on-requires c κs = (c .before .before .before .before .pre, omega (arith, c .before .before .patterns-of .ensures))
+set-on-requires c κs =
+    let read = c .before .before .before .before .pre in
+    (read, omega (arith, c .before .before .patterns-of .ensures .2 (placed read .few-inputs)))
 
 cast-sets : tie.Need-cast-sets Inv-loop μ-loop
 cast-sets c = search needs
@@ -75,7 +78,7 @@ mul-sets : tie.Need-mul-sets Inv-loop μ-loop
 mul-sets c = search needs
 
 array-write-sets : tie.Need-array-write-sets Inv-loop μ-loop
-array-write-sets c = omega (arith, c .before .before .before .patterns-of .ensures)
+array-write-sets c = omega (arith, c .before .before .before .patterns-of .ensures .1)
 
 add-p : tie.Need-add-p Inv-loop μ-loop
 add-p c = search needs
@@ -87,7 +90,7 @@ loop-again : tie.Need-loop-again Inv-loop μ-loop
 loop-again c =
     let l = c .before .before .loop in
     let codes = c .before .before .before .before .codes-of in
-    let b : l .p < length (l .sets) = omega (arith, c .before .before .before .patterns-of .ensures) in (
+    let b : l .p < length (l .sets) = omega (arith, c .before .before .before .patterns-of .ensures .1) in (
       omega arith,
       simp length-set (l .inv .1),
       λ q d. getD-set-other (l .sets) (l .p) q (c .set-on .result) 0 (λ e. omega arith) ∙ l .inv .2 q (omega arith),
@@ -98,7 +101,7 @@ returns : tie.Need-returns Inv-loop μ-loop
 returns c =
     let l = c .before .loop in
     let sheet = c .before .before .before .before .args .sheet in
-    let e : l .p ≡ 2 ^ sheet .n = omega (arith, c .before .before .patterns-of .ensures) in
+    let e : l .p ≡ 2 ^ sheet .n = omega (arith, c .before .before .patterns-of .ensures .2 (placed (c .before .before .before .before .pre) .few-inputs)) in
     λ h. whole h (l .sets) (l .inv .1) (λ q d. l .inv .3 h q (omega arith)) (λ q d. l .inv .2 q (omega arith))
 
 pub relation-of-spec : {M : Type 1} → statement M

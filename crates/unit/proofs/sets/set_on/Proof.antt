@@ -11,14 +11,14 @@ use Rattle.sheet.specs.Limits.{maxPatterns, maxValues}
 use Rattle.sheet.specs.Gathered.{rowMark}
 use Rattle.sheet.proofs.Fields.{inputs-field, pattern-room}
 use Rattle.unit.specs.Formed.{setOn}
-use Rattle.unit.specs.Parts.{Held, Codes}
+use Rattle.unit.specs.Inner.Parts.{WasRead, Codes}
 use Rattle.unit.proofs.Placed.{held-sound}
 use Rattle.unit.proofs.Allowed.{sameAs, set-unmarked, set-marked, value-below}
 use borrow.Author.Needs.{needs}
 use Rattle.unit.proofs.sets.set_on.Statement.{statement}
 use Rattle.unit.proofs.sets.set_on.Tie as tie
 
-module _ {sheet : Sheet} (h : Held sheet) (p : ℕ) (l : p < 2 ^ sheet .n) where
+module _ {sheet : Sheet} (h : WasRead sheet) (p : ℕ) (l : p < 2 ^ sheet .n) where
   inside : p < 2 ^ inputsOf (h .commands)
   inside = subst (λ n. p < 2 ^ n) (ap (λ (x : Sheet). x .n) (h .gathers) ∙ inputs-field (h .commands)) l
 

@@ -1,0 +1,4 @@
+pub mod Picks
+pub mod Treating
+pub mod Depth
+pub mod Families

@@ -1,0 +1,58 @@
+-- Document 01, "Search": what the reply of a search carries, from the state that the search ends in; or the refusal of the relation.
+use Prim.Native.Nat.{ℕ, zero}
+use mathlib.Core.Bool.{Bool, true, false, cond}
+use mathlib.Core.List.{List}
+use Rattle.sheet.specs.Limits.{maxWires}
+use Rattle.base.specs.Cases.{Case, accepting, isRefused}
+use Rattle.table.specs.Bits.{tabulate}
+use Rattle.relation.specs.declared.Relation.{Relation}
+use Rattle.relation.specs.Source.{Rel}
+use Rattle.relation.specs.Handed.{relationOf, checkOf}
+use Rattle.branch_bound.specs.declared.State.{State}
+use Rattle.branch_bound.specs.Search.{floor, run}
+use Rattle.branch_bound.specs.TreeBoard.{tree}
+
+-- the two outcomes of a search that refuses nothing
+abbrev pub bestOutcome : ℕ
+bestOutcome = 0
+
+abbrev pub stoppedOutcome : ℕ
+stoppedOutcome = 1
+
+-- the mark is a case; the cells, the floor and the visits stand beside it
+pub record SearchReply : Type 0 where
+  pub tables : List ℕ
+  pub cells : ℕ
+  pub floor : ℕ
+  pub visits : ℕ
+  pub mark : Case
+
+-- a search that left a part is stopped, any other is best
+unfoldable pub markOf : Bool → Case
+markOf true = accepting stoppedOutcome 0
+markOf false = accepting bestOutcome 0
+
+-- the floor is the relation's own where the search was stopped; else it is the cells found
+unfoldable pub answerOf : ℕ → ℕ → Rel → State → SearchReply
+answerOf n m R s =
+    record {
+      tables = s .tables;
+      cells = s .cells;
+      floor = cond (s .stopped) (floor (tree n m) R) (s .cells);
+      visits = s .visits;
+      mark = markOf (s .stopped);
+    }
+
+-- every number of a refused search but its refusal's is 0
+unfoldable pub refusedWith : Case → SearchReply
+refusedWith c = record { tables = tabulate maxWires (λ _. zero); cells = zero; floor = zero; visits = zero; mark = c }
+
+-- the reply once the relation's test has answered c
+unfoldable pub searchTested : Relation → ℕ → Case → SearchReply
+searchTested r budget c =
+    let found = answerOf (r .n) (r .m) (relationOf r) (run (tree (r .n) (r .m)) budget (relationOf r)) in
+    cond (isRefused c) (refusedWith c) found
+
+-- the reply to any relation and budget: the relation's test comes first
+unfoldable pub searchOf : Relation → ℕ → SearchReply
+searchOf r budget = searchTested r budget (checkOf r)

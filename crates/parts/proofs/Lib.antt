@@ -1,0 +1,7 @@
+pub mod Packing
+pub mod Changes
+pub mod PairBits
+pub mod PairSums
+pub mod PairCuts
+pub mod Keeping
+pub mod Between

@@ -1,0 +1,25 @@
+use mathlib.Core.Path.{ap, _∙_}
+use Rattle.parts.specs.Inner.Parts.{ranksBetween}
+use Rattle.parts.proofs.Keeping.{pairs-cover}
+use Rattle.parts.proofs.Between.{ranks-between}
+use Rattle.parts.proofs.whole_part.Statement.{statement}
+use Rattle.parts.proofs.whole_part.Tie as tie
+
+pairs-of-requires : tie.Need-pairs-of-requires
+pairs-of-requires c κs = let q = c .pre in (q .1 .inputs, q .2 .past)
+
+ranks-of-requires : tie.Need-ranks-of-requires
+ranks-of-requires c κs =
+    let a = c .before .args in
+    let q = c .before .pre in
+    (q .0, q .1 .one, q .1 .inputs, rw (c .pairs-of .ensures) (pairs-cover (a .n) (a .m) (q .1) (a .sets) (q .2)))
+
+returns : tie.Need-returns
+returns c =
+    let a = c .before .before .args in
+    let q = c .before .before .pre in
+    let x = c .before .pairs-of .ensures in
+    record { sized = q .1; sets = q .2; pairs = x; ranks = c .ranks-of .ensures ∙ ap (ranksBetween (a .n)) x ∙ ranks-between (a .n) (a .sets) }
+
+pub whole-part-spec : {M : Type 1} → statement M
+whole-part-spec = tie.close (tie.spec pairs-of-requires ranks-of-requires returns)

@@ -1,0 +1,5 @@
+-- Meanings that only inner functions use: no public contract reaches them.
+pub mod Ranks
+pub mod Changes
+pub mod Pairs
+pub mod Parts

@@ -1,0 +1,55 @@
+-- What the code carries of a part: its sets, and for each wire the two masks of its projection in one number and the rank of its pick.
+use Prim.Native.Nat.{ℕ, _^_, _<_, _≤_}
+use mathlib.Core.Path.{_≡_}
+use mathlib.Core.Bool.{cond}
+use mathlib.Core.List.{List}
+use lib.ListN.{length, getD}
+use Rattle.sheet.specs.Limits.{maxInputs, maxWires, maxPatterns}
+use Rattle.table.specs.Bits.{bit, tabulate}
+use Rattle.table.specs.Inner.Ranks.{pickOf, rank}
+use Rattle.table.specs.Inner.Pairs.{zerosIn, onesIn}
+use Rattle.relation.specs.Source.{WellDefined}
+use Rattle.relation.specs.Tests.{ofSets, occurs}
+use Rattle.relation.specs.Inner.Masks.{member, maskOf, NonePast}
+use Rattle.parts.specs.Inner.Pairs.{pairsOf}
+use Rattle.parts.specs.Inner.Ranks.{tableIn}
+
+-- as many inputs and wires as a search takes
+pub record InLimits (n m : ℕ) : Type 0 where
+  pub one : 1 ≤ n
+  pub inputs : n ≤ maxInputs
+  pub wires : m ≤ maxWires
+
+-- the sets of a part: as many as there may be patterns, of values there are, empty past the last pattern, none empty before
+pub record PartSets (n m : ℕ) (sets : List ℕ) : Type 0 where
+  pub long : length sets ≡ maxPatterns
+  pub small : (p : ℕ) → getD sets p 0 < 2 ^ (2 ^ m)
+  pub past : NonePast n sets
+  pub defined : WellDefined n m (ofSets sets)
+
+-- the rank of a wire's pick, and of all wires' picks
+abbrev pub rankOf : ℕ → List ℕ → ℕ → ℕ
+rankOf n sets j = rank n (pickOf n (maskOf sets j 0) (maskOf sets j 1))
+
+unfoldable pub ranksOf : ℕ → List ℕ → List ℕ
+ranksOf n sets = tabulate maxWires (rankOf n sets)
+
+pub record Carried (n m : ℕ) (s w r : List ℕ) : Type 0 where
+  pub sized : InLimits n m
+  pub sets : PartSets n m s
+  pub pairs : w ≡ pairsOf s
+  pub ranks : r ≡ ranksOf n s
+
+-- the rank of the pick between the masks of a pair, and the ranks between those of pairs
+abbrev pub rankBetween : ℕ → ℕ → ℕ
+rankBetween n pair = rank n (pickOf n (zerosIn pair) (onesIn pair))
+
+unfoldable pub ranksBetween : ℕ → List ℕ → List ℕ
+ranksBetween n pairs = tabulate maxWires (λ j. rankBetween n (getD pairs j 0))
+
+-- the rank once pattern p has the set w: a pick whose bit on p still occurs is still the pick
+unfoldable pub rankAgain : ℕ → ℕ → ℕ → ℕ → ℕ → ℕ → ℕ
+rankAgain n r p j w pair = cond (occurs maxWires (member w) j (bit (tableIn r) p)) r (rankBetween n pair)
+
+unfoldable pub ranksAgain : ℕ → List ℕ → ℕ → ℕ → List ℕ → List ℕ
+ranksAgain n ranks p w pairs = tabulate maxWires (λ j. rankAgain n (getD ranks j 0) p j w (getD pairs j 0))

@@ -1,0 +1,3 @@
+-- What only inner functions and the laws use.
+pub mod Source
+pub mod Masks

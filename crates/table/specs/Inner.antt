@@ -1,0 +1,6 @@
+-- What only inner functions use.
+pub mod Ranks
+pub mod Blocks
+pub mod Pairs
+pub mod Columns
+pub mod Drawing
