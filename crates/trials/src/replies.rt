@@ -230,13 +230,8 @@ fn put_read(out: &mut [u8], at: usize, s: &[u8], from: usize) -> usize
     let read = read_stage(stage);
     let answer = read.answer;
     match answer {
-<<<<<<< HEAD
-        Verdict::Accepted => put_stage_read(out, at, read),
-        Verdict::Refused(refusal) => put_refusal_line(out, at, refusal),
-=======
         Verdict::Accepted => put_stage_read(out, at, read),
         Verdict::Refused(refusal) => put_refusal_line(out, at, b"", refusal),
->>>>>>> hC
     }
 }
 
