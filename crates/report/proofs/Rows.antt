@@ -15,7 +15,7 @@ unfolding digits decimal hexDigit hexPair furtherPairs hexPairs named
 texts = 0
 
 unfoldable pub printing : ℕ
-unfolding texts countsOf stagePairs resultLines refusalText refusalLine linesOf judgedLine auditLine
+unfolding texts countsOf stagePairs resultLines refusalText refusalLine linesOf judgedLine
 printing = 0
 
 -- "cells 2 floor 1 visits 0 stopped" and "20 2F": bytes of the buffer past the length are not shown
