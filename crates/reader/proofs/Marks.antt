@@ -6,7 +6,7 @@ use mathlib.Core.Bool.{true, false, not, _||_}
 use mathlib.Core.List.{List, [], _∷_, _++_, append-nil}
 use native.Mathlib.Omega.{arith}
 use lib.Dec.{T-not, eqb, eqb→eq}
-use lib.ListN.{length}
+use lib.ListN.{length, length-append}
 use borrow.Author.Tests.{leb-false, not-false}
 use Rattle.base.proofs.Tests.{decide, eq-test, cond-has, neither}
 use Rattle.sheet.specs.declared.Command.{Command}
@@ -31,21 +31,23 @@ same? p q f g = ⊎-elim (λ t. f (eqb→eq q p t)) (λ t. g (λ e. T-not (eqb q
 unmarked-cares : (p : ℕ) (cs : List Command) → isMarked p cs ≡ false → dontCaresOn p cs ≡ []
 unmarked-cares p cs e = isEmpty-nil (dontCaresOn p cs) (not-false (isEmpty (dontCaresOn p cs)) (unmarked-care p cs e))
 
-once-with : (before : List Command) (c : Command) → Once before → InOrder before c → (p : ℕ) → length (rowsOn p before ++ rowIn p c) + length (dontCaresOn p before ++ dontCareIn p c) ≤ 1
-once-with before (Row q v) h o p =
+-- a mark for a pattern that had none is its only one, and changes nothing for the others
+one-mark : (before : List Command) → Once before → (q v : ℕ) → isMarked q before ≡ false → (p : ℕ)
+    → length (rowsOn p before) + length (dontCaresOn p before) + length (about p q v) ≤ 1
+one-mark before h q v new p =
     same? p q
     (λ e.
-    let rows = rw e at (unmarked-row q before (o .new)) in
-    let cares = rw e at (unmarked-cares q before (o .new)) in
+    let rows = rw e at (unmarked-row q before new) in
+    let cares = rw e at (unmarked-cares q before new) in
     rw (e, rows, cares, about-same p v) (omega arith))
-    (λ e. rw (about-other p q v e) (simp append-nil (h p)))
+    (λ e. rw (about-other p q v e) (omega (arith, h p)))
+
+once-with : (before : List Command) (c : Command) → Once before → InOrder before c → (p : ℕ)
+    → length (rowsOn p before ++ rowIn p c) + length (dontCaresOn p before ++ dontCareIn p c) ≤ 1
+once-with before (Row q v) h o p =
+    omega (arith, length-append (rowsOn p before) (about p q v), length-append (dontCaresOn p before) [], one-mark before h q v (o .new) p)
 once-with before (DontCare q) h o p =
-    same? p q
-    (λ e.
-    let rows = rw e at (unmarked-row q before (o .new)) in
-    let cares = rw e at (unmarked-cares q before (o .new)) in
-    rw (e, rows, cares, about-same p p) (omega arith))
-    (λ e. rw (about-other p q q e) (simp append-nil (h p)))
+    omega (arith, length-append (rowsOn p before) [], length-append (dontCaresOn p before) (about p q q), one-mark before h q q (o .new) p)
 once-with before End h o p = simp append-nil (h p)
 once-with before (Sizes n m) h o p = simp append-nil (h p)
 once-with before (Gate k a b) h o p = simp append-nil (h p)

@@ -1,6 +1,6 @@
 -- Of the commands that a sheet holds 01 is the first and no other, and with its n and m each operand is in range.
 use Prim.Native.Nat.{ℕ}
-use mathlib.Core.Path.{_≡_, refl, sym, ap}
+use mathlib.Core.Path.{_≡_, refl, sym, ap, subst}
 use mathlib.Core.Bool.{true, false, not}
 use mathlib.Core.List.{List, [], _∷_, _++_}
 use lib.ListN.{getD}
@@ -33,6 +33,20 @@ opening before (Gate k a b) e = later before (Gate k a b) (sym e) refl refl
 opening before (Output s) e = later before (Output s) (sym e) refl refl
 opening before (Limit p w) e = later before (Limit p w) (sym e) refl refl
 
+-- what holds once 01 stands alone, and is kept by every later command, which leaves n and m
+pub by-opening : (P : List Command → Type 0) (before : List Command) (c : Command) → InOrder before c
+    → ((n m : ℕ) → isOutOfRange (inputsOf before) (wiresOf before) (Sizes n m) ≡ false → P (Sizes n m ∷ []))
+    → (isEmpty before ≡ false → inputsOf (before ++ c ∷ []) ≡ inputsOf before → wiresOf (before ++ c ∷ []) ≡ wiresOf before → P (before ++ c ∷ []))
+    → P (before ++ c ∷ [])
+by-opening P before c o first rest = go c (o .in-range) (opening before c (o .first)) first rest
+  where
+    go : (c : Command) → isOutOfRange (inputsOf before) (wiresOf before) c ≡ false → Opening before c
+        → ((n m : ℕ) → isOutOfRange (inputsOf before) (wiresOf before) (Sizes n m) ≡ false → P (Sizes n m ∷ []))
+        → (isEmpty before ≡ false → inputsOf (before ++ c ∷ []) ≡ inputsOf before → wiresOf (before ++ c ∷ []) ≡ wiresOf before → P (before ++ c ∷ []))
+        → P (before ++ c ∷ [])
+    go c r (opens n m e) f g = subst (λ x. P (x ++ Sizes n m ∷ [])) (sym e) (f n m r)
+    go c r (stays _ d i w) f g = g d i w
+
 -- 01 stands at the start, and nowhere else
 pub data Headed : List Command → Type 0 where
   unheaded : Headed []
@@ -57,11 +71,7 @@ InSize cs = isEmpty cs ≡ false → Sized (inputsOf cs) (wiresOf cs)
 
 pub size-more : (before : List Command) (c : Command) → InSize before → InOrder before c → InSize (before ++ c ∷ [])
 unfolding collect
-size-more before c p o = go c (o .in-range) (opening before c (o .first))
-  where
-    go : (c : Command) → isOutOfRange (inputsOf before) (wiresOf before) c ≡ false → Opening before c → InSize (before ++ c ∷ [])
-    go c r (opens n m e) = rw e (λ _. sizes-in n m r)
-    go c r (stays _ f i w) = λ _. rw (i, w) (p f)
+size-more before c p o = by-opening InSize before c o (λ n m r _. sizes-in n m r) (λ f i w _. rw (i, w) (p f))
 
 -- operands in range
 abbrev pub InRange : List Command → Type 0
@@ -69,8 +79,5 @@ InRange cs = Each (λ c. isOutOfRange (inputsOf cs) (wiresOf cs) c ≡ false) cs
 
 pub range-more : (before : List Command) (c : Command) → InRange before → InOrder before c → InRange (before ++ c ∷ [])
 unfolding collect
-range-more before c p o = go c (o .in-range) (opening before c (o .first))
-  where
-    go : (c : Command) → isOutOfRange (inputsOf before) (wiresOf before) c ≡ false → Opening before c → InRange (before ++ c ∷ [])
-    go c r (opens n m e) = rw e (r, tt)
-    go c r (stays _ f i w) = rw (i, w) (each-append _ before (c ∷ []) p (r, tt))
+range-more before c p o =
+    by-opening InRange before c o (λ n m r. (r, tt)) (λ f i w. rw (i, w) (each-append _ before (c ∷ []) p (o .in-range, tt)))

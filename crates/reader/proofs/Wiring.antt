@@ -20,7 +20,7 @@ use Rattle.sheet.proofs.Lists.{collect-snoc}
 use Rattle.base.specs.Each.{Each}
 use Rattle.base.proofs.Each.{each-append, each-weaken}
 use Rattle.reader.proofs.Passages.{InOrder}
-use Rattle.reader.proofs.Opening.{Opening, opens, stays, opening}
+use Rattle.reader.proofs.Opening.{by-opening}
 
 -- gate i of a sheet of m wires is of a known kind, on signals made before it
 pub record Wired (m i : ℕ) (g : LogicGate) : Type 0 where
@@ -74,11 +74,7 @@ Gates cs = GatesWired (wiresOf cs) (gatesOf cs)
 
 pub gates-more : (before : List Command) (c : Command) → Gates before → InOrder before c → Gates (before ++ c ∷ [])
 unfolding collect
-gates-more before c p o = go c o (opening before c (o .first))
-  where
-    go : (c : Command) → InOrder before c → Opening before c → Gates (before ++ c ∷ [])
-    go c o (opens n m e) = rw e (no-gates m)
-    go c o (stays _ f i w) = rw (w, collect-snoc gateIn before c) (gates-with before c p o)
+gates-more before c p o = by-opening Gates before c o (λ n m _. no-gates m) (λ _ i w. rw (w, collect-snoc gateIn before c) (gates-with before c p o))
 
 -- the outputs with what one command adds
 outputs-with : (before : List Command) (c : Command) → OutputsMade (signalsMade before) (outputsOf before) → InOrder before c
@@ -106,8 +102,6 @@ Outputs cs = OutputsMade (signalsMade cs) (outputsOf cs)
 
 pub outputs-more : (before : List Command) (c : Command) → Outputs before → InOrder before c → Outputs (before ++ c ∷ [])
 unfolding collect
-outputs-more before c p o = go c o (opening before c (o .first))
-  where
-    go : (c : Command) → InOrder before c → Opening before c → Outputs (before ++ c ∷ [])
-    go c o (opens n m e) = rw e (record { few = omega arith; made-before = tt })
-    go c o (stays _ f i w) = rw (w, collect-snoc gateIn before c, collect-snoc outputIn before c) (outputs-with before c p o)
+outputs-more before c p o =
+    by-opening Outputs before c o (λ n m _. record { few = omega arith; made-before = tt })
+    (λ _ i w. rw (w, collect-snoc gateIn before c, collect-snoc outputIn before c) (outputs-with before c p o))
