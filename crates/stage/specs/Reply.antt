@@ -14,7 +14,7 @@ use Rattle.table.specs.Drawing.{StageSheet, got, noStage}
 unfoldable pub tableOf : ℕ → Tree → ℕ
 tableOf n x = ofBits (2 ^ n) (λ p. follow n p x)
 
--- a table for each of four wires; 0 for a wire that the sheet does not have
+-- a table for each wire that a stage can have; 0 for one that the sheet does not have
 unfoldable pub stageTables : ℕ → List Tree → List ℕ
 stageTables n trees = tabulate maxWires (λ j. getD (map (tableOf n) trees) j 0)
 
