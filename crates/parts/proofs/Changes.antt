@@ -115,7 +115,8 @@ module _ (before ranks : List ℕ) where
   none-set : (q : ℕ) → ((j : ℕ) → j < maxWires → bit (getD before j 0) q ≡ bit (getD ranks j 0) q) → bit changed q ≡ 0
   none-set q h =
       or-both (bitOr (bitOr (differs 0) (differs 1)) (differs 2)) (differs 3) q
-      (or-both (bitOr (differs 0) (differs 1)) (differs 2) q (or-both (differs 0) (differs 1) q (each 0 (omega arith)) (each 1 (omega arith))) (each 2 (omega arith)))
+      (or-both (bitOr (differs 0) (differs 1)) (differs 2) q
+      (or-both (differs 0) (differs 1) q (each 0 (omega arith)) (each 1 (omega arith))) (each 2 (omega arith)))
       (each 3 (omega arith))
     where
       each : (j : ℕ) → j < maxWires → bit (differs j) q ≡ 0

@@ -14,10 +14,10 @@ use Rattle.parts.proofs.Keeping.{kept-tables, kept-floor}
 
 module _ {n m : ℕ} {S ws rs : List ℕ} (h : Carried n m S ws rs) where
   pub floor-is : {f : ℕ} → f ≡ floorIn rs → f ≡ floor (tree n m) (ofSets S)
-  floor-is e = e ∙ ap floorIn (h .ranks) ∙ kept-floor n m (h .sized) S (h .sets)
+  floor-is e = e ∙ ap floorIn (h .ranks) ∙ kept-floor (h .sized) (h .sets)
 
   pub tables-are : {t : List ℕ} → t ≡ tablesIn rs → t ≡ picks (tree n m) (ofSets S)
-  tables-are e = e ∙ ap tablesIn (h .ranks) ∙ kept-tables n m (h .sized) S (h .sets)
+  tables-are e = e ∙ ap tablesIn (h .ranks) ∙ kept-tables (h .sized) (h .sets)
 
 pub pattern-lt : {n m p : ℕ} → InLimits n m → p < 2 ^ n → p < maxPatterns
 pattern-lt {n} sz l = lt-of-lt-of-le l (pow-mono {i = n} {j = maxInputs} (sz .inputs))

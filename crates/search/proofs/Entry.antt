@@ -25,18 +25,21 @@ started : (n m : ℕ) (R : Rel) (st : State) → st ≡ start (tree n m) R → s
 unfolding start
 started n m R st e = rw e refl
 
-pub ran : (n m budget : ℕ) (R : Rel) (st s : State) → st ≡ start (tree n m) R → s ≡ searchPart (tree n m) budget R (stateOf (st .tables) (st .cells ∷ 0 ∷ 0 ∷ []))
+pub ran : (n m budget : ℕ) (R : Rel) (st s : State) → st ≡ start (tree n m) R
+    → s ≡ searchPart (tree n m) budget R (stateOf (st .tables) (st .cells ∷ 0 ∷ 0 ∷ []))
     → s ≡ run (tree n m) budget R
 unfolding run
 ran n m budget R st s est e = e ∙ ap (searchPart (tree n m) budget R) (started n m R st est)
 
 pub stopped-answer : (n m : ℕ) (R : Rel) (s t : State) (f : ℕ) → s ≡ t → s .stopped ≡ true → f ≡ floor (tree n m) R
-    → _≡_ {A = SearchReply} (record { tables = s .tables; cells = s .cells; floor = f; visits = s .visits; mark = accepting stoppedOutcome 0 }) (answerOf n m R t)
+    → _≡_ {A = SearchReply} (record { tables = s .tables; cells = s .cells; floor = f; visits = s .visits; mark = accepting stoppedOutcome 0 })
+    (answerOf n m R t)
 unfolding answerOf markOf
 stopped-answer n m R s t f e h ef = rw (← e, h, ef)
 
 pub best-answer : (n m : ℕ) (R : Rel) (s t : State) → s ≡ t → s .stopped ≡ false
-    → _≡_ {A = SearchReply} (record { tables = s .tables; cells = s .cells; floor = s .cells; visits = s .visits; mark = accepting bestOutcome 0 }) (answerOf n m R t)
+    → _≡_ {A = SearchReply} (record { tables = s .tables; cells = s .cells; floor = s .cells; visits = s .visits; mark = accepting bestOutcome 0 })
+    (answerOf n m R t)
 unfolding answerOf markOf
 best-answer n m R s t e h = rw (← e, h)
 

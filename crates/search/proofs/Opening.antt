@@ -109,7 +109,8 @@ module _ {n m : ℕ} (sz : InLimits n m) {sets : List ℕ} (ok : PartSets n m se
       rw (no, at, wire)
 
   -- what is found is an open pair
-  pub found-open : {f : SplitPlace} → f ≡ splitPlace n m (ofSets sets) (wires tables) → {p j : ℕ} → f ≡ Pair p j → (p < 2 ^ n) × (j < m) × T (free m (ofSets sets p) j)
+  pub found-open : {f : SplitPlace} → f ≡ splitPlace n m (ofSets sets) (wires tables) → {p j : ℕ} → f ≡ Pair p j
+      → (p < 2 ^ n) × (j < m) × T (free m (ofSets sets p) j)
   unfolding picks tree
   found-open ef {p} {j} e =
       let R = ofSets sets in

@@ -25,7 +25,8 @@ pub fn first_open(
     sets: &[u16; Sheet::MAX_PATTERNS],
     tables: [u16; Sheet::WIRES],
 ) -> SplitPlace
-    requires { ⌜ InLimits n m × PartSets n m (now sets) × (tables ≡ picks (tree n m) (ofSets (now sets))) × (from ≤ 2 ^ n) × Settled m (now sets) tables from ⌝ }
+    requires { ⌜ InLimits n m × PartSets n m (now sets) × (tables ≡ picks (tree n m) (ofSets (now sets))) × (from ≤ 2 ^ n)
+        × Settled m (now sets) tables from ⌝ }
     ensures { λ r. ⌜ r ≡ splitPlace n m (ofSets (now (sets .entry))) (wires tables) ⌝ }
 {
     let count = patterns_of(n);

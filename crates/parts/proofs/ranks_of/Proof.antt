@@ -34,7 +34,8 @@ returns : tie.Need-returns
 unfolding ranksBetween
 returns c =
     let a = c .before .before .before .before .args in
-    tabulate-four (λ j. rankBetween (a .n) (getD (a .t3) j 0)) (c .before .before .before .pick .ensures) (c .before .before .pick2 .ensures) (c .before .pick3 .ensures) (c .pick4 .ensures)
+    tabulate-four (λ j. rankBetween (a .n) (getD (a .t3) j 0))
+    (c .before .before .before .pick .ensures) (c .before .before .pick2 .ensures) (c .before .pick3 .ensures) (c .pick4 .ensures)
 
 pub ranks-of-spec : {M : Type 1} → statement M
 ranks-of-spec =

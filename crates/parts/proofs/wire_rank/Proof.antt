@@ -12,7 +12,7 @@ pick-requires : tie.Need-pick-requires
 pick-requires c κs =
     let a = c .before .args in
     let q = c .before .pre in
-    let k : Covers (a .n) (c .pair-of .result) = rw (c .pair-of .ensures) (pair-covers (a .n) (a .m) (q .1) (a .sets) (q .2) (a .j)) in
+    let k : Covers (a .n) (c .pair-of .result) = rw (c .pair-of .ensures) (pair-covers (q .1) (q .2) (a .j)) in
     (q .0, q .1 .one, q .1 .inputs, k .zeros-lt, k .ones-lt, k .covered)
 
 returns : tie.Need-returns

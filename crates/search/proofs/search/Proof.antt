@@ -54,7 +54,8 @@ returns-2 : tie.Need-returns-2
 unfolding refusedWith tabulate
 returns-2 c =
     let a = c .before .before .before .before .before .args in
-    sym (turned-away (a .relation) (a .budget) (c .before .checked .given .0 .0) (sym (c .before .before .before .check .ensures) ∙ ap verdictCase (c .before .checked .given .1)))
+    let f = c .before .checked .given in
+    sym (turned-away (a .relation) (a .budget) (f .0 .0) (sym (c .before .before .before .check .ensures) ∙ ap verdictCase (f .1)))
 
 pub search-spec : {M : Type 1} → statement M
 search-spec =

@@ -119,7 +119,8 @@ returns c =
     (λ w. absurd (omega (arith, w .0 .left, c .if3 .taken)))
     (λ w.
     let lt : p < maxPatterns = omega (arith, few .1, c .if3 .taken) in
-    let here = allowed-test (q .0) (q .1) (q .2) (λ j. small j .fits) p lt (c .before .before .before .side-by-side .ensures) (w .2 .ensures .0) (w .3 .ensures) in
+    let side = c .before .before .before .side-by-side .ensures in
+    let here = allowed-test (q .0) (q .1) (q .2) (λ j. small j .fits) p lt side (w .2 .ensures .0) (w .3 .ensures) in
     let j = w .5 .j in
     ap (Pair p) (w .9)
     ∙ sym
