@@ -1,5 +1,6 @@
 pub mod Tests
 pub mod Lowest
+pub mod Each
 pub mod Table
 pub mod Tabulate
 pub mod Cases

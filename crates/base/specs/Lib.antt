@@ -2,4 +2,5 @@
 pub mod Refusals
 pub mod Cases
 pub mod Lowest
+pub mod Each
 pub mod Tabulate

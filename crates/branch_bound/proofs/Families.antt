@@ -1,79 +1,79 @@
--- The promise of the search on the tree board, told by every family of ordered trees.
-use Prim.Native.Nat.{ℕ, _*_, _^_, _<_, _≤_}
-use mathlib.Core.Path.{_≡_, sym, ap, _∙_}
-use native.Mathlib.Nat.{mod-eq-of-lt, zero-add, le-trans}
+-- The promise of a search told by every stage drawn, on any board whose count is fair to the drawings.
+use Prim.Native.Nat.{ℕ, _^_, _<_, _≤_}
+use mathlib.Core.Path.{_≡_, sym, ap, subst, _∙_}
+use mathlib.Core.List.{List}
+use native.Mathlib.Omega.{arith}
+use native.Mathlib.Nat.{le-trans}
+use lib.Dec.{T}
+use lib.ListN.{length, take}
+use lib.Seq.{getD-take, length-take-le}
 use Rattle.sheet.specs.Limits.{maxWires}
-use Rattle.table.specs.Bits.{bit, ofBits}
-use Rattle.table.specs.Cells.{cells, wires}
-use Rattle.table.specs.Tree.{Tree, follow, selectors, reduced}
-use Rattle.table.proofs.Bits.{sum-cong, sum-le, ofBits-lt, bit-ofBits}
-use Rattle.table.proofs.Trees.{follow-lt, least-tree, reduced-selectors, reduced-ordered, reduced-follow}
+use Rattle.table.specs.Cells.{wires, total as totalOf}
+use Rattle.table.specs.Drawing.{Drawing, drawnCells}
+use Rattle.table.specs.Inner.Drawing.{Counts}
+use Rattle.table.proofs.Bits.{sum-cong}
+use Rattle.table.proofs.Drawings.{least}
 use Rattle.relation.specs.Source.{Rel, Tables, Stage, WellDefined, Compatible, value}
-use Rattle.branch_bound.specs.Search.{total, run}
-use Rattle.branch_bound.specs.Promise.{Fair}
-use Rattle.relation.specs.Families.{Family, size}
-use Rattle.branch_bound.specs.TreeBoard.{tree, Smallest}
+use Rattle.relation.specs.Families.{Family}
+use Rattle.relation.proofs.Decide.{value-cong}
+use Rattle.relation.proofs.Families.{drawnTables, family-stage, family-compatible, family-total, least-family, least-total}
+use Rattle.branch_bound.specs.Search.{Board, total, floor, run}
+use Rattle.branch_bound.specs.Promise.{Fair, Promise}
+use Rattle.branch_bound.specs.TreeBoard.{tree}
+use Rattle.branch_bound.specs.Smallest.{Smallest}
 use Rattle.branch_bound.proofs.Treating.{run-promise}
 
 pub fair : (n m : ℕ) → m ≤ maxWires → Fair (tree n m)
 unfolding tree
 fair n m few = record { order = λ s t ls lt h. h; few = few }
 
--- the tables of a rival
-module _ (n m : ℕ) (R : Rel) (x : ℕ → Tree) (rv : Family n m R x) where
-  tables : Tables
-  tables j = ofBits (2 ^ n) (λ p. follow n p (x j))
+module _ (D : Drawing) (b : Board) (counts : Counts D (b .n) (b .count)) (fairly : Fair b) (budget : ℕ) (R : Rel) (ne : WellDefined (b .n) (b .m) R) where
+  promise : Promise b budget R (run b budget R)
+  promise = run-promise b fairly budget R ne
 
-  table-bit : (j : ℕ) → j < m → (p : ℕ) → p < 2 ^ n → bit (tables j) p ≡ follow n p (x j)
-  unfolding tables
-  table-bit j l p h = bit-ofBits (λ p. follow n p (x j)) (2 ^ n) (λ p _. follow-lt n 0 (x j) p (rv .ordered j l)) p h
+  -- the tables of the answer, those of the wires alone
+  abbrev tables : List ℕ
+  tables = take (b .m) (run b budget R .tables)
 
-  family-stage : Stage n m tables
-  unfolding tables
-  family-stage j l = ofBits-lt (λ p. follow n p (x j)) (2 ^ n) (λ p _. follow-lt n 0 (x j) p (rv .ordered j l))
+  abbrev pub ownStage : List (D .Shape)
+  ownStage = least D (b .n) (b .count) counts tables
 
-  family-compatible : Compatible n m R tables
-  unfolding value ofBits
-  family-compatible p h =
-      rw (sum-cong m (λ j. bit (tables j) p * 2 ^ j) (λ j. follow n p (x j) * 2 ^ j) (λ j l. ap (λ y. y * 2 ^ j) (table-bit j l p h)))
-      (rv .allowed p h)
+  same : (j : ℕ) → j < b .m → wires tables j ≡ wires (run b budget R .tables) j
+  same j l = getD-take (b .m) (run b budget R .tables) j 0 l
 
-  family-total : total (tree n m) tables ≤ size m x
-  unfolding total size tree
-  family-total =
-      sum-le m (λ j. cells n (tables j)) (λ j. selectors (x j))
-      (λ j l. least-tree n n 0 (zero-add n) (x j) (rv .ordered j l) (tables j) (family-stage j l) (λ p h. sym (table-bit j l p h)))
+  long : length tables ≡ b .m
+  long = length-take-le (b .m) (run b budget R .tables) (omega (arith, promise .so-far .long, fairly .few))
 
--- the reduced trees of an answer
-module _ (n m : ℕ) (R : Rel) (X : Tables) (st : Stage n m X) where
-  own : ℕ → Tree
-  own j = reduced n 0 (X j)
+  stage : Stage (b .n) (b .m) (wires tables)
+  stage j l = subst (λ t. t < 2 ^ (2 ^ b .n)) (sym (same j l)) (promise .so-far .stage j l)
 
-  own-family : Compatible n m R X → Family n m R own
-  unfolding own value ofBits
-  own-family c =
+  answer : Compatible (b .n) (b .m) R (wires tables)
+  answer p l = subst (λ v. T (R p v)) (sym (value-cong (b .m) (wires tables) (wires (run b budget R .tables)) p same)) (promise .so-far .answer p l)
+
+  counted : drawnCells D ownStage ≡ run b budget R .cells
+  unfolding total totalOf
+  counted =
+      least-total D (b .n) (b .count) counts (b .m) R tables long stage
+      ∙ sum-cong (b .m) (λ j. b .count (wires tables j)) (λ j. b .count (wires (run b budget R .tables) j)) (λ j l. ap (b .count) (same j l))
+      ∙ sym (promise .so-far .counted)
+
+  -- what is below the count of all tables is below the cells of all stages
+  module _ (k : ℕ) (below : (X : Tables) → Stage (b .n) (b .m) X → Compatible (b .n) (b .m) R X → k ≤ total b X) (xs : List (D .Shape)) (f : Family D (b .n) (b .m) R xs) where
+    below-drawn : k ≤ drawnCells D xs
+    unfolding total totalOf
+    below-drawn =
+        le-trans
+        (below (drawnTables D (b .n) (b .count) counts (b .m) R xs f) (family-stage D (b .n) (b .count) counts (b .m) R xs f)
+        (family-compatible D (b .n) (b .count) counts (b .m) R xs f))
+        (family-total D (b .n) (b .count) counts (b .m) R xs f)
+
+  pub smallest : Smallest D b budget R (run b budget R) ownStage
+  smallest =
       record {
-        ordered = λ j l. reduced-ordered n n 0 (X j) (zero-add n) (st j l);
-        allowed = λ p h.
-            rw (sum-cong m (λ j. follow n p (reduced n 0 (X j)) * 2 ^ j) (λ j. bit (X j) p * 2 ^ j)
-            (λ j l. ap (λ y. y * 2 ^ j) (reduced-follow n n 0 (X j) p (zero-add n) (st j l) ∙ ap (bit (X j)) (mod-eq-of-lt h))))
-            (c p h);
+        family = least-family D (b .n) (b .count) counts (b .m) R tables long stage answer;
+        counted = counted;
+        best = λ h. below-drawn (run b budget R .cells) (promise .best h);
+        above = below-drawn (floor b R) (promise .above);
+        within = promise .so-far .within;
+        spent = promise .so-far .spent;
       }
-
-  own-size : size m own ≡ total (tree n m) X
-  unfolding own size total tree
-  own-size = sum-cong m (λ j. selectors (reduced n 0 (X j))) (λ j. cells n (X j)) (λ j _. reduced-selectors n 0 (X j))
-
-pub smallest : (n m budget : ℕ) (R : Rel) → m ≤ maxWires → WellDefined n m R → Smallest n m budget R (run (tree n m) budget R)
-unfolding tree own
-smallest n m budget R few ne =
-    let r = run-promise (tree n m) (fair n m few) budget R ne in
-    let X = wires (run (tree n m) budget R .tables) in
-    record {
-      own = own-family n m R X (r .so-far .stage) (r .so-far .answer);
-      counted = own-size n m R X (r .so-far .stage) ∙ sym (r .so-far .counted);
-      best = λ h x v. le-trans (r .best h (tables n m R x v) (family-stage n m R x v) (family-compatible n m R x v)) (family-total n m R x v);
-      above = λ x v. le-trans (r .above (tables n m R x v) (family-stage n m R x v) (family-compatible n m R x v)) (family-total n m R x v);
-      within = r .so-far .within;
-      spent = r .so-far .spent;
-    }

@@ -2,4 +2,5 @@
 pub mod Search
 pub mod Promise
 pub mod TreeBoard
+pub mod Smallest
 pub mod Reply

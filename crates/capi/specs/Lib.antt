@@ -1,2 +1,3 @@
 -- What the exported calls tell: a refusal's number, and six numbers.
-pub mod Told
+pub mod Numbers
+pub mod Inner

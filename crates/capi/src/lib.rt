@@ -3,27 +3,32 @@ use quote::audit;
 use quote::quote;
 use relation::Relation;
 use search::search;
+use sheet::Sheet;
 use told::audit_told;
 use told::audited_cells;
 use told::mark_told;
 ghost use mathlib.Core.Path.{_≡_};
 ghost use lib.ListN.{length};
+ghost use Rattle.stage.specs.Trees.{treeDrawing};
 ghost use Rattle.quote.specs.Quote.{quotedOf, bufferQuoted};
 ghost use Rattle.quote.specs.Promised.{Promised};
 ghost use Rattle.quote.specs.Audit.{auditedOf};
-ghost use Rattle.capi.specs.Told.{quoteNumbers, searchHanded, searchNumbers, tablesAfter, auditNumbers};
+ghost use Rattle.capi.specs.Numbers.{quoteNumbers, searchHanded, searchNumbers, tablesAfter, auditNumbers};
 
 mod told; // a case of an answer as numbers
+
+// The numbers of a reply: outcome, cells, floor, visits, length of the stage, place of the refusal; 0 where a call has no such number.
+pub const REPLY_NUMBERS: usize = 6;
 
 // The search of a relation: `sets` has the sets of values of its patterns. The refusal's number, or 0; a refusal leaves `tables` as they were.
 #[no_mangle]
 pub extern "C" fn dagmetzi_search(
     n: u8,
     m: u8,
-    sets: &[u16; 16],
+    sets: &[u16; Sheet::MAX_PATTERNS],
     budget: u32,
-    tables: &mut [u16; 4],
-    reply: &mut [u64; 6],
+    tables: &mut [u16; Sheet::WIRES],
+    reply: &mut [u64; REPLY_NUMBERS],
 ) -> u32
     ensures refusal { λ r. ⌜ r ≡ searchHanded n m (now (sets .entry)) budget .mark .number ⌝ }
     ensures numbers { λ _. ⌜ now (reply .exit) ≡ searchNumbers (searchHanded n m (now (sets .entry)) budget) ⌝ }
@@ -54,12 +59,12 @@ pub extern "C" fn dagmetzi_quote(
     sheet: &[u8],
     budget: u32,
     buffer: &mut [u8],
-    reply: &mut [u64; 6],
+    reply: &mut [u64; REPLY_NUMBERS],
 ) -> u32
     ensures refusal { λ r. ⌜ r ≡ quotedOf (now (sheet .entry)) budget (length (now (buffer .entry))) .mark .number ⌝ }
     ensures numbers { λ _. ⌜ now (reply .exit) ≡ quoteNumbers (quotedOf (now (sheet .entry)) budget (length (now (buffer .entry)))) ⌝ }
     ensures bytes { λ _. ⌜ now (buffer .exit) ≡ bufferQuoted (now (sheet .entry)) budget (now (buffer .entry)) ⌝ }
-    ensures promise { λ _. ⌜ Promised (now (sheet .entry)) budget (quotedOf (now (sheet .entry)) budget (length (now (buffer .entry)))) (now (buffer .exit)) ⌝ }
+    ensures promise { λ _. ⌜ Promised treeDrawing (now (sheet .entry)) budget (quotedOf (now (sheet .entry)) budget (length (now (buffer .entry)))) (now (buffer .exit)) ⌝ }
 {
     let quoted = quote(sheet, budget, buffer);
     let mark = quoted.mark;
@@ -77,7 +82,11 @@ pub extern "C" fn dagmetzi_quote(
 
 // The audit of a stage sheet against a unit sheet. The refusal's number, or 0.
 #[no_mangle]
-pub extern "C" fn dagmetzi_audit(sheet: &[u8], stage: &[u8], reply: &mut [u64; 6]) -> u32
+pub extern "C" fn dagmetzi_audit(
+    sheet: &[u8],
+    stage: &[u8],
+    reply: &mut [u64; REPLY_NUMBERS],
+) -> u32
     ensures refusal { λ r. ⌜ r ≡ auditedOf (now (sheet .entry)) (now (stage .entry)) .number ⌝ }
     ensures numbers { λ _. ⌜ now (reply .exit) ≡ auditNumbers (auditedOf (now (sheet .entry)) (now (stage .entry))) ⌝ }
 {

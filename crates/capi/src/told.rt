@@ -6,7 +6,7 @@ ghost use mathlib.Core.Path.{_≡_};
 ghost use Rattle.base.specs.Cases.{accepting, refusing};
 ghost use Rattle.search.specs.Cases.{markCase};
 ghost use Rattle.quote.specs.Cases.{auditedCase};
-ghost use Rattle.capi.specs.Told.{told};
+ghost use Rattle.capi.specs.Inner.Told.{told};
 
 // Outcomes of a search and of a quote, of an audit, and of a refusal.
 const BEST: u64 = 0;

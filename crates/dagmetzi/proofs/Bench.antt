@@ -19,30 +19,56 @@ use Rattle.branch_bound.specs.Search.{replyTables, total, pick, picks, floor, l
 use Rattle.branch_bound.specs.TreeBoard.{tree}
 use Rattle.reader.specs.Reading.{readingOf}
 use Rattle.reader.proofs.Rows.{sheetA}
-use Rattle.stage.specs.Bytes.{treeBytes, wireBytes, stageBytes}
+use Rattle.stage.specs.Bytes.{treeBytes, wiresBytes, stageBytes}
 use Rattle.stage.specs.Written.{stageTrees, stageOf, firstOut, writtenOf, bufferAfter}
 use Rattle.unit.specs.Formed.{formedOf}
 use Rattle.unit.specs.Present.{presentTable, presentTables, presentCells}
 use Rattle.unit.proofs.Rows as UnitRows
 use Rattle.unit.proofs.Rows.{limitedA}
 use Rattle.quote.specs.Quote.{refusedQuote, withStage, searched, quotedOf, bufferSearched, bufferQuoted}
-use Rattle.report.specs.Text.{digits, decimal, hexDigit, hexPair, furtherPairs, hexPairs}
-use Rattle.report.specs.Lines.{newline, named, countsOf, stageLine, resultLines, refusalLine, linesOf}
-use Rattle.dagmetzi.specs.Printed.{budget, printedOf}
+use Rattle.report.specs.Lines.{newline}
+use Rattle.report.proofs.Rows.{printing}
+use Rattle.printed.specs.Printed.{budget, printedOf}
 
--- all that a search, a stage, a quote and the printed lines compute by
+-- all that a search computes by: tables and picks, relations, the search itself,
+unfoldable tables-opened : ℕ
+unfolding bit all any sum ofBits tabulate low high cells reduced suits nearer least orZero leastOf
+tables-opened = 0
+
+unfoldable relations-opened : ℕ
+unfolding value ofSets keep agree occurs fits free freeWire compatible conflict emptyPattern isOne openPairs lowest relationOf widePattern checkOf
+relations-opened = 0
+
+unfoldable search-opened : ℕ
+unfolding replyTables total pick picks floor left quick start split expand charge treat visit searchPart run tree markOf answerOf refusedWith searchTested searchOf
+search-opened = 0
+
+-- a stage, a quote,
+unfoldable stage-opened : ℕ
+unfolding treeBytes wiresBytes stageBytes stageTrees stageOf firstOut writtenOf bufferAfter presentTable presentTables presentCells
+stage-opened = 0
+
+unfoldable quote-opened : ℕ
+unfolding stage-opened withStage searched quotedOf bufferSearched bufferQuoted
+quote-opened = 0
+
+-- and the printed lines
 unfoldable opened : ℕ
-unfolding UnitRows.opened bit all any sum ofBits tabulate low high cells reduced suits nearer least orZero leastOf value ofSets keep agree occurs fits free freeWire compatible conflict emptyPattern isOne openPairs lowest relationOf widePattern checkOf replyTables total pick picks floor left quick start split expand charge treat visit searchPart run tree markOf answerOf refusedWith searchTested searchOf treeBytes wireBytes stageBytes stageTrees stageOf firstOut writtenOf bufferAfter presentTable presentTables presentCells withStage searched quotedOf bufferSearched bufferQuoted digits decimal hexDigit hexPair furtherPairs hexPairs named countsOf stageLine resultLines refusalLine linesOf printedOf
+unfolding UnitRows.opened tables-opened relations-opened search-opened quote-opened printing printedOf
 opened = 0
 
 -- sheet A as it is printed. Its first line is "cells 2 floor 2 visits 0 best";
 -- its second, "20 02 02 21 00 22 01 24 23 21 01 22 02 23 24 2F"
 abbrev linesA : List ℕ
 linesA =
-    0x63 ∷ 0x65 ∷ 0x6C ∷ 0x6C ∷ 0x73 ∷ 0x20 ∷ 0x32 ∷ 0x20 ∷ 0x66 ∷ 0x6C ∷ 0x6F ∷ 0x6F ∷ 0x72 ∷ 0x20 ∷ 0x32 ∷ 0x20 ∷ 0x76 ∷ 0x69 ∷ 0x73 ∷ 0x69 ∷ 0x74 ∷ 0x73 ∷ 0x20 ∷ 0x30
-    ∷ 0x20 ∷ 0x62 ∷ 0x65 ∷ 0x73 ∷ 0x74 ∷ newline
-    ∷ 0x32 ∷ 0x30 ∷ 0x20 ∷ 0x30 ∷ 0x32 ∷ 0x20 ∷ 0x30 ∷ 0x32 ∷ 0x20 ∷ 0x32 ∷ 0x31 ∷ 0x20 ∷ 0x30 ∷ 0x30 ∷ 0x20 ∷ 0x32 ∷ 0x32 ∷ 0x20 ∷ 0x30 ∷ 0x31 ∷ 0x20 ∷ 0x32 ∷ 0x34 ∷ 0x20
-    ∷ 0x32 ∷ 0x33 ∷ 0x20 ∷ 0x32 ∷ 0x31 ∷ 0x20 ∷ 0x30 ∷ 0x31 ∷ 0x20 ∷ 0x32 ∷ 0x32 ∷ 0x20 ∷ 0x30 ∷ 0x32 ∷ 0x20 ∷ 0x32 ∷ 0x33 ∷ 0x20 ∷ 0x32 ∷ 0x34 ∷ 0x20 ∷ 0x32 ∷ 0x46 ∷ newline ∷ []
+    0x63 ∷ 0x65 ∷ 0x6C ∷ 0x6C ∷ 0x73 ∷ 0x20 ∷ 0x32 ∷ 0x20
+    ∷ 0x66 ∷ 0x6C ∷ 0x6F ∷ 0x6F ∷ 0x72 ∷ 0x20 ∷ 0x32 ∷ 0x20
+    ∷ 0x76 ∷ 0x69 ∷ 0x73 ∷ 0x69 ∷ 0x74 ∷ 0x73 ∷ 0x20 ∷ 0x30 ∷ 0x20
+    ∷ 0x62 ∷ 0x65 ∷ 0x73 ∷ 0x74 ∷ newline
+    ∷ 0x32 ∷ 0x30 ∷ 0x20 ∷ 0x30 ∷ 0x32 ∷ 0x20 ∷ 0x30 ∷ 0x32 ∷ 0x20
+    ∷ 0x32 ∷ 0x31 ∷ 0x20 ∷ 0x30 ∷ 0x30 ∷ 0x20 ∷ 0x32 ∷ 0x32 ∷ 0x20 ∷ 0x30 ∷ 0x31 ∷ 0x20 ∷ 0x32 ∷ 0x34 ∷ 0x20 ∷ 0x32 ∷ 0x33 ∷ 0x20
+    ∷ 0x32 ∷ 0x31 ∷ 0x20 ∷ 0x30 ∷ 0x31 ∷ 0x20 ∷ 0x32 ∷ 0x32 ∷ 0x20 ∷ 0x30 ∷ 0x32 ∷ 0x20 ∷ 0x32 ∷ 0x33 ∷ 0x20 ∷ 0x32 ∷ 0x34 ∷ 0x20
+    ∷ 0x32 ∷ 0x46 ∷ newline ∷ []
 
 -- B of source document 001, section 5, and C: bit v of a set is value v
 abbrev relationB : Relation

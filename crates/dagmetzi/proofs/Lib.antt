@@ -1,3 +1,2 @@
-pub mod Printing
 pub mod Counting
 pub mod Bench

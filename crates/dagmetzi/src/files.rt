@@ -1,6 +1,6 @@
 // Reading: an argument, a descriptor, or a file by its name, put at the start of a lent buffer.
 use crate::messages;
-ghost use Rattle.io.specs.Counts.{Counts};
+ghost use Rattle.table.specs.Inner.Drawing.{Counts};
 
 // How many bytes were read; and whether that is all there was, or as much as the buffer takes. Where it is not, the reason has been said on standard error.
 pub struct Input {
@@ -8,8 +8,8 @@ pub struct Input {
     pub is_read: bool,
 }
 
-// Reads until the buffer is full or the input ends. Unlike `io::read_full` it tells a read that fails from the end: bytes that are cut short by a fault must not
-// pass for a sheet that ends there. Each turn reads a byte at least, so that there are no more turns than the buffer has bytes.
+// Reads until the buffer is full or the input ends. Unlike `io::read_full` it tells a read that fails from the end: bytes that are cut short by a fault
+// must not pass for a sheet that ends there. Each turn reads a byte at least, so that there are no more turns than the buffer has bytes.
 fn read_all(fd: i32, buffer: &mut [u8]) -> Input
     ensures { λ r. ⌜ Counts (r .length) (now (buffer .exit)) ⌝ }
 {

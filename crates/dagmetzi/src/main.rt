@@ -6,7 +6,6 @@ use files::read_argument;
 
 mod files; // reading arguments and files
 mod messages; // what is said on standard error
-mod replies; // what is printed
 mod words; // what each word does
 
 // Does what a word says, with so many arguments after it.

@@ -1,9 +1,9 @@
-// What the program says on standard error: one line each, which begins with its name. The calls hand nothing back and change nothing that is lent; their text is held
-// to what is expected by the tests of the program as a process.
+// What the program says on standard error: one line each, which begins with its name. The calls hand nothing back and change nothing that is lent; their
+// text is held to what is expected by the tests of the program as a process.
 use libc::STDERR_FILENO;
 ghost use Prim.Native.Nat.{_≤_};
 ghost use lib.ListN.{length};
-ghost use Rattle.io.specs.Counts.{Counts};
+ghost use Rattle.table.specs.Inner.Drawing.{Counts};
 
 // Room for a name as long as the system takes, and the words around it.
 const LONGEST_LINE: usize = 4200;
@@ -19,7 +19,8 @@ fn visible(b: u8) -> u8 {
     b
 }
 
-// Adds a text to a line at a place, and hands back the place after it. What finds no room is dropped. `begin` and `advise` call it with places that it handed back.
+// Adds a text to a line at a place, and hands back the place after it. What finds no room is dropped.
+// `begin` and `advise` call it with places that it handed back.
 fn add(line: &mut [u8], at: usize, text: &[u8]) -> usize
     requires { ⌜ at ≤ length (now line) ⌝ }
     ensures { λ r. ⌜ Counts r (now (line .exit)) ⌝ }

@@ -1,20 +1,22 @@
 // The words of the program: a function for each, which takes the number of arguments after the word, reads the files that they name, and prints the reply.
-// A word hands nothing back and changes nothing that is lent to it, so that it has no equation of its own: those of what it prints stand in `replies`.
+// A word hands nothing back and changes nothing that is lent to it, so that it has no equation of its own: those of what it prints
+// stand in the crate `printed`.
 use crate::files::read_named;
 use crate::files::read_open;
 use crate::messages;
-use crate::replies;
-use crate::replies::LONGEST_SHEET;
 use libc::STDIN_FILENO;
 use libc::STDOUT_FILENO;
+use printed::LONGEST_SHEET;
+use printed::audit_reply;
+use printed::quote_reply;
 use report::LONGEST_REPORT;
 use stage::LONGEST_STAGE;
 
-// One byte more than the longest sheet is enough to tell one that is too long (proofs/Printing, `quote-front`, `audit-front`).
+// One byte more than the longest sheet is enough to tell one that is too long (printed/proofs/Printing, `quote-front`, `audit-front`).
 const SHEET_ROOM: usize = LONGEST_SHEET + 1;
 
 // Of a stage's file the front is read. Reading a stage looks at no byte past the one after the longest stage, so that the bytes left out change nothing of the
-// reply (proofs/Printing, `stage-front`).
+// reply (printed/proofs/Printing, `stage-front`).
 const STAGE_ROOM: usize = LONGEST_STAGE + 1;
 
 // Prints a reply.
@@ -33,7 +35,20 @@ pub fn quote() {
     }
     let length = input.length;
     let mut out = [0u8; LONGEST_REPORT];
-    let printed = replies::quote_reply(&sheet[..length], &mut out);
+    let printed = quote_reply(&sheet[..length], &mut out);
+    print(&out[..printed]);
+}
+
+// Reads the stage that the third argument names, and prints how it fares against a sheet that is read already.
+fn judge(sheet: &[u8]) {
+    let mut stage = [0u8; STAGE_ROOM];
+    let input = read_named(3, &mut stage);
+    if !input.is_read {
+        return;
+    }
+    let length = input.length;
+    let mut out = [0u8; LONGEST_REPORT];
+    let printed = audit_reply(sheet, &stage[..length], &mut out);
     print(&out[..printed]);
 }
 
@@ -48,18 +63,9 @@ pub fn audit(count: usize) {
         return;
     }
     let mut sheet = [0u8; SHEET_ROOM];
-    let first = read_named(2, &mut sheet);
-    if !first.is_read {
-        return;
+    let input = read_named(2, &mut sheet);
+    if input.is_read {
+        let length = input.length;
+        judge(&sheet[..length]);
     }
-    let mut stage = [0u8; STAGE_ROOM];
-    let second = read_named(3, &mut stage);
-    if !second.is_read {
-        return;
-    }
-    let sheet_length = first.length;
-    let stage_length = second.length;
-    let mut out = [0u8; LONGEST_REPORT];
-    let printed = replies::audit_reply(&sheet[..sheet_length], &stage[..stage_length], &mut out);
-    print(&out[..printed]);
 }

@@ -12,8 +12,8 @@ use Rattle.base.specs.declared.Refusal.{Refusal}
 use Rattle.base.specs.Cases.{Case, accepting, refusing, refusedOutcome, acceptedCase}
 use Rattle.base.specs.Refusals.{refusalAt, empty}
 use Rattle.base.proofs.Tests.{decide, test-yes, test-no, and-left, and-right}
-use Rattle.table.specs.Bits.{ofBits}
-use Rattle.table.specs.Tree.{Tree, follow}
+use Rattle.table.specs.Cells.{cells}
+use Rattle.table.specs.Tree.{Tree}
 use Rattle.table.proofs.Bits.{all-at, all-intro}
 use Rattle.relation.specs.Tests.{emptyPattern}
 use Rattle.relation.specs.Families.{Family}
@@ -22,19 +22,20 @@ use Rattle.sheet.specs.declared.Command.{Command}
 use Rattle.sheet.specs.Commands.{inputsOf, wiresOf}
 use Rattle.sheet.specs.Judged.{Reading, holds, refused as unread}
 use Rattle.reader.specs.Reading.{readingOf}
-use Rattle.stage.specs.Bytes.{size}
-use Rattle.stage.specs.Read.{StageSheet, got, refused, readStage}
+use Rattle.stage.specs.Trees.{treeDrawing, size}
+use Rattle.table.specs.Drawing.{StageSheet, got, noStage, drawnValue}
+use Rattle.stage.specs.Read.{readStage}
 use Rattle.stage.proofs.Sheets.{accepted}
+use Rattle.stage.proofs.TreeCounts.{tree-counts}
 use Rattle.unit.specs.Relation.{unitRelation}
 use Rattle.unit.specs.Formed.{relationIn, turnedAway, formedOf}
-use Rattle.unit.specs.Rival.{valueOn}
+use Rattle.unit.specs.Rival.{Rival}
 use Rattle.unit.proofs.Forming.{formed-refused, formed-empty, formed-whole}
-use Rattle.unit.proofs.Rivals.{byWire, commands-only, rival-told, no-rival}
+use Rattle.unit.proofs.Rivals.{commands-only, rival-told, no-rival}
 use Rattle.quote.specs.Cases.{fitsOutcome, differsOutcome}
 use Rattle.quote.specs.Audit.{keepsTo, sizesApart, auditedStage, auditedFrom, auditedOf}
 use Rattle.quote.specs.Promised.{Accepted as Quotes, RivalStage}
 use Rattle.quote.specs.Quote.{quotedOf, bufferQuoted}
-use Rattle.quote.proofs.Auditing.{ordered-at}
 use Rattle.quote.proofs.Demand.{promised}
 
 -- another outcome than yes
@@ -53,31 +54,28 @@ module _ (sheet stage : List ℕ) (c : ℕ) where
     unfolding auditedOf auditedFrom
     audited = rw w
 
-    -- the stage keeps to the relation exactly where its trees are a family compatible with it
+    -- the stage keeps to the relation exactly where its trees are compatible with it
     kept-family : (m : ℕ) (trees : List Tree) → readStage stage ≡ got (inputsOf cs) m trees → m ≡ wiresOf cs → T (keepsTo (relationIn cs) trees)
-        → (length trees ≡ wiresOf cs) × Family (inputsOf cs) (wiresOf cs) (relationOf (relationIn cs)) (byWire trees)
-    unfolding keepsTo relationIn valueOn
+        → Family treeDrawing (inputsOf cs) (wiresOf cs) (relationOf (relationIn cs)) trees
+    unfolding keepsTo relationIn
     kept-family m trees d em t =
         let st = accepted stage (inputsOf cs) m trees d in
-        let el : length trees ≡ wiresOf cs = st .one-each ∙ em in (
-          el,
-          record {
-            ordered = λ j l. ordered-at (inputsOf cs) trees (st .ordered) j (rw el l);
-            allowed = λ p l.
-                subst (λ k. T (relationOf (relationIn cs) p (ofBits k (λ j. follow (inputsOf cs) p (byWire trees j))))) el
-                (all-at (2 ^ inputsOf cs) (λ p. relationOf (relationIn cs) p (valueOn (inputsOf cs) trees p)) t p l);
-          },
-        )
+        record {
+          drawn = record { one-each = st .one-each ∙ em; formed = st .ordered };
+          allowed = all-at (2 ^ inputsOf cs) (λ p. relationOf (relationIn cs) p (drawnValue treeDrawing (inputsOf cs) trees p)) t;
+        }
 
-    family-kept : (trees : List Tree) → length trees ≡ wiresOf cs → Family (inputsOf cs) (wiresOf cs) (relationOf (relationIn cs)) (byWire trees) → T (keepsTo (relationIn cs) trees)
-    unfolding keepsTo relationIn valueOn
-    family-kept trees el f =
-        all-intro (2 ^ inputsOf cs) (λ p. relationOf (relationIn cs) p (valueOn (inputsOf cs) trees p))
-        (λ p l. subst (λ k. T (relationOf (relationIn cs) p (ofBits k (λ j. follow (inputsOf cs) p (byWire trees j))))) (sym el) (f .allowed p l))
+    family-kept : (trees : List Tree) → Family treeDrawing (inputsOf cs) (wiresOf cs) (relationOf (relationIn cs)) trees → T (keepsTo (relationIn cs) trees)
+    unfolding keepsTo relationIn
+    family-kept trees f = all-intro (2 ^ inputsOf cs) (λ p. relationOf (relationIn cs) p (drawnValue treeDrawing (inputsOf cs) trees p)) (f .allowed)
 
-    yes-rival : (s : StageSheet) → readStage stage ≡ s → auditedStage (relationIn cs) s ≡ accepting fitsOutcome c → RivalStage sheet stage c
+    -- rivals by the relation
+    told : (trees : List Tree) → Rival treeDrawing sheet trees ↔ Family treeDrawing (inputsOf cs) (wiresOf cs) (relationOf (relationIn cs)) trees
+    told = rival-told treeDrawing sheet cs e (cells (inputsOf cs)) (tree-counts (inputsOf cs))
+
+    yes-rival : (s : StageSheet Tree) → readStage stage ≡ s → auditedStage (relationIn cs) s ≡ accepting fitsOutcome c → RivalStage treeDrawing sheet stage c
     unfolding auditedStage relationIn
-    yes-rival (refused f) d h = never h (λ o. omega arith)
+    yes-rival (noStage f) d h = never h (λ o. omega arith)
     yes-rival (got n m trees) d h =
         ⊎-elim
         (λ t.
@@ -87,12 +85,12 @@ module _ (sheet stage : List ℕ) (c : ℕ) where
         ⊎-elim
         (λ k.
         let f = kept-family m trees d′ em k in
-        let r = rival-told sheet cs e trees .1 f in
+        let r = told trees .1 f in
         let ec = commands-only sheet (r .commands) cs (r .held) e in
         let counted : accepting fitsOutcome (size trees) ≡ accepting fitsOutcome c =
         rw (test-yes (eqb n (inputsOf cs) && eqb m (wiresOf cs)) t, test-yes (keepsTo (relationIn cs) trees) k) at h in
         record {
-          trees = trees;
+          stage = trees;
           rival = r;
           taken = d ∙ ap₂ (λ a b. got a b trees) (en ∙ ap inputsOf (sym ec)) (em ∙ ap wiresOf (sym ec));
           counted = ap (λ (x : Case). x .value) counted;
@@ -103,27 +101,27 @@ module _ (sheet stage : List ℕ) (c : ℕ) where
         (λ t. let z : sizesApart ≡ accepting fitsOutcome c = rw (test-no (eqb n (inputsOf cs) && eqb m (wiresOf cs)) t) at h in never z (λ o. omega arith))
         (decide (eqb n (inputsOf cs) && eqb m (wiresOf cs)))
 
-    rival-yes : RivalStage sheet stage c → auditedStage (relationIn cs) (readStage stage) ≡ accepting fitsOutcome c
+    rival-yes : RivalStage treeDrawing sheet stage c → auditedStage (relationIn cs) (readStage stage) ≡ accepting fitsOutcome c
     unfolding auditedStage relationIn
     rival-yes y =
         let ec = commands-only sheet (y .rival .commands) cs (y .rival .held) e in
-        let f = rival-told sheet cs e (y .trees) .0 (y .rival) in
-        let d : readStage stage ≡ got (inputsOf cs) (wiresOf cs) (y .trees) = y .taken ∙ ap₂ (λ a b. got a b (y .trees)) (ap inputsOf ec) (ap wiresOf ec) in
+        let f = told (y .stage) .0 (y .rival) in
+        let d : readStage stage ≡ got (inputsOf cs) (wiresOf cs) (y .stage) = y .taken ∙ ap₂ (λ a b. got a b (y .stage)) (ap inputsOf ec) (ap wiresOf ec) in
         rw (
           d,
           eq-eqb (inputsOf cs) (inputsOf cs) refl,
           eq-eqb (wiresOf cs) (wiresOf cs) refl,
-          test-yes (keepsTo (relationIn cs) (y .trees)) (family-kept (y .trees) (f .0) (f .1)),
+          test-yes (keepsTo (relationIn cs) (y .stage)) (family-kept (y .stage) f),
           y .counted,
         )
 
-  pub audit-yes : (auditedOf sheet stage ≡ accepting fitsOutcome c) ↔ RivalStage sheet stage c
+  pub audit-yes : (auditedOf sheet stage ≡ accepting fitsOutcome c) ↔ RivalStage treeDrawing sheet stage c
   audit-yes = go (readingOf sheet) refl
     where
-      unread-not : (f : Refusal) → readingOf sheet ≡ unread f → RivalStage sheet stage c → ⊥
+      unread-not : (f : Refusal) → readingOf sheet ≡ unread f → RivalStage treeDrawing sheet stage c → ⊥
       unread-not f e y = let d : holds (y .rival .commands) ≡ unread f = sym (y .rival .held) ∙ e in let z : _≡_ {A = ℕ} 0 1 = cc in omega arith
 
-      go : (x : Reading) → readingOf sheet ≡ x → (auditedOf sheet stage ≡ accepting fitsOutcome c) ↔ RivalStage sheet stage c
+      go : (x : Reading) → readingOf sheet ≡ x → (auditedOf sheet stage ≡ accepting fitsOutcome c) ↔ RivalStage treeDrawing sheet stage c
       go (unread f) e = (λ h. absurd (turned f (formed-refused sheet f e) h), λ y. absurd (unread-not f e y))
       go (holds cs) e =
           let q = emptyPattern (inputsOf cs) (wiresOf cs) (unitRelation cs) in
@@ -131,7 +129,7 @@ module _ (sheet stage : List ℕ) (c : ℕ) where
           (λ t.
           let l = ltb→lt q (2 ^ inputsOf cs) t in (
             λ h. absurd (turned (refusalAt empty q) (formed-empty sheet cs e l) h),
-            λ y. absurd (no-rival sheet cs e .0 l (y .trees) (y .rival)),
+            λ y. absurd (no-rival treeDrawing sheet cs e (cells (inputsOf cs)) (tree-counts (inputsOf cs)) .0 l (y .stage) (y .rival)),
           ))
           (λ t.
           let w = formed-whole sheet cs e (nltb→le q (2 ^ inputsOf cs) t) in (

@@ -10,6 +10,7 @@ use Rattle.base.specs.declared.Refusal.{Refusal}
 use Rattle.base.specs.Refusals.{refusalAt, empty}
 use Rattle.base.proofs.Tests.{decide}
 use Rattle.base.proofs.Tabulate.{tabulate-length}
+use Rattle.table.specs.Cells.{cells}
 use Rattle.relation.specs.Tests.{emptyPattern}
 use Rattle.sheet.specs.declared.Command.{Command}
 use Rattle.sheet.specs.Commands.{inputsOf, wiresOf}
@@ -18,6 +19,8 @@ use Rattle.sheet.specs.Judged.{Reading, holds, refused}
 use Rattle.reader.specs.Reading.{readingOf}
 use Rattle.reader.proofs.Numbers.{reading-early}
 use Rattle.reader.proofs.Sound.{sound}
+use Rattle.stage.specs.Trees.{treeDrawing}
+use Rattle.stage.proofs.TreeCounts.{tree-counts}
 use Rattle.unit.specs.Relation.{unitRelation}
 use Rattle.unit.specs.Formed.{relationIn, turnedAway, formedOf}
 use Rattle.unit.proofs.Forming.{formed-refused, formed-empty, formed-whole}
@@ -25,19 +28,19 @@ use Rattle.unit.proofs.Told.{passes-whole}
 use Rattle.unit.proofs.Rivals.{rival-told, no-rival}
 use Rattle.quote.specs.Quote.{quotedOf, bufferQuoted}
 use Rattle.quote.specs.Promised.{NoRival, Promised}
-use Rattle.quote.proofs.Promising.{refused-promise, searched-promise}
+use Rattle.quote.proofs.Searched.{refused-promise, searched-promise}
 
 module _ (sheet : List ℕ) (budget : ℕ) (buffer : List ℕ) where
   abbrev Kept : Type 0
-  Kept = Promised sheet budget (quotedOf sheet budget (length buffer)) (bufferQuoted sheet budget buffer)
+  Kept = Promised treeDrawing sheet budget (quotedOf sheet budget (length buffer)) (bufferQuoted sheet budget buffer)
 
   -- a sheet that is turned away
-  turned : (f : Refusal) → formedOf sheet ≡ turnedAway f → ((f .number ≡ empty) ↔ NoRival sheet) → Kept
+  turned : (f : Refusal) → formedOf sheet ≡ turnedAway f → ((f .number ≡ empty) ↔ NoRival treeDrawing sheet) → Kept
   unfolding quotedOf bufferQuoted
   turned f e ten = rw e (refused-promise sheet budget buffer f ten)
 
   -- reading gives a refusal, which is not 10
-  not-read : (f : Refusal) → readingOf sheet ≡ refused f → ((f .number ≡ empty) ↔ NoRival sheet)
+  not-read : (f : Refusal) → readingOf sheet ≡ refused f → ((f .number ≡ empty) ↔ NoRival treeDrawing sheet)
   not-read f e = (
     λ w. absurd (omega (arith, reading-early sheet f e)),
     λ h. absurd (apart (h .commands) (sym (h .held) ∙ e)),
@@ -51,14 +54,15 @@ module _ (sheet : List ℕ) (budget : ℕ) (buffer : List ℕ) where
     lowest-empty = emptyPattern (inputsOf cs) (wiresOf cs) (unitRelation cs)
 
     -- some pattern is empty: 10
-    ten : lowest-empty < 2 ^ inputsOf cs → (empty ≡ empty) ↔ NoRival sheet
-    ten l = (λ _. record { commands = cs; held = e; none = no-rival sheet cs e .0 l }, λ _. refl)
+    ten : lowest-empty < 2 ^ inputsOf cs → (empty ≡ empty) ↔ NoRival treeDrawing sheet
+    ten l = (λ _. record { commands = cs; held = e; none = no-rival treeDrawing sheet cs e (cells (inputsOf cs)) (tree-counts (inputsOf cs)) .0 l }, λ _. refl)
 
     -- none is: what the search promises, clause by clause
     whole : 2 ^ inputsOf cs ≤ lowest-empty → Kept
     unfolding quotedOf bufferQuoted relationIn
     whole l =
-        let p = searched-promise sheet cs e (relationIn cs) refl refl (tabulate-length maxPatterns _) (passes-whole cs (sound sheet cs e) l) (rival-told sheet cs e) budget buffer in
+        let p = searched-promise sheet cs e (relationIn cs) refl refl (tabulate-length maxPatterns _) (passes-whole cs (sound sheet cs e) l)
+        (rival-told treeDrawing sheet cs e (cells (inputsOf cs)) (tree-counts (inputsOf cs))) budget buffer in
         rw (formed-whole sheet cs e l)
         (record { best = p .best; stopped = p .stopped; own = p .own; within = p .within; spent = p .spent; refused = p .refused })
 
@@ -69,7 +73,7 @@ module _ (sheet : List ℕ) (budget : ℕ) (buffer : List ℕ) where
         (λ t. whole (nltb→le lowest-empty (2 ^ inputsOf cs) t))
         (decide (ltb lowest-empty (2 ^ inputsOf cs)))
 
-  pub promised : Promised sheet budget (quotedOf sheet budget (length buffer)) (bufferQuoted sheet budget buffer)
+  pub promised : Promised treeDrawing sheet budget (quotedOf sheet budget (length buffer)) (bufferQuoted sheet budget buffer)
   promised = go (readingOf sheet) refl
     where
       go : (x : Reading) → readingOf sheet ≡ x → Kept

@@ -1,5 +1,5 @@
 pub mod Own
-pub mod Promising
+pub mod Searched
 pub mod Demand
 pub mod Quoting
 pub mod Auditing

@@ -12,9 +12,10 @@ use Rattle.search.specs.declared.Mark.the-variants.{Refused}
 use Rattle.search.specs.Cases.{markCase, searchReply}
 use Rattle.branch_bound.specs.Reply.{searchOf}
 use Rattle.base.specs.declared.Verdict.the-variants.{Accepted, Refused as SheetRefused}
-use Rattle.stage.specs.declared.writer.Written.{Written}
-use Rattle.stage.specs.declared.writer.Written.the-variants.{Length, Refused as NotWritten}
-use Rattle.stage.specs.Cases.{writtenCase}
+use Rattle.stage_writer.specs.declared.Written.{Written}
+use Rattle.stage_writer.specs.declared.Written.the-variants.{Length, Refused as NotWritten}
+use Rattle.stage_writer.specs.Cases.{writtenCase}
+use Rattle.stage.specs.Trees.{treeDrawing}
 use Rattle.stage.specs.Written.{writtenOf, bufferAfter}
 use Rattle.unit.specs.declared.Formed.{Formed}
 use Rattle.unit.specs.Cases.{formedReply}
@@ -51,7 +52,7 @@ module _ (r : Relation) (budget : ℕ) (buffer : List ℕ) (a : Answer) (ea : se
 module _ (sheet : List ℕ) (budget : ℕ) (buffer : List ℕ) (f : Formed) (ef : formedReply f ≡ formedOf sheet) where
   -- the three clauses of the quote's contract
   abbrev pub Kept : QuoteReply → List ℕ → Type 0
-  Kept q b = (q ≡ quotedOf sheet budget (length buffer)) × ((b ≡ bufferQuoted sheet budget buffer) × Promised sheet budget q b)
+  Kept q b = (q ≡ quotedOf sheet budget (length buffer)) × ((b ≡ bufferQuoted sheet budget buffer) × Promised treeDrawing sheet budget q b)
 
   clauses : {q : QuoteReply} {b : List ℕ} → q ≡ quotedOf sheet budget (length buffer) → b ≡ bufferQuoted sheet budget buffer → Kept q b
   clauses eq eb = (eq, (eb, rw (eq, eb) (promised sheet budget buffer)))

@@ -9,23 +9,23 @@ use Rattle.table.specs.Bits.{all}
 use Rattle.table.specs.Tree.{Tree}
 use Rattle.relation.specs.declared.Relation.{Relation}
 use Rattle.relation.specs.Handed.{relationOf}
-use Rattle.stage.specs.Bytes.{size}
-use Rattle.stage.specs.Read.{StageSheet, got, refused, readStage}
+use Rattle.stage.specs.Trees.{treeDrawing, size}
+use Rattle.table.specs.Drawing.{StageSheet, got, noStage, drawnValue}
+use Rattle.stage.specs.Read.{readStage}
 use Rattle.unit.specs.Cases.{FormedReply}
 use Rattle.unit.specs.Formed.{formedOf}
-use Rattle.unit.specs.Rival.{valueOn}
 use Rattle.quote.specs.Cases.{fitsOutcome, differsOutcome}
 
 -- the value that the trees reach is allowed on every pattern
 unfoldable pub keepsTo : Relation → List Tree → Bool
-keepsTo r trees = all (2 ^ r .n) (λ p. relationOf r p (valueOn (r .n) trees p))
+keepsTo r trees = all (2 ^ r .n) (λ p. relationOf r p (drawnValue treeDrawing (r .n) trees p))
 
 -- 13, which counts as the stage's
 abbrev pub sizesApart : Case
 sizesApart = refusing secondRefusedOutcome (refusalAt sizesDiffer 0)
 
-unfoldable pub auditedStage : Relation → StageSheet → Case
-auditedStage r (refused f) = refusing secondRefusedOutcome f
+unfoldable pub auditedStage : Relation → StageSheet Tree → Case
+auditedStage r (noStage f) = refusing secondRefusedOutcome f
 auditedStage r (got n m trees) =
     cond (eqb n (r .n) && eqb m (r .m)) (cond (keepsTo r trees) (accepting fitsOutcome (size trees)) (accepting differsOutcome (size trees))) sizesApart
 

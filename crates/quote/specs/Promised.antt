@@ -1,19 +1,17 @@
 -- Demand 3 of document 01, "Quote, audit, program": what a quote promises about stages that nobody drew. It is told by the bytes of the sheet (`Rival`), the reply,
--- and the bytes written, which the stage reader takes; nothing here names the search.
+-- and the bytes written, which the stage reader takes; nothing here names the search. It is stated over what a drawing is (`Drawing`).
 use Prim.Native.Nat.{ℕ, _≤_}
 use mathlib.Core.Path.{_≡_}
 use mathlib.Core.Logic.{_⊎_, _↔_}
 use mathlib.Core.List.{List}
 use lib.ListN.{take}
 use Rattle.base.specs.Refusals.{empty}
-use Rattle.table.specs.Tree.{Tree}
+use Rattle.table.specs.Drawing.{Drawing, drawnCells, got}
 use Rattle.branch_bound.specs.Reply.{bestOutcome, stoppedOutcome}
 use Rattle.sheet.specs.declared.Command.{Command}
 use Rattle.sheet.specs.Commands.{inputsOf, wiresOf}
 use Rattle.sheet.specs.Judged.{holds}
 use Rattle.reader.specs.Reading.{readingOf}
-use Rattle.stage.specs.Bytes.{size}
-use Rattle.stage.specs.Read.{got, readStage}
 use Rattle.unit.specs.Rival.{Rival}
 use Rattle.quote.specs.Cases.{QuoteReply}
 
@@ -27,28 +25,28 @@ IsStopped r = r .mark .outcome ≡ stoppedOutcome
 abbrev pub Accepted : QuoteReply → Type 0
 Accepted r = IsBest r ⊎ IsStopped r
 
--- what the stage reader takes from these bytes, with the sheet's sizes, is a rival of so many cells
-pub record RivalStage (sheet stage : List ℕ) (cells : ℕ) : Type 0 where
-  pub trees : List Tree
-  pub rival : Rival sheet trees
-  pub taken : readStage stage ≡ got (inputsOf (rival .commands)) (wiresOf (rival .commands)) trees
-  pub counted : size trees ≡ cells
+-- what is read from these bytes, with the sheet's sizes, is a rival of so many cells
+pub record RivalStage (D : Drawing) (sheet bytes : List ℕ) (cells : ℕ) : Type 0 where
+  pub stage : List (D .Shape)
+  pub rival : Rival D sheet stage
+  pub taken : D .readBytes bytes ≡ got (inputsOf (rival .commands)) (wiresOf (rival .commands)) stage
+  pub counted : drawnCells D stage ≡ cells
 
 -- the sheet is read with no refusal, and nobody has a stage for it
-pub record NoRival (sheet : List ℕ) : Type 0 where
+pub record NoRival (D : Drawing) (sheet : List ℕ) : Type 0 where
   pub commands : List Command
   pub held : readingOf sheet ≡ holds commands
-  pub none : (trees : List Tree) → Rival sheet trees → ⊥
+  pub none : (stage : List (D .Shape)) → Rival D sheet stage → ⊥
 
-pub record Promised (sheet : List ℕ) (budget : ℕ) (r : QuoteReply) (buffer : List ℕ) : Type 0 where
+pub record Promised (D : Drawing) (sheet : List ℕ) (budget : ℕ) (r : QuoteReply) (buffer : List ℕ) : Type 0 where
   -- no rival has fewer cells than a quote marked best
-  pub best : IsBest r → (trees : List Tree) → Rival sheet trees → r .cells ≤ size trees
+  pub best : IsBest r → (stage : List (D .Shape)) → Rival D sheet stage → r .cells ≤ drawnCells D stage
   -- no rival has fewer cells than the floor of a quote marked stopped
-  pub stopped : IsStopped r → (trees : List Tree) → Rival sheet trees → r .floor ≤ size trees
+  pub stopped : IsStopped r → (stage : List (D .Shape)) → Rival D sheet stage → r .floor ≤ drawnCells D stage
   -- the bytes written are read as a rival of exactly the cells named
-  pub own : Accepted r → RivalStage sheet (take (r .length) buffer) (r .cells)
+  pub own : Accepted r → RivalStage D sheet (take (r .length) buffer) (r .cells)
   -- no more parts were expanded than the budget allows, and a stopped search has used it up
   pub within : r .visits ≤ budget
   pub spent : IsStopped r → r .visits ≡ budget
   -- the refusal's number is 10 exactly where reading refuses nothing and no rival exists
-  pub refused : (r .mark .number ≡ empty) ↔ NoRival sheet
+  pub refused : (r .mark .number ≡ empty) ↔ NoRival D sheet

@@ -1,29 +1,31 @@
 // The audit: whether a stage keeps to a sheet.
 use crate::Audited;
 use base::Refusal;
+use base::Verdict;
 use relation::Relation;
-use relation::patterns::patterns_of;
 use relation::patterns::value_of;
 use relation::values::contains;
-use stage::reader::Answer;
-use stage::reader::read_stage;
+use sheet::Sheet;
+use sheet::limits::patterns_of;
+use stage_reader::read_stage;
 ghost use mathlib.Core.Path.{_≡_};
 ghost use Prim.Native.Nat.{_≤_, _^_};
+ghost use Rattle.sheet.specs.Limits.{maxInputs, maxWires};
 ghost use Rattle.table.specs.Bits.{all};
 ghost use Rattle.relation.specs.Source.{value};
 ghost use Rattle.relation.specs.Tests.{ofSets};
 ghost use Rattle.table.specs.Cells.{wires};
 ghost use Rattle.stage.specs.Read.{readStage};
 ghost use Rattle.base.specs.declared.Refusal.{Refusal};
-ghost use Rattle.stage.specs.declared.reader.Answer.the-variants.{Refused as NotTaken};
+ghost use Rattle.base.specs.declared.Verdict.the-variants.{Refused as NotTaken};
 ghost use Rattle.quote.specs.declared.Audited.the-variants.{StageRefused};
 ghost use Rattle.quote.specs.Cases.{auditedCase};
 ghost use Rattle.quote.specs.Audit.{auditedStage};
 
 // Whether the value that the tables drive lies in the set of every pattern.
-fn allowed_everywhere(n: u8, sets: [u16; 16], tables: [u16; 4]) -> bool
-    requires { ⌜ n ≤ 4 ⌝ }
-    ensures { λ r. ⌜ r ≡ all (2 ^ n) (λ p. ofSets sets p (value 4 (wires tables) p)) ⌝ }
+fn allowed_everywhere(n: u8, sets: [u16; Sheet::MAX_PATTERNS], tables: [u16; Sheet::WIRES]) -> bool
+    requires { ⌜ n ≤ maxInputs ⌝ }
+    ensures { λ r. ⌜ r ≡ all (2 ^ n) (λ p. ofSets sets p (value maxWires (wires tables) p)) ⌝ }
 {
     let count = patterns_of(n);
     for p in 0..count {
@@ -36,12 +38,12 @@ fn allowed_everywhere(n: u8, sets: [u16; 16], tables: [u16; 4]) -> bool
 }
 
 // What the refusal of a stage sheet is to the audit. `audit_stage` asks it of no accepted one; sizes are all that could be wrong with that.
-fn refused_stage(answer: Answer) -> Audited
+fn refused_stage(answer: Verdict) -> Audited
     ensures { λ r. ⌜ ((f : Refusal) → answer ≡ NotTaken f → r ≡ StageRefused f) ⌝ }
 {
     match answer {
-        Answer::Refused(refusal) => Audited::StageRefused(refusal),
-        Answer::Accepted => Audited::StageRefused(Refusal::at(Refusal::SIZES_DIFFER, 0)),
+        Verdict::Refused(refusal) => Audited::StageRefused(refusal),
+        Verdict::Accepted => Audited::StageRefused(Refusal::at(Refusal::SIZES_DIFFER, 0)),
     }
 }
 
@@ -51,7 +53,7 @@ pub fn audit_stage(relation: Relation, s: &[u8]) -> Audited
 {
     let read = read_stage(s);
     let answer = read.answer;
-    let Answer::Accepted = answer else {
+    let Verdict::Accepted = answer else {
         return refused_stage(answer);
     };
     if read.n != relation.n {

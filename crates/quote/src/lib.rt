@@ -4,6 +4,7 @@ use base::Verdict;
 use search::Mark;
 ghost use mathlib.Core.Path.{_≡_};
 ghost use lib.ListN.{length};
+ghost use Rattle.stage.specs.Trees.{treeDrawing};
 ghost use Rattle.quote.specs.Cases.{quoteReply, auditedCase};
 ghost use Rattle.quote.specs.Quote.{quotedOf, bufferQuoted};
 ghost use Rattle.quote.specs.Promised.{Promised};
@@ -34,7 +35,7 @@ pub enum Audited {
 pub fn quote(sheet: &[u8], budget: u32, buffer: &mut [u8]) -> Quoted
     ensures reply { λ r. ⌜ quoteReply r ≡ quotedOf (now (sheet .entry)) budget (length (now (buffer .entry))) ⌝ }
     ensures bytes { λ _. ⌜ now (buffer .exit) ≡ bufferQuoted (now (sheet .entry)) budget (now (buffer .entry)) ⌝ }
-    ensures promise { λ r. ⌜ Promised (now (sheet .entry)) budget (quoteReply r) (now (buffer .exit)) ⌝ }
+    ensures promise { λ r. ⌜ Promised treeDrawing (now (sheet .entry)) budget (quoteReply r) (now (buffer .exit)) ⌝ }
 {
     let formed = unit::form(sheet);
     let answer = formed.answer;

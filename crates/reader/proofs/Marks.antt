@@ -15,7 +15,8 @@ use Rattle.sheet.specs.Commands.{isEmpty, about, rowIn, dontCareIn, limitIn, in
 use Rattle.reader.specs.Reader.{isOutOfRange}
 use Rattle.sheet.specs.Limits.{isBeyond}
 use Rattle.sheet.proofs.Lists.{never, isEmpty-nil, collect-snoc, about-same, about-other}
-use Rattle.sheet.proofs.Each.{Each, each-collect}
+use Rattle.base.specs.Each.{Each}
+use Rattle.sheet.proofs.Shares.{each-collect}
 use Rattle.sheet.proofs.Growing.{unmarked-row, unmarked-care}
 use Rattle.reader.proofs.Passages.{InOrder}
 use Rattle.reader.proofs.Opening.{InRange}

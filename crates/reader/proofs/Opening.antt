@@ -11,7 +11,8 @@ use Rattle.sheet.specs.declared.Command.the-variants.{End, Sizes, Row, DontCare
 use Rattle.sheet.specs.Commands.{isEmpty, collect, isSizes, inputsIn, wiresIn, inputsOf, wiresOf}
 use Rattle.reader.specs.Reader.{isOutOfRange}
 use Rattle.sheet.proofs.Lists.{never, silent, isEmpty-nil}
-use Rattle.sheet.proofs.Each.{Each, each-append}
+use Rattle.base.specs.Each.{Each}
+use Rattle.base.proofs.Each.{each-append}
 use Rattle.reader.proofs.Passages.{InOrder}
 
 -- 01 comes first; after it n and m stay

@@ -10,7 +10,7 @@ use Rattle.sheet.specs.Commands.{collect, inputsOf, limitsOn, wiresOf}
 use Rattle.sheet.specs.Judged.{holds}
 use Rattle.reader.specs.Reading.{readingOf}
 use Rattle.sheet.proofs.Lists.{never}
-use Rattle.sheet.proofs.Each.{Each}
+use Rattle.base.specs.Each.{Each}
 use Rattle.reader.proofs.Passages.{every-sheet}
 use Rattle.reader.proofs.Opening.{Headed, unheaded, headed-more, InSize, size-more, InRange, range-more}
 use Rattle.reader.proofs.Wiring.{Gates, gates-more, Outputs, outputs-more}

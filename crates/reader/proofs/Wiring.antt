@@ -17,7 +17,8 @@ use Rattle.sheet.specs.Commands.{collect, gateIn, outputIn, LogicGate, noGate, 
 use Rattle.reader.specs.Reader.{lastKind}
 use Rattle.sheet.specs.Limits.{maxGates, maxOutputs}
 use Rattle.sheet.proofs.Lists.{collect-snoc}
-use Rattle.sheet.proofs.Each.{Each, each-append, each-weaken}
+use Rattle.base.specs.Each.{Each}
+use Rattle.base.proofs.Each.{each-append, each-weaken}
 use Rattle.reader.proofs.Passages.{InOrder}
 use Rattle.reader.proofs.Opening.{Opening, opens, stays, opening}
 

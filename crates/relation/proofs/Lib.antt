@@ -4,3 +4,4 @@ pub mod Columns
 pub mod Fits
 pub mod Sets
 pub mod Side
+pub mod Families

@@ -1,15 +1,11 @@
--- Families of ordered trees that are compatible with a relation: multiple-output functions drawn as stages.
+-- Stages drawn that are compatible with a relation: multiple-output functions as they are drawn, wire by wire.
 use Prim.Native.Nat.{ℕ, _^_, _<_}
+use mathlib.Core.List.{List}
 use lib.Dec.{T}
-use Rattle.table.specs.Bits.{sum, ofBits}
-use Rattle.table.specs.Tree.{Tree, Ordered, follow, selectors}
+use Rattle.table.specs.Drawing.{Drawing, Drawn, drawnValue}
 use Rattle.relation.specs.Source.{Rel}
 
--- m ordered trees, one for each wire; on every pattern the bits that they give make an allowed value (document 01, "Quote, audit, program": a rival)
-pub record Family (n m : ℕ) (R : Rel) (x : ℕ → Tree) : Type 0 where
-  pub ordered : (j : ℕ) → j < m → Ordered n 0 (x j)
-  pub allowed : (p : ℕ) → p < 2 ^ n → T (R p (ofBits m (λ j. follow n p (x j))))
-
--- the cells of a family, over all its trees
-unfoldable pub size : ℕ → (ℕ → Tree) → ℕ
-size m x = sum m (λ j. selectors (x j))
+-- on every pattern the value that the drawings drive is allowed
+pub record Family (D : Drawing) (n m : ℕ) (R : Rel) (stage : List (D .Shape)) : Type 0 where
+  pub drawn : Drawn D n m stage
+  pub allowed : (p : ℕ) → p < 2 ^ n → T (R p (drawnValue D n stage p))

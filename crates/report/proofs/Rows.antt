@@ -1,4 +1,4 @@
--- Worked rows, computed from the meanings: some decimals, and a line of each kind.
+-- Worked rows, computed from the meanings: a line of each kind.
 use Prim.Native.Nat.{ℕ}
 use mathlib.Core.Path.{_≡_, refl}
 use mathlib.Core.List.{List, [], _∷_, _++_}
@@ -6,34 +6,23 @@ use Rattle.base.specs.Cases.{accepting, refusing, refusedOutcome, secondRefused
 use Rattle.base.specs.Refusals.{refusalAt, empty, sizesDiffer, tooLong}
 use Rattle.branch_bound.specs.Reply.{stoppedOutcome}
 use Rattle.quote.specs.Cases.{fitsOutcome, differsOutcome}
-use Rattle.report.specs.Text.{digits, decimal, hexDigit, hexPair, furtherPairs, hexPairs}
-use Rattle.report.specs.Lines.{newline, cellsText, fitsText, differsText, sheetText, stageText, refusedText, atText, named, countsOf, stageLine, resultLines, refusalLine, linesOf, judgedLine, auditLine}
+use Rattle.text.specs.Text.{digits, decimal, hexDigit, hexPair, furtherPairs, hexPairs, named}
+use Rattle.report.specs.Lines.{newline, cellsText, fitsText, differsText, sheetText, stageText, refusedText, atText}
+use Rattle.report.specs.Lines.{countsOf, stagePairs, resultLines, refusalText, refusalLine, linesOf, judgedLine, auditLine}
 
--- all meanings open
-unfoldable printing : ℕ
-unfolding digits decimal hexDigit hexPair furtherPairs hexPairs named countsOf stageLine resultLines refusalLine linesOf judgedLine auditLine
+-- all meanings open: those of text, and with them those of the lines
+unfoldable pub texts : ℕ
+unfolding digits decimal hexDigit hexPair furtherPairs hexPairs named
+texts = 0
+
+unfoldable pub printing : ℕ
+unfolding texts countsOf stagePairs resultLines refusalText refusalLine linesOf judgedLine auditLine
 printing = 0
-
-pub decimal-0 : decimal 0 ≡ 0x30 ∷ []
-unfolding printing
-decimal-0 = refl
-
-pub decimal-7 : decimal 7 ≡ 0x37 ∷ []
-unfolding printing
-decimal-7 = refl
-
-pub decimal-10 : decimal 10 ≡ 0x31 ∷ 0x30 ∷ []
-unfolding printing
-decimal-10 = refl
-
--- the largest budget
-pub decimal-most : decimal 4294967295 ≡ 0x34 ∷ 0x32 ∷ 0x39 ∷ 0x34 ∷ 0x39 ∷ 0x36 ∷ 0x37 ∷ 0x32 ∷ 0x39 ∷ 0x35 ∷ []
-unfolding printing
-decimal-most = refl
 
 -- "cells 2 floor 1 visits 0 stopped" and "20 2F": bytes of the buffer past the length are not shown
 pub stopped-lines : linesOf (record { cells = 2; floor = 1; visits = 0; length = 2; mark = accepting stoppedOutcome 0 }) (0x20 ∷ 0x2F ∷ 0x7A ∷ [])
-    ≡ 0x63 ∷ 0x65 ∷ 0x6C ∷ 0x6C ∷ 0x73 ∷ 0x20 ∷ 0x32 ∷ 0x20 ∷ 0x66 ∷ 0x6C ∷ 0x6F ∷ 0x6F ∷ 0x72 ∷ 0x20 ∷ 0x31 ∷ 0x20 ∷ 0x76 ∷ 0x69 ∷ 0x73 ∷ 0x69 ∷ 0x74 ∷ 0x73 ∷ 0x20 ∷ 0x30 ∷ 0x20
+    ≡ 0x63 ∷ 0x65 ∷ 0x6C ∷ 0x6C ∷ 0x73 ∷ 0x20 ∷ 0x32 ∷ 0x20 ∷ 0x66 ∷ 0x6C ∷ 0x6F ∷ 0x6F ∷ 0x72 ∷ 0x20 ∷ 0x31 ∷ 0x20
+    ∷ 0x76 ∷ 0x69 ∷ 0x73 ∷ 0x69 ∷ 0x74 ∷ 0x73 ∷ 0x20 ∷ 0x30 ∷ 0x20
     ∷ 0x73 ∷ 0x74 ∷ 0x6F ∷ 0x70 ∷ 0x70 ∷ 0x65 ∷ 0x64 ∷ newline ∷ 0x32 ∷ 0x30 ∷ 0x20 ∷ 0x32 ∷ 0x46 ∷ newline ∷ []
 unfolding printing
 stopped-lines = refl
@@ -59,6 +48,7 @@ pub sheet-refused-14 : auditLine (refusing refusedOutcome (refusalAt tooLong 409
 unfolding printing
 sheet-refused-14 = refl
 
-pub stage-refused-13 : auditLine (refusing secondRefusedOutcome (refusalAt sizesDiffer 0)) ≡ stageText ++ refusedText ++ 0x31 ∷ 0x33 ∷ atText ++ 0x30 ∷ newline ∷ []
+pub stage-refused-13 : auditLine (refusing secondRefusedOutcome (refusalAt sizesDiffer 0))
+    ≡ stageText ++ refusedText ++ 0x31 ∷ 0x33 ∷ atText ++ 0x30 ∷ newline ∷ []
 unfolding printing
 stage-refused-13 = refl

@@ -1,14 +1,16 @@
 -- Document 01, "Quote, audit, program": the lines that the program prints, for a reply of the quote and of the audit.
-use Prim.Native.Nat.{ℕ, min}
+use Prim.Native.Nat.{ℕ, _+_, _*_, _≤_, min}
+use mathlib.Core.Path.{_≡_}
 use mathlib.Core.Bool.{cond}
 use mathlib.Core.List.{List, [], _∷_, _++_}
 use lib.Dec.{eqb}
-use lib.ListN.{take}
+use lib.ListN.{length, take}
+use lib.Seq.{sets}
 use Rattle.base.specs.Cases.{Case, refusedOutcome, isRefused}
 use Rattle.branch_bound.specs.Reply.{bestOutcome}
 use Rattle.stage.specs.Bytes.{longestStage}
 use Rattle.quote.specs.Cases.{QuoteReply, fitsOutcome}
-use Rattle.report.specs.Text.{decimal, hexPairs}
+use Rattle.text.specs.Text.{hexPairs, longestDecimal, named}
 
 -- the end of a line
 abbrev pub newline : ℕ
@@ -56,25 +58,25 @@ sheetText = 0x73 ∷ 0x68 ∷ 0x65 ∷ 0x65 ∷ 0x74 ∷ 0x20 ∷ []
 abbrev pub stageText : List ℕ
 stageText = 0x73 ∷ 0x74 ∷ 0x61 ∷ 0x67 ∷ 0x65 ∷ 0x20 ∷ []
 
--- a number after its name
-unfoldable pub named : List ℕ → ℕ → List ℕ
-named name x = name ++ decimal x
-
 -- "cells C floor F visits V"
-unfoldable pub countsOf : QuoteReply → List ℕ
-countsOf q = named cellsText (q .cells) ++ named floorText (q .floor) ++ named visitsText (q .visits)
+unfoldable pub countsOf : (cells floor visits : ℕ) → List ℕ
+countsOf c f v = named cellsText c ++ named floorText f ++ named visitsText v
 
--- the stage's own line: the bytes of the buffer that the reply's length says, and never more than a stage has
-unfoldable pub stageLine : ℕ → List ℕ → List ℕ
-stageLine k stage = hexPairs (take (min longestStage k) stage) ++ newline ∷ []
+-- the bytes of the buffer that a reply's length says, and never more than a stage has
+unfoldable pub stagePairs : ℕ → List ℕ → List ℕ
+stagePairs k stage = hexPairs (take (min longestStage k) stage)
 
 -- both lines of a quote with a stage, with the word of its mark
 unfoldable pub resultLines : List ℕ → QuoteReply → List ℕ → List ℕ
-resultLines word q stage = countsOf q ++ word ++ stageLine (q .length) stage
+resultLines word q stage = countsOf (q .cells) (q .floor) (q .visits) ++ word ++ stagePairs (q .length) stage ++ newline ∷ []
 
--- "refused N at P", after the word for what is refused, if there is one
-unfoldable pub refusalLine : List ℕ → ℕ → ℕ → List ℕ
-refusalLine whose number place = whose ++ named refusedText number ++ named atText place ++ newline ∷ []
+-- "refused N at P"
+unfoldable pub refusalText : (number place : ℕ) → List ℕ
+refusalText number place = named refusedText number ++ named atText place
+
+-- its line, after the word for what is refused, if there is one
+unfoldable pub refusalLine : List ℕ → (number place : ℕ) → List ℕ
+refusalLine whose number place = whose ++ refusalText number place ++ newline ∷ []
 
 -- what the program prints for a reply of the quote and the bytes of the buffer that was lent to it
 unfoldable pub linesOf : QuoteReply → List ℕ → List ℕ
@@ -93,6 +95,29 @@ auditLine c =
     let whose = cond (eqb (c .outcome) refusedOutcome) sheetText stageText in
     cond (isRefused c) (refusalLine whose (c .number) (c .place)) (judgedLine word (c .value))
 
--- no report of numbers below 2 to the power 64 is longer
+-- The longest report of numbers below 2 to the power 64, by its parts: the three counts and their names,
+abbrev pub longestCounts : ℕ
+longestCounts = length cellsText + length floorText + length visitsText + 3 * longestDecimal
+
+-- the longest of the words beside them,
+abbrev pub longestWord : ℕ
+longestWord = length stoppedText
+
+-- and the stage: a pair for each byte and what parts it from the next,
+abbrev pub longestPairs : ℕ
+longestPairs = 3 * longestStage
+
+-- with the end of its line
 abbrev pub longestReport : ℕ
-longestReport = 700
+longestReport = longestCounts + longestWord + longestPairs + 1
+
+-- "refused N at P" is shorter, and so is its line
+abbrev pub longestRefusal : ℕ
+longestRefusal = length refusedText + length atText + 2 * longestDecimal
+
+abbrev pub longestRefusalLine : ℕ
+longestRefusalLine = longestWord + longestRefusal + 1
+
+-- what a report leaves in the buffer: its text at the start, all else as it was; its length is handed back
+abbrev pub Printed : (text before after : List ℕ) → ℕ → Type 0
+Printed text before after r = (r ≡ length text) × (after ≡ sets before 0 text) × (r ≤ longestReport)

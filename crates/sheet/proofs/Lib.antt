@@ -1,7 +1,7 @@
 -- Laws of unit sheets.
 pub mod Lists
 pub mod Keys
-pub mod Each
+pub mod Shares
 pub mod Powers
 pub mod Sizes
 pub mod FirstRefusals

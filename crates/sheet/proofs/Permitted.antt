@@ -11,7 +11,7 @@ use Rattle.sheet.specs.declared.Command.{Command}
 use Rattle.sheet.specs.Commands.{wiresOf, limitsOn}
 use Rattle.sheet.specs.Gathered.{meet, limitOn}
 use Rattle.sheet.proofs.Powers.{uncapped}
-use Rattle.sheet.proofs.Each.{Each}
+use Rattle.base.specs.Each.{Each}
 
 -- bit v of an intersection is the lower of the two bits
 and-bit : (a b v : ℕ) → bitAnd a b / 2 ^ v % 2 ≡ min (a / 2 ^ v % 2) (b / 2 ^ v % 2)

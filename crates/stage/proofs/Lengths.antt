@@ -1,19 +1,22 @@
 -- Laws of the length of a stage (document 01, "Stage sheet"): four bytes for the head and the end, three for each wire and three for each cell.
-use Prim.Native.Nat.{ℕ, zero, suc, _+_, _*_, _^_, _≤_}
+use Prim.Native.Nat.{ℕ, zero, suc, _+_, _*_, _^_, _-_, _<_, _≤_}
 use mathlib.Core.Path.{_≡_, refl, _∙_}
 use mathlib.Core.List.{List, [], _∷_, _++_, map, map-append}
 use native.Mathlib.Omega.{arith}
 use lib.ListN.{length, getD, take, length-append, length-map}
 use lib.Seq.{length-take-le, take-suc}
 use lib.Pow.{pow-mono}
+use Rattle.table.specs.Drawing.{drawnCells}
+use Rattle.sheet.specs.Limits.{maxInputs, maxWires, maxPatterns}
 use Rattle.table.specs.Bits.{sum}
 use Rattle.table.specs.Cells.{cells}
 use Rattle.table.specs.Tree.{Tree, con, sel, selectors, reduced}
 use Rattle.table.proofs.Bits.{sum-bound}
 use Rattle.table.proofs.Cells.{cells-lt}
 use Rattle.table.proofs.Trees.{reduced-selectors}
-use Rattle.stage.specs.Bytes.{treeBytes, wireBytes, stageBytes, size, longestStage}
-use Rattle.stage.specs.Written.{stageTrees, stageOf, stageCells, wireOf}
+use Rattle.stage.specs.Bytes.{treeBytes, wireBytes, wiresBytes, stageBytes, longestStage}
+use Rattle.stage.specs.Trees.{size}
+use Rattle.stage.specs.Written.{stageTrees, stageOf, stageCells}
 
 -- a tree takes a byte, and three more for each selector
 pub tree-length : (x : Tree) → length (treeBytes x) ≡ 1 + 3 * selectors x
@@ -21,17 +24,17 @@ unfolding treeBytes selectors
 tree-length (con b) = refl
 tree-length (sel k z o) = omega (arith, length-append (treeBytes z) (treeBytes o), tree-length z, tree-length o)
 
-pub wires-length : (j : ℕ) (xs : List Tree) → length (wireBytes j xs) ≡ 3 * length xs + 3 * size xs
-unfolding wireBytes size
+pub wires-length : (j : ℕ) (xs : List Tree) → length (wiresBytes j xs) ≡ 3 * length xs + 3 * size xs
+unfolding wiresBytes drawnCells
 wires-length j [] = refl
-wires-length j (x ∷ xs) = omega (arith, length-append (treeBytes x) (wireBytes (suc j) xs), tree-length x, wires-length (suc j) xs)
+wires-length j (x ∷ xs) = omega (arith, length-append (treeBytes x) (wiresBytes (suc j) xs), tree-length x, wires-length (suc j) xs)
 
 pub stage-bytes-length : (n m : ℕ) (xs : List Tree) → length (stageBytes n m xs) ≡ 4 + 3 * length xs + 3 * size xs
 unfolding stageBytes
-stage-bytes-length n m xs = omega (arith, length-append (wireBytes 0 xs) (0x2F ∷ []), wires-length 0 xs)
+stage-bytes-length n m xs = omega (arith, length-append (wiresBytes 0 xs) (0x2F ∷ []), wires-length 0 xs)
 
 pub size-append : (xs ys : List Tree) → size (xs ++ ys) ≡ size xs + size ys
-unfolding size
+unfolding drawnCells
 size-append [] ys = omega arith
 size-append (x ∷ xs) ys = omega (arith, size-append xs ys)
 
@@ -41,7 +44,7 @@ unfolding stageTrees
 trees-length n m tables h = length-map (take m tables) (reduced n 0) ∙ length-take-le m tables h
 
 pub trees-size : (n m : ℕ) (tables : List ℕ) → m ≤ length tables → size (stageTrees n m tables) ≡ stageCells n m tables
-unfolding stageTrees stageCells sum size
+unfolding stageTrees stageCells sum drawnCells
 trees-size n zero tables h = refl
 trees-size n (suc m) tables h =
     let t = getD tables m 0 in
@@ -54,18 +57,18 @@ unfolding stageOf
 stage-length n m tables h =
     omega (arith, stage-bytes-length n m (stageTrees n m tables), trees-length n m tables h, trees-size n m tables h)
 
--- a wire of at most four inputs has at most 15 cells
-pub cells-few : (n t : ℕ) → n ≤ 4 → cells n t ≤ 15
-cells-few n t h = let p : 2 ^ n ≤ 2 ^ 4 = pow-mono h in omega (arith, cells-lt n t)
+-- a wire has fewer cells than there are patterns
+pub cells-few : (n t : ℕ) → n ≤ maxInputs → cells n t < maxPatterns
+cells-few n t h = let p : 2 ^ n ≤ maxPatterns = pow-mono {j = maxInputs} h in omega (arith, cells-lt n t)
 
-pub stage-cells-few : (n m : ℕ) (tables : List ℕ) → n ≤ 4 → stageCells n m tables ≤ m * 15
+pub stage-cells-few : (n m : ℕ) (tables : List ℕ) → n ≤ maxInputs → stageCells n m tables ≤ m * (maxPatterns - 1)
 unfolding stageCells
-stage-cells-few n m tables h = sum-bound m 15 (λ j. cells n (getD tables j 0)) (λ j _. cells-few n (getD tables j 0) h)
+stage-cells-few n m tables h =
+    sum-bound m (maxPatterns - 1) (λ j. cells n (getD tables j 0)) (λ j _. omega (arith, cells-few n (getD tables j 0) h))
 
-pub stage-length-most : (n m : ℕ) (tables : List ℕ) → m ≤ length tables → n ≤ 4 → m ≤ 4 → length (stageOf n m tables) ≤ longestStage
+pub stage-length-most : (n m : ℕ) (tables : List ℕ) → m ≤ length tables → n ≤ maxInputs → m ≤ maxWires → length (stageOf n m tables) ≤ longestStage
 stage-length-most n m tables h a b = omega (arith, stage-length n m tables h, stage-cells-few n m tables a)
 
--- one wire's part of a stage
-pub wire-length : (n j t : ℕ) → length (wireOf n j t) ≡ 3 + 3 * cells n t
-unfolding wireOf
+-- a wire that is written
+pub wire-length : (n j t : ℕ) → length (wireBytes j (reduced n 0 t)) ≡ 3 + 3 * cells n t
 wire-length n j t = omega (arith, tree-length (reduced n 0 t), reduced-selectors n 0 t)

@@ -1,14 +1,9 @@
-pub mod Ranges
-pub mod Cases
 pub mod Lengths
-pub mod Writing
+pub mod Tables
 pub mod Reading
 pub mod Sheets
-pub mod Ends
-pub mod Tables
-pub mod Places
-pub mod Gather
-pub mod Replies
+pub mod Written
 pub mod RoundTrip
 pub mod Prefix
 pub mod Rows
+pub mod TreeCounts

@@ -1,4 +1,4 @@
--- A sheet longer than any stage: the end of a stage and a byte after it stand within 197 bytes, so reading looks at no byte past the 197th.
+-- A sheet longer than any stage: the end of a stage and a byte after it stand within one byte more than the longest stage has, so reading looks no further.
 use Prim.Native.Nat.{ℕ, zero, suc, _+_, _*_, _^_, _-_, _<_, _≤_}
 use mathlib.Core.Path.{_≡_, refl, sym, ap, subst, _∙_}
 use mathlib.Core.Logic.{⊎-elim}
@@ -8,15 +8,17 @@ use lib.Dec.{leb, eqb, leb→le, nleb→lt}
 use lib.ListN.{length, take, drop, length-append, take-append-drop}
 use lib.Pow.{pow-pos, pow-mono}
 use lib.Seq.{take-all, length-take-le}
+use Rattle.base.specs.Each.{Each}
 use Rattle.base.specs.declared.Refusal.{Refusal}
-use Rattle.sheet.specs.Limits.{countOut, sizesOut}
+use Rattle.sheet.specs.Limits.{maxInputs, maxPatterns, countOut, sizesOut}
 use Rattle.base.proofs.Tests.{decide, cond-has₂, test-no}
 use Rattle.table.specs.Tree.{Tree, Ordered}
-use Rattle.stage.specs.Bytes.{treeBytes, wireBytes, stageBytes, AllOrdered, longestStage}
-use Rattle.stage.specs.Read.{Read, taken, fault, andThen, dueNumber, due, operand, branchesAt, selectorAt, treeFrom, treeAt, wireAt, wiresAt, nothingAfter, endAt, StageSheet, got, refused, closed, readStage}
+use Rattle.stage.specs.Bytes.{treeBytes, wiresBytes, stageBytes, longestStage}
+use Rattle.stage.specs.Read.{Read, taken, fault, andThen, dueNumber, due, operand, branchesAt, selectorAt, treeFrom, treeAt, wireAt, wiresAt, nothingAfter, endAt, closed, readStage}
+use Rattle.table.specs.Drawing.{StageSheet, got, noStage}
 use Rattle.stage.proofs.Lengths.{tree-length}
-use Rattle.stage.proofs.Ranges.{count-in, sizes-in}
-use Rattle.stage.proofs.Reading.{Told, tree-is, tree-told}
+use Rattle.sheet.proofs.Sizes.{count-in, sizes-in}
+use Rattle.stage.proofs.Reading.{ToldTree, tree-is, tree-told}
 use Rattle.stage.proofs.Sheets.{ToldWire, wire-told, ToldWires, wires-told, accepted}
 use Rattle.stage.proofs.Tables.{selectors-lt}
 
@@ -76,7 +78,7 @@ branches-more v n i at rest q l d more h =
     let some = pow-pos v in
     rw (more at rest q (omega arith))
     (then-more q (treeAt n i at rest) _ (λ z next left e.
-    let told : Told n i at rest (taken z next left) = subst (Told n i at rest) e (tree-told n i at rest) in
+    let told : ToldTree n i at rest (taken z next left) = subst (ToldTree n i at rest) e (tree-told n i at rest) in
     let long : length rest ≡ length (treeBytes z) + length left = ap length (told .0) ∙ length-append (treeBytes z) left in
     let short = tree-short v n i z l d (told .2) in
     rw (more next left q (omega arith)) (then-more q (treeAt n i next left) _ (λ _ _ _ _. refl))))
@@ -120,7 +122,8 @@ unfolding roomFor
 room-least n zero = omega arith
 room-least n (suc left) = omega (arith, room-least n left)
 
-wires-more : (left n m j at : ℕ) (bytes q : List ℕ) → roomFor n left ≤ length bytes → wiresAt left n m j at (bytes ++ q) ≡ withMore q (wiresAt left n m j at bytes)
+wires-more : (left n m j at : ℕ) (bytes q : List ℕ) → roomFor n left ≤ length bytes
+    → wiresAt left n m j at (bytes ++ q) ≡ withMore q (wiresAt left n m j at bytes)
 unfolding wiresAt withMore roomFor
 wires-more zero n m j at bytes q h = refl
 wires-more (suc left) n m j at bytes q h =
@@ -132,40 +135,43 @@ wires-more (suc left) n m j at bytes q h =
     rw (wires-more left n m (suc j) next rest q (omega arith)) (then-more q (wiresAt left n m (suc j) next rest) _ (λ _ _ _ _. refl))))
 
 -- the wires leave two bytes to the end
-wires-short : (n j : ℕ) (xs : List Tree) → AllOrdered n xs → length (wireBytes j xs) + 2 ≤ roomFor n (length xs)
-unfolding AllOrdered wireBytes roomFor
-wires-short n j [] o = omega arith
-wires-short n j (x ∷ xs) o =
-    omega (arith, length-append (treeBytes x) (wireBytes (suc j) xs), tree-short n n 0 x (omega arith) (omega arith) (o .0), wires-short n (suc j) xs (o .1))
+wires-short : (n left j : ℕ) (xs : List Tree) → length xs ≡ left → Each (Ordered n 0) xs → length (wiresBytes j xs) + 2 ≤ roomFor n left
+unfolding wiresBytes roomFor
+wires-short n left j [] e o = room-least n left
+wires-short n zero j (x ∷ xs) e o = absurd (omega arith)
+wires-short n (suc left) j (x ∷ xs) e o =
+    let first = tree-short n n 0 x (omega arith) (omega arith) (o .0) in
+    let others = wires-short n left (suc j) xs (omega arith) (o .1) in
+    omega (arith, length-append (treeBytes x) (wiresBytes (suc j) xs), first, others)
 
 -- the end is told by two bytes
-end-more : (whole : StageSheet) (at : ℕ) (rest q : List ℕ) → 2 ≤ length rest → endAt refused whole at (rest ++ q) ≡ endAt refused whole at rest
+end-more : (whole : StageSheet Tree) (at : ℕ) (rest q : List ℕ) → 2 ≤ length rest → endAt noStage whole at (rest ++ q) ≡ endAt noStage whole at rest
 unfolding endAt nothingAfter
 end-more whole at [] q h = absurd (omega arith)
 end-more whole at (b ∷ []) q h = absurd (omega arith)
-end-more whole at (b ∷ d ∷ rest) q h = due-more (λ x y. x ≡ y) refused 0x2F at (nothingAfter refused whole at) (λ _. refl) b (d ∷ rest) q refl
+end-more whole at (b ∷ d ∷ rest) q h = due-more (λ x y. x ≡ y) noStage 0x2F at (nothingAfter noStage whole at) (λ _. refl) b (d ∷ rest) q refl
 
 closed-more : (n m : ℕ) (bytes q : List ℕ) → roomFor n m ≤ length bytes → (y : Read (List Tree)) → ToldWires m n 0 3 bytes y
     → closed n m (withMore q y) ≡ closed n m y
 unfolding closed withMore
 closed-more n m bytes q h (fault f) t = refl
 closed-more n m bytes q h (taken xs at rest) t =
-    let long : length bytes ≡ length (wireBytes 0 xs) + length rest = ap length (t .0) ∙ length-append (wireBytes 0 xs) rest in
-    let short : length (wireBytes 0 xs) + 2 ≤ roomFor n m = subst (λ k. length (wireBytes 0 xs) + 2 ≤ roomFor n k) (t .2) (wires-short n 0 xs (t .3)) in
+    let long : length bytes ≡ length (wiresBytes 0 xs) + length rest = ap length (t .0) ∙ length-append (wiresBytes 0 xs) rest in
+    let short = wires-short n m 0 xs (t .2) (t .3) in
     end-more (got n m xs) at rest q (omega arith)
 
-room-most : (n left : ℕ) → n ≤ 4 → roomFor n left ≤ 48 * left + 2
+room-most : (n left : ℕ) → n ≤ maxInputs → roomFor n left ≤ 3 * maxPatterns * left + 2
 unfolding roomFor
 room-most n zero h = omega arith
-room-most n (suc left) h = let p : 2 ^ n ≤ 2 ^ 4 = pow-mono h in omega (arith, room-most n left h)
+room-most n (suc left) h = let p : 2 ^ n ≤ maxPatterns = pow-mono {j = maxInputs} h in omega (arith, room-most n left h)
 
 -- no sheet that is accepted is longer than the longest stage
 pub none-longer : (bytes : List ℕ) (n m : ℕ) (trees : List Tree) → readStage bytes ≡ got n m trees → length bytes ≤ longestStage
 unfolding stageBytes
 none-longer bytes n m trees e =
     let s = accepted bytes n m trees e in
-    let short : length (wireBytes 0 trees) + 2 ≤ roomFor n m = subst (λ k. length (wireBytes 0 trees) + 2 ≤ roomFor n k) (s .one-each) (wires-short n 0 trees (s .ordered)) in
-    let long : length bytes ≡ 4 + length (wireBytes 0 trees) = omega (arith, ap length (s .is), length-append (wireBytes 0 trees) (0x2F ∷ [])) in
+    let short = wires-short n m 0 trees (s .one-each) (s .ordered) in
+    let long : length bytes ≡ 4 + length (wiresBytes 0 trees) = omega (arith, ap length (s .is), length-append (wiresBytes 0 trees) (0x2F ∷ [])) in
     omega (arith, room-most n m (s .sizes .n-most), s .sizes .m-most)
 
 -- more bytes than the longest stage has tell the reply
@@ -175,14 +181,14 @@ enough [] q h = absurd (omega arith)
 enough (b ∷ []) q h = absurd (omega arith)
 enough (b ∷ n ∷ []) q h = absurd (omega arith)
 enough (b ∷ n ∷ m ∷ rest) q h =
-    due-more (λ x y. x ≡ y) refused 0x20 0 _ (λ _. refl) b (n ∷ m ∷ rest) q
+    due-more (λ x y. x ≡ y) noStage 0x20 0 _ (λ _. refl) b (n ∷ m ∷ rest) q
     (cond-has₂ (λ x y. x ≡ y) (sizesOut n m) (λ _. refl)
     (λ o.
     let z = sizes-in n m (test-no (sizesOut n m) o) in
     let room : roomFor n m ≤ length rest = omega (arith, room-most n m (z .n-most), z .m-most) in
     rw (wires-more m n m 0 3 rest q room) (closed-more n m rest q room (wiresAt m n m 0 3 rest) (wires-told m n m 0 3 rest))))
 
--- reading looks at no byte past the 197th
+-- reading looks at no byte past that one
 pub front-tells : (s : List ℕ) (k : ℕ) → longestStage < k → readStage (take k s) ≡ readStage s
 front-tells s k h =
     ⊎-elim (λ t. ap readStage (take-all k s (leb→le (length s) k t)))

@@ -13,7 +13,7 @@ use Rattle.base.proofs.Tests.{cond-has, cond-has₂, test-no}
 use Rattle.table.specs.Tree.{Tree, con, sel, Ordered}
 use Rattle.stage.specs.Bytes.{treeBytes}
 use Rattle.stage.specs.Read.{Read, taken, fault, andThen, misplaced, operand, branchesAt, selectorAt, treeFrom, treeWithin, treeAt}
-use Rattle.stage.proofs.Ranges.{count-in, count-fits}
+use Rattle.sheet.proofs.Sizes.{count-in, count-fits}
 
 abbrev Branch : Type 0
 Branch = ℕ → ℕ → List ℕ → Read Tree
@@ -52,17 +52,17 @@ tree-is n k l at bytes =
     bytes
 
 -- what is taken are the bytes of an ordered tree, and the place moves past them
-abbrev pub Told : ℕ → ℕ → ℕ → List ℕ → Read Tree → Type 0
-Told n k at bytes (taken x next rest) = (bytes ≡ treeBytes x ++ rest) × (next ≡ at + length (treeBytes x)) × Ordered n k x
-Told n k at bytes (fault f) = Unit {0}
+abbrev pub ToldTree : ℕ → ℕ → ℕ → List ℕ → Read Tree → Type 0
+ToldTree n k at bytes (taken x next rest) = (bytes ≡ treeBytes x ++ rest) × (next ≡ at + length (treeBytes x)) × Ordered n k x
+ToldTree n k at bytes (fault f) = Unit {0}
 
 abbrev TellsAt : ℕ → ℕ → (ℕ → List ℕ → Read Tree) → Type 0
-TellsAt n k read = (at : ℕ) (bytes : List ℕ) → Told n k at bytes (read at bytes)
+TellsAt n k read = (at : ℕ) (bytes : List ℕ) → ToldTree n k at bytes (read at bytes)
 
 -- a selector's second branch, after its first
 second-told : (n k i at : ℕ) (z : Tree) (next : ℕ) (bytes rest : List ℕ) → k < i → i ≤ n → bytes ≡ treeBytes z ++ rest → next ≡ at + 2 + length (treeBytes z)
-    → Ordered n i z → (o : Read Tree) → Told n i next rest o
-    → Told n k at (0x22 ∷ i ∷ bytes) (andThen o (λ x at″ rest″. taken (sel i z x) at″ rest″))
+    → Ordered n i z → (o : Read Tree) → ToldTree n i next rest o
+    → ToldTree n k at (0x22 ∷ i ∷ bytes) (andThen o (λ x at″ rest″. taken (sel i z x) at″ rest″))
 unfolding andThen treeBytes Ordered
 second-told n k i at z next bytes rest a b e p u (fault f) t = tt
 second-told n k i at z next bytes rest a b e p u (taken x past q) t = (
@@ -72,35 +72,35 @@ second-told n k i at z next bytes rest a b e p u (taken x past q) t = (
 )
 
 branches-told : (n k i at : ℕ) (read : ℕ → List ℕ → Read Tree) → k < i → i ≤ n → TellsAt n i read → (bytes : List ℕ)
-    → Told n k at (0x22 ∷ i ∷ bytes) (branchesAt read i (at + 2) bytes)
+    → ToldTree n k at (0x22 ∷ i ∷ bytes) (branchesAt read i (at + 2) bytes)
 unfolding branchesAt andThen
 branches-told n k i at read a b t bytes = go (read (at + 2) bytes) (t (at + 2) bytes)
   where
-    go : (z : Read Tree) → Told n i (at + 2) bytes z
-        → Told n k at (0x22 ∷ i ∷ bytes) (andThen z (λ z at′ rest′. andThen (read at′ rest′) (λ o at″ rest″. taken (sel i z o) at″ rest″)))
+    go : (z : Read Tree) → ToldTree n i (at + 2) bytes z
+        → ToldTree n k at (0x22 ∷ i ∷ bytes) (andThen z (λ z at′ rest′. andThen (read at′ rest′) (λ o at″ rest″. taken (sel i z o) at″ rest″)))
     go (fault f) h = tt
     go (taken z next rest) h = second-told n k i at z next bytes rest a b (h .0) (h .1) (h .2) (read next rest) (t next rest)
 
-selector-told : (f : Branch) (n k at : ℕ) → ((i : ℕ) → TellsAt n i (f i)) → (bytes : List ℕ) → Told n k at (0x22 ∷ bytes) (selectorAt f n k at bytes)
+selector-told : (f : Branch) (n k at : ℕ) → ((i : ℕ) → TellsAt n i (f i)) → (bytes : List ℕ) → ToldTree n k at (0x22 ∷ bytes) (selectorAt f n k at bytes)
 unfolding selectorAt operand
 selector-told f n k at h [] = tt
 selector-told f n k at h (i ∷ rest) =
-    cond-has (Told n k at (0x22 ∷ i ∷ rest)) (countOut i n) (λ _. tt)
+    cond-has (ToldTree n k at (0x22 ∷ i ∷ rest)) (countOut i n) (λ _. tt)
     (λ c.
-    cond-has (Told n k at (0x22 ∷ i ∷ rest)) (leb i k) (λ _. tt)
+    cond-has (ToldTree n k at (0x22 ∷ i ∷ rest)) (leb i k) (λ _. tt)
     (λ l. branches-told n k i at (f i) (nleb→lt i k l) (count-in i n (test-no (countOut i n) c) .1) (h i) rest))
 
-from-told : (f : Branch) (n k at : ℕ) → ((i : ℕ) → TellsAt n i (f i)) → (bytes : List ℕ) → Told n k at bytes (treeFrom f n k at bytes)
+from-told : (f : Branch) (n k at : ℕ) → ((i : ℕ) → TellsAt n i (f i)) → (bytes : List ℕ) → ToldTree n k at bytes (treeFrom f n k at bytes)
 unfolding treeFrom treeBytes Ordered
 from-told f n k at h [] = tt
 from-told f n k at h (b ∷ rest) =
-    cond-has (Told n k at (b ∷ rest)) (eqb b 0x23)
+    cond-has (ToldTree n k at (b ∷ rest)) (eqb b 0x23)
     (λ e. (ap (λ x. x ∷ rest) (eqb→eq b 0x23 e), refl, omega arith))
     (λ _.
-    cond-has (Told n k at (b ∷ rest)) (eqb b 0x24)
+    cond-has (ToldTree n k at (b ∷ rest)) (eqb b 0x24)
     (λ e. (ap (λ x. x ∷ rest) (eqb→eq b 0x24 e), refl, omega arith))
     (λ _.
-    cond-has (Told n k at (b ∷ rest)) (eqb b 0x22)
+    cond-has (ToldTree n k at (b ∷ rest)) (eqb b 0x22)
     (λ e. rw (eqb→eq b 0x22 e) (selector-told f n k at h rest))
     (λ _. tt)))
 
@@ -109,7 +109,7 @@ unfolding treeWithin
 within-told zero n k at bytes = tt
 within-told (suc d) n k at bytes = from-told (treeWithin d n) n k at (λ i. within-told d n i) bytes
 
-pub tree-told : (n k at : ℕ) (bytes : List ℕ) → Told n k at bytes (treeAt n k at bytes)
+pub tree-told : (n k at : ℕ) (bytes : List ℕ) → ToldTree n k at bytes (treeAt n k at bytes)
 unfolding treeAt
 tree-told n k at bytes = within-told (suc (n - k)) n k at bytes
 

@@ -18,12 +18,13 @@ use Rattle.table.proofs.Bits.{sum-cong, ofBits-bit}
 use Rattle.table.proofs.Trees.{reduced-follow}
 use Rattle.stage.specs.Written.{stageTrees, stageOf, firstOut, writtenOf, bufferAfter}
 use Rattle.stage.specs.Read.{readStage}
-use Rattle.stage.specs.Reply.{tableOf, tablesOf, replyOf}
+use Rattle.stage.specs.Reply.{tableOf, stageTables, replyToStage}
 use Rattle.stage.specs.RoundTrip.{bytesWritten, givenBack, RoundTrip}
 use Rattle.stage.proofs.Lengths.{trees-size}
-use Rattle.stage.proofs.Ranges.{Sized, sizes-in}
+use Rattle.sheet.specs.Inner.Sized.{Sized}
+use Rattle.sheet.proofs.Sizes.{sizes-in}
 use Rattle.stage.proofs.Sheets.{taken-in, written-back}
-use Rattle.stage.proofs.Writing.{tables-in}
+use Rattle.stage.proofs.Written.{tables-in}
 
 -- the tables of the reduced trees are the tables they were made of
 table-back : (n t : ℕ) → t < 2 ^ (2 ^ n) → tableOf n (reduced n 0 t) ≡ t
@@ -67,12 +68,12 @@ module _ (n m : ℕ) (tables buffer : List ℕ) (four : length tables ≡ maxWir
   in-range : (j : ℕ) → j < m → getD tables j 0 < 2 ^ (2 ^ n)
   in-range = tables-in n m tables (w .within)
 
-  tables-same : tablesOf n (stageTrees n m tables) ≡ tabulate maxWires (λ j. cond (ltb j m) (getD tables j 0) 0)
-  unfolding tablesOf stageTrees
+  tables-same : stageTables n (stageTrees n m tables) ≡ tabulate maxWires (λ j. cond (ltb j m) (getD tables j 0) 0)
+  unfolding stageTables stageTrees
   tables-same = rw (tables-back n (take m tables) (taken-in n m tables (w .sizes) fits in-range)) (simp (take-entry m tables))
 
-  back : replyOf (readStage (bytesWritten n m tables buffer)) ≡ givenBack n m tables
-  unfolding replyOf
+  back : replyToStage (readStage (bytesWritten n m tables buffer)) ≡ givenBack n m tables
+  unfolding replyToStage
   back =
       rw (part, written-back n m tables (w .sizes) fits in-range, tables-same, trees-size n m tables fits)
 

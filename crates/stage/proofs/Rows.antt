@@ -2,16 +2,18 @@
 use Prim.Native.Nat.{ℕ}
 use mathlib.Core.Path.{_≡_, refl}
 use mathlib.Core.List.{List, [], _∷_}
+use Rattle.table.specs.Drawing.{drawnCells, got, noStage}
 use Rattle.base.specs.Cases.{accepting, acceptedOutcome, refusedCase}
 use Rattle.base.specs.Refusals.{refusalAt, cutShort, unknown, outOfRange, trailing, outOfTurn, notAscending, shortBuffer}
 use Rattle.base.specs.Lowest.{lowest}
 use Rattle.table.specs.Bits.{bit, sum, ofBits, tabulate}
 use Rattle.table.specs.Cells.{low, high}
 use Rattle.table.specs.Tree.{con, sel, follow, selectors, reduced}
-use Rattle.stage.specs.Bytes.{treeBytes, wireBytes, stageBytes, size}
+use Rattle.stage.specs.Bytes.{treeBytes, wiresBytes, stageBytes}
+use Rattle.stage.specs.Trees.{size}
 use Rattle.stage.specs.Written.{stageTrees, stageOf, firstOut, writtenOf}
-use Rattle.stage.specs.Read.{andThen, misplaced, dueNumber, due, operand, branchesAt, selectorAt, treeFrom, treeWithin, treeAt, wireAt, wiresAt, nothingAfter, endAt, got, refused, closed, readStage}
-use Rattle.stage.specs.Reply.{tableOf, tablesOf}
+use Rattle.stage.specs.Read.{andThen, misplaced, dueNumber, due, operand, branchesAt, selectorAt, treeFrom, treeWithin, treeAt, wireAt, wiresAt, nothingAfter, endAt, closed, readStage}
+use Rattle.stage.specs.Reply.{tableOf, stageTables}
 
 -- all meanings of reading, and of writing, open
 unfoldable reading : ℕ
@@ -19,7 +21,7 @@ unfolding andThen misplaced dueNumber due operand branchesAt selectorAt treeFrom
 reading = 0
 
 unfoldable writing : ℕ
-unfolding lowest low high reduced treeBytes wireBytes stageBytes stageTrees stageOf firstOut writtenOf
+unfolding lowest low high reduced treeBytes wiresBytes stageBytes stageTrees stageOf firstOut writtenOf
 writing = 0
 
 -- document 01, "Bench sheets": the stage that the program prints for sheet A
@@ -31,64 +33,58 @@ pub a-read : readStage stage-a ≡ got 2 2 (sel 1 (con 1) (con 0) ∷ sel 2 (con
 unfolding reading
 a-read = refl
 
-pub a-tables : tablesOf 2 (sel 1 (con 1) (con 0) ∷ sel 2 (con 0) (con 1) ∷ []) ≡ 3 ∷ 10 ∷ 0 ∷ 0 ∷ []
-unfolding tablesOf tableOf ofBits sum tabulate follow bit
+pub a-tables : stageTables 2 (sel 1 (con 1) (con 0) ∷ sel 2 (con 0) (con 1) ∷ []) ≡ 3 ∷ 10 ∷ 0 ∷ 0 ∷ []
+unfolding stageTables tableOf ofBits sum tabulate follow bit
 a-tables = refl
 
 pub a-cells : size (sel 1 (con 1) (con 0) ∷ sel 2 (con 0) (con 1) ∷ []) ≡ 2
-unfolding size selectors
+unfolding drawnCells selectors
 a-cells = refl
 
 pub a-bytes : stageOf 2 2 (3 ∷ 10 ∷ 0 ∷ 0 ∷ []) ≡ stage-a
 unfolding writing
 a-bytes = refl
 
--- its writing, in a buffer that lacks one byte and in one that has just enough
-pub a-short : writtenOf 2 2 (3 ∷ 10 ∷ 0 ∷ 0 ∷ []) 15 ≡ refusedCase (refusalAt shortBuffer 16)
+-- its writing: in a buffer that lacks one byte, in one that has just enough, and with a table that has a bit too many
+pub a-written : (writtenOf 2 2 (3 ∷ 10 ∷ 0 ∷ 0 ∷ []) 15 ≡ refusedCase (refusalAt shortBuffer 16))
+    × (writtenOf 2 2 (3 ∷ 10 ∷ 0 ∷ 0 ∷ []) 16 ≡ accepting acceptedOutcome 16)
+    × (writtenOf 2 2 (3 ∷ 16 ∷ 0 ∷ 0 ∷ []) 16 ≡ refusedCase (refusalAt outOfRange 1))
 unfolding writing
-a-short = refl
-
-pub a-fits : writtenOf 2 2 (3 ∷ 10 ∷ 0 ∷ 0 ∷ []) 16 ≡ accepting acceptedOutcome 16
-unfolding writing
-a-fits = refl
-
-pub too-large : writtenOf 2 2 (3 ∷ 16 ∷ 0 ∷ 0 ∷ []) 16 ≡ refusedCase (refusalAt outOfRange 1)
-unfolding writing
-too-large = refl
+a-written = (refl, refl, refl)
 
 -- the refusals of a stage sheet
-pub empty-sheet : readStage [] ≡ refused (refusalAt cutShort 0)
+pub empty-sheet : readStage [] ≡ noStage (refusalAt cutShort 0)
 unfolding reading
 empty-sheet = refl
 
-pub unknown-byte : readStage (0x25 ∷ []) ≡ refused (refusalAt unknown 0)
+pub unknown-byte : readStage (0x25 ∷ []) ≡ noStage (refusalAt unknown 0)
 unfolding reading
 unknown-byte = refl
 
-pub lone-end : readStage (0x2F ∷ []) ≡ refused (refusalAt outOfTurn 0)
+pub lone-end : readStage (0x2F ∷ []) ≡ noStage (refusalAt outOfTurn 0)
 unfolding reading
 lone-end = refl
 
-pub sizes-range : readStage (0x20 ∷ 5 ∷ 1 ∷ []) ≡ refused (refusalAt outOfRange 0)
+pub sizes-range : readStage (0x20 ∷ 5 ∷ 1 ∷ []) ≡ noStage (refusalAt outOfRange 0)
 unfolding reading
 sizes-range = refl
 
-pub wire-range : readStage (0x20 ∷ 1 ∷ 1 ∷ 0x21 ∷ 1 ∷ []) ≡ refused (refusalAt outOfRange 3)
+pub wire-range : readStage (0x20 ∷ 1 ∷ 1 ∷ 0x21 ∷ 1 ∷ []) ≡ noStage (refusalAt outOfRange 3)
 unfolding reading
 wire-range = refl
 
-pub wire-turn : readStage (0x20 ∷ 1 ∷ 2 ∷ 0x21 ∷ 1 ∷ []) ≡ refused (refusalAt outOfTurn 3)
+pub wire-turn : readStage (0x20 ∷ 1 ∷ 2 ∷ 0x21 ∷ 1 ∷ []) ≡ noStage (refusalAt outOfTurn 3)
 unfolding reading
 wire-turn = refl
 
-pub descending : readStage (0x20 ∷ 2 ∷ 1 ∷ 0x21 ∷ 0 ∷ 0x22 ∷ 2 ∷ 0x22 ∷ 1 ∷ []) ≡ refused (refusalAt notAscending 7)
+pub descending : readStage (0x20 ∷ 2 ∷ 1 ∷ 0x21 ∷ 0 ∷ 0x22 ∷ 2 ∷ 0x22 ∷ 1 ∷ []) ≡ noStage (refusalAt notAscending 7)
 unfolding reading
 descending = refl
 
-pub no-second-tree : readStage (0x20 ∷ 1 ∷ 1 ∷ 0x21 ∷ 0 ∷ 0x22 ∷ 1 ∷ 0x23 ∷ []) ≡ refused (refusalAt cutShort 8)
+pub no-second-tree : readStage (0x20 ∷ 1 ∷ 1 ∷ 0x21 ∷ 0 ∷ 0x22 ∷ 1 ∷ 0x23 ∷ []) ≡ noStage (refusalAt cutShort 8)
 unfolding reading
 no-second-tree = refl
 
-pub after-end : readStage (0x20 ∷ 1 ∷ 1 ∷ 0x21 ∷ 0 ∷ 0x23 ∷ 0x2F ∷ 0 ∷ []) ≡ refused (refusalAt trailing 7)
+pub after-end : readStage (0x20 ∷ 1 ∷ 1 ∷ 0x21 ∷ 0 ∷ 0x23 ∷ 0x2F ∷ 0 ∷ []) ≡ noStage (refusalAt trailing 7)
 unfolding reading
 after-end = refl

@@ -9,18 +9,21 @@ use lib.Dec.{leb, eqb, eqb→eq}
 use lib.ListN.{length, getD, take, length-append}
 use lib.Seq.{getD-take, length-take-le}
 use borrow.Author.Tests.{eq-eqb, lt-leb}
+use Rattle.base.specs.Each.{Each}
 use Rattle.base.specs.declared.Refusal.{Refusal}
 use Rattle.base.specs.Refusals.{refusalAt, outOfTurn}
 use Rattle.sheet.specs.Limits.{sizesOut}
 use Rattle.base.proofs.Tests.{cond-has, test-no}
 use Rattle.table.specs.Tree.{Tree, Ordered, reduced}
 use Rattle.table.proofs.Trees.{reduced-ordered}
-use Rattle.stage.specs.Bytes.{treeBytes, wireBytes, stageBytes, AllOrdered}
+use Rattle.stage.specs.Bytes.{treeBytes, wiresBytes, stageBytes}
 use Rattle.stage.specs.Written.{stageTrees, stageOf}
-use Rattle.stage.specs.Read.{Read, taken, fault, andThen, known, misplaced, dueNumber, due, operand, treeAt, wireAt, wiresAt, nothingAfter, endAt, StageSheet, got, refused, closed, readStage}
+use Rattle.stage.specs.Read.{Read, taken, fault, andThen, known, misplaced, dueNumber, due, operand, treeAt, wireAt, wiresAt, nothingAfter, endAt, closed, readStage}
+use Rattle.table.specs.Drawing.{StageSheet, got, noStage}
 use Rattle.stage.proofs.Lengths.{trees-length}
-use Rattle.stage.proofs.Ranges.{Sized, sizes-in, sizes-fit}
-use Rattle.stage.proofs.Reading.{Told, tree-told, tree-back}
+use Rattle.sheet.specs.Inner.Sized.{Sized}
+use Rattle.sheet.proofs.Sizes.{sizes-in, sizes-fit}
+use Rattle.stage.proofs.Reading.{ToldTree, tree-told, tree-back}
 
 -- a command that is due: it is refused, or it stands there
 module _ {A : Type 0} (P : A → Type 0) (stop : Refusal → A) (want at : ℕ) (next : List ℕ → A) (refuses : (f : Refusal) → P (stop f)) where
@@ -37,7 +40,7 @@ abbrev pub ToldWire : ℕ → ℕ → ℕ → List ℕ → Read Tree → Type 0
 ToldWire n j at bytes (taken x next rest) = (bytes ≡ 0x21 ∷ j ∷ treeBytes x ++ rest) × (next ≡ at + 2 + length (treeBytes x)) × Ordered n 0 x
 ToldWire n j at bytes (fault f) = Unit {0}
 
-tree-of-wire : (n j at : ℕ) (rest : List ℕ) (x : Read Tree) → Told n 0 (at + 2) rest x → ToldWire n j at (0x21 ∷ j ∷ rest) x
+tree-of-wire : (n j at : ℕ) (rest : List ℕ) (x : Read Tree) → ToldTree n 0 (at + 2) rest x → ToldWire n j at (0x21 ∷ j ∷ rest) x
 tree-of-wire n j at rest (fault f) h = tt
 tree-of-wire n j at rest (taken x next q) h = (ap (λ (l : List ℕ). 0x21 ∷ j ∷ l) (h .0), h .1, h .2)
 
@@ -67,23 +70,23 @@ wire-back x n m j at q l o = rw (lt-leb m j l, eq-eqb j j refl) (tree-back x n 0
 -- the wires from j on
 abbrev pub ToldWires : ℕ → ℕ → ℕ → ℕ → List ℕ → Read (List Tree) → Type 0
 ToldWires left n j at bytes (taken xs next rest) =
-    (bytes ≡ wireBytes j xs ++ rest) × (next ≡ at + length (wireBytes j xs)) × (length xs ≡ left) × AllOrdered n xs
+    (bytes ≡ wiresBytes j xs ++ rest) × (next ≡ at + length (wiresBytes j xs)) × (length xs ≡ left) × Each (Ordered n 0) xs
 ToldWires left n j at bytes (fault f) = Unit {0}
 
 more-told : (left n j at : ℕ) (x : Tree) (next : ℕ) (bytes rest : List ℕ) → ToldWire n j at bytes (taken x next rest)
     → (y : Read (List Tree)) → ToldWires left n (suc j) next rest y
     → ToldWires (suc left) n j at bytes (andThen y (λ xs at″ rest″. taken (x ∷ xs) at″ rest″))
-unfolding andThen wireBytes AllOrdered
+unfolding andThen wiresBytes
 more-told left n j at x next bytes rest h (fault f) t = tt
 more-told left n j at x next bytes rest h (taken xs past q) t = (
-  h .0 ∙ ap (λ (l : List ℕ). 0x21 ∷ j ∷ l) (ap (λ (l : List ℕ). treeBytes x ++ l) (t .0) ∙ sym (append-assoc (treeBytes x) (wireBytes (suc j) xs) q)),
-  omega (arith, h .1, t .1, length-append (treeBytes x) (wireBytes (suc j) xs)),
+  h .0 ∙ ap (λ (l : List ℕ). 0x21 ∷ j ∷ l) (ap (λ (l : List ℕ). treeBytes x ++ l) (t .0) ∙ sym (append-assoc (treeBytes x) (wiresBytes (suc j) xs) q)),
+  omega (arith, h .1, t .1, length-append (treeBytes x) (wiresBytes (suc j) xs)),
   ap suc (t .2),
   (h .2, t .3),
 )
 
 pub wires-told : (left n m j at : ℕ) (bytes : List ℕ) → ToldWires left n j at bytes (wiresAt left n m j at bytes)
-unfolding wiresAt andThen wireBytes AllOrdered
+unfolding wiresAt andThen wiresBytes
 wires-told zero n m j at bytes = (refl, omega arith, refl, tt)
 wires-told (suc left) n m j at bytes =
     go (wireAt n m j at bytes) (wire-told n m j at bytes) (λ next rest. wires-told left n m (suc j) next rest)
@@ -93,12 +96,12 @@ wires-told (suc left) n m j at bytes =
     go (fault f) h t = tt
     go (taken x next rest) h t = more-told left n j at x next bytes rest h (wiresAt left n m (suc j) next rest) (t next rest)
 
-wires-back : (xs : List Tree) (n m j at : ℕ) (q : List ℕ) → j + length xs ≤ m → AllOrdered n xs
-    → wiresAt (length xs) n m j at (wireBytes j xs ++ q) ≡ taken xs (at + length (wireBytes j xs)) q
-unfolding wiresAt wireBytes AllOrdered andThen
+wires-back : (xs : List Tree) (n m j at : ℕ) (q : List ℕ) → j + length xs ≤ m → Each (Ordered n 0) xs
+    → wiresAt (length xs) n m j at (wiresBytes j xs ++ q) ≡ taken xs (at + length (wiresBytes j xs)) q
+unfolding wiresAt wiresBytes andThen
 wires-back [] n m j at q l o = ap (λ z. taken [] z q) (omega arith)
 wires-back (x ∷ xs) n m j at q l o =
-    let y = wireBytes (suc j) xs in
+    let y = wiresBytes (suc j) xs in
     let past = at + 2 + length (treeBytes x) in
     let a = append-assoc (treeBytes x) y q in
     let e = wire-back x n m j at (y ++ q) (omega arith) (o .0) in
@@ -107,22 +110,23 @@ wires-back (x ∷ xs) n m j at q l o =
     rw (a, e, f, len)
 
 -- (2) every accepted sheet is the bytes of its sizes and of one ordered tree for each wire
-pub record Stage (bytes : List ℕ) (n m : ℕ) (trees : List Tree) : Type 0 where
+pub record SheetOf (bytes : List ℕ) (n m : ℕ) (trees : List Tree) : Type 0 where
   pub is : bytes ≡ stageBytes n m trees
   pub sizes : Sized n m
   pub one-each : length trees ≡ m
-  pub ordered : AllOrdered n trees
+  pub ordered : Each (Ordered n 0) trees
 
-abbrev ToldSheet : List ℕ → StageSheet → Type 0
-ToldSheet bytes (got n m trees) = Stage bytes n m trees
-ToldSheet bytes (refused f) = Unit {0}
+abbrev ToldSheet : List ℕ → StageSheet Tree → Type 0
+ToldSheet bytes (got n m trees) = SheetOf bytes n m trees
+ToldSheet bytes (noStage f) = Unit {0}
 
-end-told : (n m at : ℕ) (trees : List Tree) (bytes rest : List ℕ) → (rest ≡ 0x2F ∷ [] → Stage bytes n m trees) → ToldSheet bytes (endAt refused (got n m trees) at rest)
+end-told : (n m at : ℕ) (trees : List Tree) (bytes rest : List ℕ) → (rest ≡ 0x2F ∷ [] → SheetOf bytes n m trees)
+    → ToldSheet bytes (endAt noStage (got n m trees) at rest)
 unfolding endAt nothingAfter
 end-told n m at trees bytes rest h =
-    due-has (ToldSheet bytes) refused 0x2F at (nothingAfter refused (got n m trees) at) (λ _. tt) rest (λ q e. go q e)
+    due-has (ToldSheet bytes) noStage 0x2F at (nothingAfter noStage (got n m trees) at) (λ _. tt) rest (λ q e. go q e)
   where
-    go : (q : List ℕ) → rest ≡ 0x2F ∷ q → ToldSheet bytes (nothingAfter refused (got n m trees) at q)
+    go : (q : List ℕ) → rest ≡ 0x2F ∷ q → ToldSheet bytes (nothingAfter noStage (got n m trees) at q)
     go [] e = h e
     go (b ∷ q) e = tt
 
@@ -133,7 +137,7 @@ closed-told n m bytes rest z e (fault f) h = tt
 closed-told n m bytes rest z e (taken trees at q) h =
     end-told n m at trees bytes q
     (λ d. record {
-      is = e ∙ ap (λ (l : List ℕ). 0x20 ∷ n ∷ m ∷ l) (h .0 ∙ ap (λ (l : List ℕ). wireBytes 0 trees ++ l) d);
+      is = e ∙ ap (λ (l : List ℕ). 0x20 ∷ n ∷ m ∷ l) (h .0 ∙ ap (λ (l : List ℕ). wiresBytes 0 trees ++ l) d);
       sizes = z;
       one-each = h .2;
       ordered = h .3;
@@ -141,12 +145,12 @@ closed-told n m bytes rest z e (taken trees at q) h =
 
 sheet-told : (bytes : List ℕ) → ToldSheet bytes (readStage bytes)
 unfolding readStage operand
-sheet-told bytes = due-has (ToldSheet bytes) refused 0x20 0 _ (λ _. tt) bytes (λ rest e. rw e (sizes rest))
+sheet-told bytes = due-has (ToldSheet bytes) noStage 0x20 0 _ (λ _. tt) bytes (λ rest e. rw e (sizes rest))
   where
     sizes : (rest : List ℕ)
         → ToldSheet (0x20 ∷ rest)
-        (operand refused 0
-        (λ n. operand refused 0 (λ m rest. cond (sizesOut n m) (refused (refusalAt 3 0)) (closed n m (wiresAt m n m 0 3 rest))))
+        (operand noStage 0
+        (λ n. operand noStage 0 (λ m rest. cond (sizesOut n m) (noStage (refusalAt 3 0)) (closed n m (wiresAt m n m 0 3 rest))))
         rest)
     sizes [] = tt
     sizes (n ∷ []) = tt
@@ -154,20 +158,19 @@ sheet-told bytes = due-has (ToldSheet bytes) refused 0x20 0 _ (λ _. tt) bytes (
         cond-has (ToldSheet (0x20 ∷ n ∷ m ∷ rest)) (sizesOut n m) (λ _. tt)
         (λ o. closed-told n m (0x20 ∷ n ∷ m ∷ rest) rest (sizes-in n m (test-no (sizesOut n m) o)) refl (wiresAt m n m 0 3 rest) (wires-told m n m 0 3 rest))
 
-pub accepted : (bytes : List ℕ) (n m : ℕ) (trees : List Tree) → readStage bytes ≡ got n m trees → Stage bytes n m trees
+pub accepted : (bytes : List ℕ) (n m : ℕ) (trees : List Tree) → readStage bytes ≡ got n m trees → SheetOf bytes n m trees
 accepted bytes n m trees e = subst (ToldSheet bytes) e (sheet-told bytes)
 
 -- (1) the bytes of ordered trees, one for each wire, are read as those trees
-pub read-back : (n m : ℕ) (trees : List Tree) → Sized n m → length trees ≡ m → AllOrdered n trees → readStage (stageBytes n m trees) ≡ got n m trees
+pub read-back : (n m : ℕ) (trees : List Tree) → Sized n m → length trees ≡ m → Each (Ordered n 0) trees → readStage (stageBytes n m trees) ≡ got n m trees
 unfolding readStage due dueNumber operand stageBytes closed endAt nothingAfter
 read-back n m trees z l o =
     let w = wires-back trees n m 0 3 (0x2F ∷ []) (omega arith) o in
-    let w′ : wiresAt m n m 0 3 (wireBytes 0 trees ++ 0x2F ∷ []) ≡ taken trees (3 + length (wireBytes 0 trees)) (0x2F ∷ []) = rw l at w in
+    let w′ : wiresAt m n m 0 3 (wiresBytes 0 trees ++ 0x2F ∷ []) ≡ taken trees (3 + length (wiresBytes 0 trees)) (0x2F ∷ []) = rw l at w in
     rw (sizes-fit n m z, w′)
 
 -- (3) what is written is read back as the trees written (the whole round trip: proofs/RoundTrip)
-pub trees-ordered : (n : ℕ) (ts : List ℕ) → ((j : ℕ) → j < length ts → getD ts j 0 < 2 ^ (2 ^ n)) → AllOrdered n (map (reduced n 0) ts)
-unfolding AllOrdered
+pub trees-ordered : (n : ℕ) (ts : List ℕ) → ((j : ℕ) → j < length ts → getD ts j 0 < 2 ^ (2 ^ n)) → Each (Ordered n 0) (map (reduced n 0) ts)
 trees-ordered n [] h = tt
 trees-ordered n (t ∷ ts) h = (reduced-ordered n n 0 t (zero-add n) (h 0 (omega arith)), trees-ordered n ts (λ j l. h (suc j) (omega arith)))
 

@@ -1,8 +1,9 @@
 -- Document 01, "Stage sheet": the bytes of a stage, one decision tree for each wire.
-use Prim.Native.Nat.{ℕ, zero, suc, _+_}
+use Prim.Native.Nat.{ℕ, zero, suc, _+_, _-_, _*_}
 use mathlib.Core.Bool.{cond}
 use mathlib.Core.List.{List, [], _∷_, _++_}
 use lib.Dec.{eqb}
+use Rattle.sheet.specs.Limits.{maxWires, maxPatterns}
 use Rattle.table.specs.Tree.{Tree, con, sel, Ordered, selectors}
 
 -- a constant is one byte
@@ -14,25 +15,23 @@ unfoldable pub treeBytes : Tree → List ℕ
 treeBytes (con b) = constantByte b ∷ []
 treeBytes (sel k z o) = 0x22 ∷ k ∷ treeBytes z ++ treeBytes o
 
+-- wire j: 21 and its number, then its tree
+abbrev pub wireBytes : ℕ → Tree → List ℕ
+wireBytes j x = 0x21 ∷ j ∷ treeBytes x
+
 -- the wires from j on, each under its own number
-unfoldable pub wireBytes : ℕ → List Tree → List ℕ
-wireBytes j [] = []
-wireBytes j (x ∷ xs) = 0x21 ∷ j ∷ treeBytes x ++ wireBytes (suc j) xs
+unfoldable pub wiresBytes : ℕ → List Tree → List ℕ
+wiresBytes j [] = []
+wiresBytes j (x ∷ xs) = wireBytes j x ++ wiresBytes (suc j) xs
 
 -- the head with the sizes, the wires, and the end
 unfoldable pub stageBytes : ℕ → ℕ → List Tree → List ℕ
-stageBytes n m trees = 0x20 ∷ n ∷ m ∷ wireBytes 0 trees ++ 0x2F ∷ []
+stageBytes n m trees = 0x20 ∷ n ∷ m ∷ wiresBytes 0 trees ++ 0x2F ∷ []
 
--- in no tree does a branch come back to an input at or before one that it has passed
-unfoldable pub AllOrdered : ℕ → List Tree → Type 0
-AllOrdered n [] = Unit {0}
-AllOrdered n (x ∷ xs) = Ordered n 0 x × AllOrdered n xs
+-- no stage has more cells: a tree has fewer selectors than there are patterns
+abbrev pub mostCells : ℕ
+mostCells = maxWires * (maxPatterns - 1)
 
--- the selectors in all trees
-unfoldable pub size : List Tree → ℕ
-size [] = zero
-size (x ∷ xs) = selectors x + size xs
-
--- the length of the longest stage: four wires of 15 selectors each
+-- the length of the longest stage
 abbrev pub longestStage : ℕ
-longestStage = 196
+longestStage = 4 + 3 * maxWires + 3 * mostCells

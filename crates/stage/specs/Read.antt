@@ -1,5 +1,6 @@
 -- Document 01, "Stage sheet" and "Refusals": what reading a stage sheet gives, one command after the other.
--- For one command the refusals come in the order 2, 5, 1, 3, 11; after the end comes 4. A refusal's place is where its command starts, but 4 names the byte that is too much.
+-- For one command the refusals come in the order 2, 5, 1, 3, 11; after the end comes 4. A refusal's place is where its command starts, but 4 names the byte
+-- that is too much.
 use Prim.Native.Nat.{ℕ, zero, suc, _+_, _-_}
 use mathlib.Core.Bool.{Bool, cond, _||_}
 use mathlib.Core.List.{List, [], _∷_}
@@ -8,6 +9,7 @@ use lib.ListN.{drop}
 use Rattle.base.specs.Refusals.{refusalAt, cutShort, unknown, outOfRange, trailing, outOfTurn, notAscending}
 use Rattle.base.specs.declared.Refusal.{Refusal}
 use Rattle.sheet.specs.Limits.{countOut, sizesOut}
+use Rattle.table.specs.Drawing.{StageSheet, got, noStage}
 use Rattle.table.specs.Tree.{Tree, con, sel}
 
 -- what reading at a place takes, with the place and the bytes after it; or the refusal
@@ -94,19 +96,15 @@ nothingAfter stop whole at (b ∷ rest) = stop (refusalAt trailing (at + 1))
 unfoldable pub endAt : {A : Type 0} → (Refusal → A) → A → ℕ → List ℕ → A
 endAt stop whole at = due stop 0x2F at (nothingAfter stop whole at)
 
--- what a stage sheet holds: its sizes and one tree for each wire; or the refusal
-pub data StageSheet : Type 0 where
-  got : ℕ → ℕ → List Tree → StageSheet
-  refused : Refusal → StageSheet
-
-unfoldable pub closed : ℕ → ℕ → Read (List Tree) → StageSheet
-closed n m (taken trees at rest) = endAt refused (got n m trees) at rest
-closed n m (fault f) = refused f
+-- the end after the wires
+unfoldable pub closed : ℕ → ℕ → Read (List Tree) → StageSheet Tree
+closed n m (taken trees at rest) = endAt noStage (got n m trees) at rest
+closed n m (fault f) = noStage f
 
 -- a whole stage sheet: the head with its sizes, a tree for each wire, and the end
-unfoldable pub readStage : List ℕ → StageSheet
+unfoldable pub readStage : List ℕ → StageSheet Tree
 readStage =
-    due refused 0x20 0
-    (operand refused 0
-    (λ n. operand refused 0
-    (λ m rest. cond (sizesOut n m) (refused (refusalAt outOfRange 0)) (closed n m (wiresAt m n m 0 3 rest)))))
+    due noStage 0x20 0
+    (operand noStage 0
+    (λ n. operand noStage 0
+    (λ m rest. cond (sizesOut n m) (noStage (refusalAt outOfRange 0)) (closed n m (wiresAt m n m 0 3 rest)))))

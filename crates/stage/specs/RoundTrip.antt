@@ -9,9 +9,8 @@ use lib.ListN.{length, getD, take}
 use Rattle.base.specs.Cases.{acceptedCase, isRefused}
 use Rattle.sheet.specs.Limits.{maxWires}
 use Rattle.table.specs.Bits.{tabulate}
-use Rattle.stage.specs.Cases.{StageReply}
 use Rattle.stage.specs.Read.{readStage}
-use Rattle.stage.specs.Reply.{replyOf}
+use Rattle.stage.specs.Reply.{StageReply, replyToStage}
 use Rattle.stage.specs.Written.{stageCells, writtenOf, bufferAfter}
 
 -- the first bytes of the buffer that the writer leaves, as many as it says the stage has
@@ -32,4 +31,4 @@ givenBack n m tables =
 -- whatever is handed to the writer: unless it refuses, the reader gives it back
 pub record RoundTrip : Type 0 where
   pub same : (n m : ℕ) (tables buffer : List ℕ) → length tables ≡ maxWires → T (not (isRefused (writtenOf n m tables (length buffer))))
-      → replyOf (readStage (bytesWritten n m tables buffer)) ≡ givenBack n m tables
+      → replyToStage (readStage (bytesWritten n m tables buffer)) ≡ givenBack n m tables

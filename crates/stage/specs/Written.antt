@@ -1,28 +1,21 @@
 -- Document 01, "Stage sheet" and "Refusals": what the stage writer answers, and what the lent buffer holds then.
 use Prim.Native.Nat.{ℕ, _^_}
-use mathlib.Core.Bool.{Bool, cond}
-use mathlib.Core.List.{List, _∷_, _++_, map}
-use lib.Dec.{ltb, leb}
+use mathlib.Core.Bool.{cond}
+use mathlib.Core.List.{List, _++_, map}
+use lib.Dec.{ltb}
 use lib.ListN.{length, getD, take, drop}
 use Rattle.base.specs.Cases.{Case, accepting, acceptedOutcome, refusedCase, isRefused}
 use Rattle.base.specs.Refusals.{refusalAt, outOfRange, shortBuffer}
-use Rattle.sheet.specs.Limits.{sizesOut}
+use Rattle.sheet.specs.Limits.{sizesOut, isBeyond}
 use Rattle.base.specs.Lowest.{lowest}
 use Rattle.table.specs.Bits.{sum}
 use Rattle.table.specs.Cells.{cells}
 use Rattle.table.specs.Tree.{Tree, reduced}
-use Rattle.stage.specs.Bytes.{treeBytes, wireBytes, stageBytes}
+use Rattle.stage.specs.Bytes.{stageBytes}
 
 -- the trees that are written: the reduced tree of each of the first m tables; the other tables have no part in it
 unfoldable pub stageTrees : ℕ → ℕ → List ℕ → List Tree
 stageTrees n m tables = map (reduced n 0) (take m tables)
-
--- wire j's part of a stage, and all of them
-unfoldable pub wireOf : ℕ → ℕ → ℕ → List ℕ
-wireOf n j t = 0x21 ∷ j ∷ treeBytes (reduced n 0 t)
-
-unfoldable pub wiresOf : ℕ → ℕ → List ℕ → List ℕ
-wiresOf n m tables = wireBytes 0 (stageTrees n m tables)
 
 -- the bytes of the stage
 unfoldable pub stageOf : ℕ → ℕ → List ℕ → List ℕ
@@ -32,13 +25,9 @@ stageOf n m tables = stageBytes n m (stageTrees n m tables)
 unfoldable pub stageCells : ℕ → ℕ → List ℕ → ℕ
 stageCells n m tables = sum m (λ j. cells n (getD tables j 0))
 
--- a table with bits past the patterns of n inputs
-abbrev pub tableOut : ℕ → ℕ → Bool
-tableOut n t = leb (2 ^ (2 ^ n)) t
-
--- the first wire with such a table; m where there is none
+-- the first wire whose table has bits past the patterns of n inputs; m where there is none
 unfoldable pub firstOut : ℕ → ℕ → List ℕ → ℕ
-firstOut n m tables = lowest m (λ j. tableOut n (getD tables j 0))
+firstOut n m tables = lowest m (λ j. isBeyond (2 ^ n) (getD tables j 0))
 
 -- Refused are, in this order: sizes out of range, at place 0; a table with bits past the patterns, at its wire; a buffer without the room, at the
 -- room that is needed. Otherwise the answer is the stage's length.

@@ -1,6 +1,8 @@
-// Stage sheets: the decision tree of each wire as bytes, written from truth tables and read back.
-pub mod reader; // any stage sheet, to its tables and cells
-pub mod writer; // the reduced trees of a stage's tables
+// Stage sheets: the decision tree of each wire as bytes. Their meanings and laws are here; `stage_reader` and `stage_writer` have the code.
+use sheet::Sheet;
+
+// A tree tests fewer inputs than there are patterns, and no stage has more cells.
+pub const MOST_CELLS: usize = Sheet::WIRES * (Sheet::MAX_PATTERNS - 1);
 
 // No stage sheet that is accepted has more bytes, whoever wrote it.
-pub const LONGEST_STAGE: usize = 196;
+pub const LONGEST_STAGE: usize = 4 + 3 * Sheet::WIRES + 3 * MOST_CELLS;

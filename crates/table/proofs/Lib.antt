@@ -10,3 +10,4 @@ pub mod Entries
 pub mod Pairs
 pub mod Places
 pub mod BitColumns
+pub mod Drawings

@@ -3,3 +3,4 @@ pub mod Ranks
 pub mod Blocks
 pub mod Pairs
 pub mod Columns
+pub mod Drawing

@@ -2,5 +2,6 @@
 pub mod Bits
 pub mod Cells
 pub mod Tree
+pub mod Drawing
 pub mod Pick
 pub mod Inner

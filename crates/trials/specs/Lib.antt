@@ -1,3 +1,2 @@
--- What the input of the trials holds, and what its replies are made of.
-pub mod Records
-pub mod Lines
+-- Sizes of the trials' program.
+pub mod Window

@@ -1,16 +1,15 @@
 // A program for trials of the library: it reads records from standard input, calls the library on each, and prints the reply.
-// What it prints is compared with the replies of a solver that was written apart from the library, and is not proved here;
-// that the program is safe and ends is, that the numbers, parts and lengths of a record are what its bytes say, and what the parts of the reply lines put.
+// What it prints is compared with the replies of a solver that was written apart from the library, and is not proved here; that the program is safe and
+// ends is. What the bytes of a record say and what the parts of a reply put is proved in `drawn` and `report`.
 use libc::STDIN_FILENO;
 use libc::STDOUT_FILENO;
 ghost use Prim.Native.Nat.{_≤_};
 ghost use lib.ListN.{length};
+ghost use Rattle.trials.specs.Window.{nearlyFull, window};
 
-mod records; // the input
-mod lines; // parts of reply lines
 mod replies; // the reply to a record
 
-// Replies are written out once they come to this many bytes: a buffer of 65,536 then still has room for the longest, of at most 715.
+// Replies are written out once they come to this many bytes: a buffer of 65,536 then still has room for the longest.
 const NEARLY_FULL: usize = 60000;
 
 // Writes the first `count` bytes of a buffer.
@@ -22,7 +21,7 @@ fn write_first(out: &[u8], count: usize) {
 
 // Writes the replies out where they nearly fill the buffer, and hands back the place for the next.
 fn make_room(out: &[u8], used: usize) -> usize
-    ensures { λ r. ⌜ r ≤ 60000 ⌝ }
+    ensures { λ r. ⌜ r ≤ nearlyFull ⌝ }
 {
     if used < NEARLY_FULL {
         return used;
@@ -33,7 +32,7 @@ fn make_room(out: &[u8], used: usize) -> usize
 
 // Answers the records that are whole, and hands back the place after them.
 fn answer_whole(s: &[u8]) -> usize
-    requires { ⌜ length (now s) ≤ 65536 ⌝ }
+    requires { ⌜ length (now s) ≤ window ⌝ }
     ensures { λ r. do ⌜ r ≤ (← ⟦s.len()⟧ .entry) ⌝ }
 {
     let mut space = io::large_buffer();
@@ -41,7 +40,7 @@ fn answer_whole(s: &[u8]) -> usize
     let mut used: usize = 0;
     let mut at: usize = 0;
     while at < s.len() {
-        let next = at + records::record_length(s, at);
+        let next = at + drawn::records::record_length(s, at);
         if s.len() < next {
             break;
         }
@@ -75,8 +74,8 @@ fn move_to_front(window: &mut [u8], from: usize, end: usize) -> usize
     count
 }
 
-// A turn takes what the window holds of the input; the turns are bounded, since nothing says that an input ends. It ends where no record is whole: a record that is
-// cut short, or longer than the window, has no reply.
+// A turn takes what the window holds of the input; the turns are bounded, since nothing says that an input ends. It ends where no record is whole: a record
+// that is cut short, or longer than the window, has no reply.
 fn main() {
     let mut window = io::large_buffer();
     let mut held: usize = 0;

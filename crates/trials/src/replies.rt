@@ -1,57 +1,56 @@
 // The reply to a record: the library is called on what it holds, and its answer put as text into a lent buffer at a place; the place after it is handed back.
 // Inner functions: the main loop meets what `put_reply` requires, and the functions here what the others do: bounds that are there for the sums alone.
-use crate::lines::FILL;
-use crate::lines::put_counts;
-use crate::lines::put_kept;
-use crate::lines::put_named;
-use crate::lines::put_refusal;
-use crate::lines::put_refusal_line;
-use crate::lines::put_tables;
-use crate::records::length_at;
-use crate::records::part;
-use crate::records::u16_at;
-use crate::records::u32_at;
 use base::Refusal;
+use base::Verdict;
 use base::byte_at;
+use drawn::lines::FILL;
+use drawn::lines::put_kept;
+use drawn::lines::put_spaced;
+use drawn::lines::put_tables;
+use drawn::records::length_at;
+use drawn::records::part;
+use drawn::records::sets_at;
+use drawn::records::tables_at;
+use drawn::records::u32_at;
 use quote::Audited;
 use quote::Quoted;
 use relation::Relation;
-use report::text::put_byte;
-use report::text::put_hex_pairs;
-use report::text::put_text;
+use report::parts::put_counts;
+use report::parts::put_refusal;
+use report::parts::put_refusal_line;
+use report::parts::put_stage_pairs;
 use search::Mark;
-use stage::LONGEST_STAGE;
-use stage::reader::Answer;
-use stage::reader::StageRead;
-use stage::reader::read_stage;
-use stage::writer::Written;
-use stage::writer::write_stage;
-ghost use mathlib.Core.Path.{_≡_};
+use sheet::Sheet;
+use stage_reader::StageRead;
+use stage_reader::read_stage;
+use stage_writer::Written;
+use stage_writer::write_stage;
+use text::put_byte;
+use text::put_named;
+use text::put_text;
 ghost use Prim.Native.Nat.{_+_, _≤_};
 ghost use lib.ListN.{length};
-ghost use Rattle.stage.specs.Bytes.{longestStage};
-ghost use Rattle.trials.specs.Records.{numbersAt};
+ghost use Rattle.text.specs.Inner.Put.{lastPlace};
+ghost use Rattle.report.specs.Lines.{longestPairs, longestWord};
+ghost use Rattle.drawn.specs.Lines.{longestJudged, longestKept, longestReply};
+ghost use Rattle.drawn.specs.Records.{longestRecord};
 
-// The number of bytes that are shown of a stage: no more than the longest has.
-fn shown(k: usize) -> usize
-    ensures { λ r. ⌜ r ≤ longestStage ⌝ }
-{
-    if k < LONGEST_STAGE { k } else { LONGEST_STAGE }
-}
+// The most bytes of a lent buffer, whose length is a number of one byte.
+const MOST_ROOM: usize = 255;
 
 // A stage at the start of a buffer, as pairs, and the end of its line.
 fn put_stage(out: &mut [u8], at: usize, buffer: &[u8], k: usize) -> usize
-    requires { ⌜ at ≤ 80000 ⌝ }
-    ensures { λ r. ⌜ r ≤ at + 591 ⌝ }
+    requires { ⌜ at + longestPairs + longestKept ≤ lastPlace ⌝ }
+    ensures { λ r. ⌜ r ≤ at + longestPairs + longestKept ⌝ }
 {
-    let next = put_hex_pairs(out, at, buffer, shown(k));
+    let next = put_stage_pairs(out, at, buffer, k);
     put_kept(out, next, buffer, k)
 }
 
 // The line of a refusal by a call with a buffer.
 fn put_refused(out: &mut [u8], at: usize, refusal: Refusal, buffer: &[u8]) -> usize
-    requires { ⌜ at ≤ 80000 ⌝ }
-    ensures { λ r. ⌜ r ≤ at + 75 ⌝ }
+    requires { ⌜ at + longestReply ≤ lastPlace ⌝ }
+    ensures { λ r. ⌜ r ≤ at + longestReply ⌝ }
 {
     let next = put_refusal(out, at, refusal);
     put_kept(out, next, buffer, 0)
@@ -59,8 +58,8 @@ fn put_refused(out: &mut [u8], at: usize, refusal: Refusal, buffer: &[u8]) -> us
 
 // Both lines of a quote with a stage.
 fn put_result(out: &mut [u8], at: usize, q: Quoted, word: &[u8], buffer: &[u8]) -> usize
-    requires { ⌜ (at ≤ 70000) × (length (now word) ≤ 16) ⌝ }
-    ensures { λ r. ⌜ r ≤ at + 715 ⌝ }
+    requires { ⌜ (at + longestReply ≤ lastPlace) × (length (now word) ≤ longestWord) ⌝ }
+    ensures { λ r. ⌜ r ≤ at + longestReply ⌝ }
 {
     let counts = put_counts(out, at, q.cells, q.floor, q.visits);
     let line = put_text(out, counts, word);
@@ -69,8 +68,8 @@ fn put_result(out: &mut [u8], at: usize, q: Quoted, word: &[u8], buffer: &[u8]) 
 
 // The lines of a quote.
 fn put_quoted(out: &mut [u8], at: usize, q: Quoted, buffer: &[u8]) -> usize
-    requires { ⌜ at ≤ 70000 ⌝ }
-    ensures { λ r. ⌜ r ≤ at + 715 ⌝ }
+    requires { ⌜ at + longestReply ≤ lastPlace ⌝ }
+    ensures { λ r. ⌜ r ≤ at + longestReply ⌝ }
 {
     let mark = q.mark;
     match mark {
@@ -82,8 +81,8 @@ fn put_quoted(out: &mut [u8], at: usize, q: Quoted, buffer: &[u8]) -> usize
 
 // The lines of the quote for a sheet, with a buffer for its stage.
 fn put_quote_into(out: &mut [u8], at: usize, sheet: &[u8], budget: u32, buffer: &mut [u8]) -> usize
-    requires { ⌜ at ≤ 70000 ⌝ }
-    ensures { λ r. ⌜ r ≤ at + 715 ⌝ }
+    requires { ⌜ at + longestReply ≤ lastPlace ⌝ }
+    ensures { λ r. ⌜ r ≤ at + longestReply ⌝ }
 {
     let q = quote::quote(sheet, budget, buffer);
     put_quoted(out, at, q, buffer)
@@ -91,114 +90,85 @@ fn put_quote_into(out: &mut [u8], at: usize, sheet: &[u8], budget: u32, buffer: 
 
 // Quote: budget (4 bytes), buffer length (1), sheet length (2), sheet.
 fn put_quote(out: &mut [u8], at: usize, s: &[u8], from: usize) -> usize
-    requires { ⌜ (at ≤ 65000) × (from ≤ 65536) ⌝ }
-    ensures { λ r. ⌜ r ≤ at + 715 ⌝ }
+    requires { ⌜ (at + longestReply ≤ lastPlace) × (from + longestRecord ≤ lastPlace) ⌝ }
+    ensures { λ r. ⌜ r ≤ at + longestReply ⌝ }
 {
     let budget = u32_at(s, from + 1);
     let room = byte_at(s, from + 5) as usize;
     let sheet = part(s, from + 8, length_at(s, from + 6));
-    let mut space = [FILL; 255];
+    let mut space = [FILL; MOST_ROOM];
     put_quote_into(out, at, sheet, budget, &mut space[0..room])
+}
+
+// The line of a stage that was judged: the word of the judgement, and the stage's cells.
+fn put_judged(out: &mut [u8], at: usize, word: &[u8], cells: u32) -> usize
+    requires { ⌜ (at + longestJudged ≤ lastPlace) × (length (now word) ≤ longestWord) ⌝ }
+    ensures { λ r. ⌜ r ≤ at + longestJudged ⌝ }
+{
+    let next = put_named(out, at, word, cells as u64);
+    put_byte(out, next, b'\n')
+}
+
+// The line of an audit.
+fn put_audited(out: &mut [u8], at: usize, audited: Audited) -> usize
+    requires { ⌜ at + longestReply ≤ lastPlace ⌝ }
+    ensures { λ r. ⌜ r ≤ at + longestReply ⌝ }
+{
+    match audited {
+        Audited::Fits(cells) => put_judged(out, at, b"fits ", cells),
+        Audited::Differs(cells) => put_judged(out, at, b"differs ", cells),
+        Audited::SheetRefused(refusal) => put_refusal_line(out, at, b"sheet ", refusal),
+        Audited::StageRefused(refusal) => put_refusal_line(out, at, b"stage ", refusal),
+    }
 }
 
 // Audit: sheet length (2), stage length (2), sheet, stage.
 fn put_audit(out: &mut [u8], at: usize, s: &[u8], from: usize) -> usize
-    requires { ⌜ (at ≤ 65000) × (from ≤ 65536) ⌝ }
-    ensures { λ r. ⌜ r ≤ at + 715 ⌝ }
+    requires { ⌜ (at + longestReply ≤ lastPlace) × (from + longestRecord ≤ lastPlace) ⌝ }
+    ensures { λ r. ⌜ r ≤ at + longestReply ⌝ }
 {
     let sheet_length = length_at(s, from + 1);
-    let stage_length = length_at(s, from + 3);
     let sheet = part(s, from + 5, sheet_length);
-    let stage = part(s, from + 5 + sheet_length, stage_length);
-    let audited = quote::audit(sheet, stage);
-    let next = put_audited(out, at, audited);
-    put_byte(out, next, b'\n')
-}
-
-// The line of an audit, without its end.
-fn put_audited(out: &mut [u8], at: usize, audited: Audited) -> usize
-    requires { ⌜ at ≤ 65000 ⌝ }
-    ensures { λ r. ⌜ r ≤ at + 100 ⌝ }
-{
-    match audited {
-        Audited::Fits(cells) => put_named(out, at, b"fits ", cells as u64),
-        Audited::Differs(cells) => put_named(out, at, b"differs ", cells as u64),
-        Audited::SheetRefused(refusal) => {
-            let next = put_text(out, at, b"sheet ");
-            put_refusal(out, next, refusal)
-        }
-        Audited::StageRefused(refusal) => {
-            let next = put_text(out, at, b"stage ");
-            put_refusal(out, next, refusal)
-        }
-    }
-}
-
-// Sixteen sets from a place on.
-fn sets_at(s: &[u8], from: usize) -> [u16; 16]
-    requires { ⌜ from ≤ 70000 ⌝ }
-    ensures { λ r. ⌜ r ≡ numbersAt 16 (now (s .entry)) from ⌝ }
-{
-    let mut sets = [0u16; 16];
-    let mut i: usize = 0;
-    while i < 16 {
-        sets[i] = u16_at(s, from + 2 * i);
-        i += 1;
-    }
-    sets
-}
-
-// Four tables from a place on.
-fn tables_at(s: &[u8], from: usize) -> [u16; 4]
-    requires { ⌜ from ≤ 70000 ⌝ }
-    ensures { λ r. ⌜ r ≡ numbersAt 4 (now (s .entry)) from ⌝ }
-{
-    [
-        u16_at(s, from),
-        u16_at(s, from + 2),
-        u16_at(s, from + 4),
-        u16_at(s, from + 6),
-    ]
+    let stage = part(s, from + 5 + sheet_length, length_at(s, from + 3));
+    put_audited(out, at, quote::audit(sheet, stage))
 }
 
 // The line of a search that found tables.
 fn put_found(out: &mut [u8], at: usize, answer: search::Answer, word: &[u8]) -> usize
-    requires { ⌜ (at ≤ 65000) × (length (now word) ≤ 16) ⌝ }
-    ensures { λ r. ⌜ r ≤ at + 300 ⌝ }
+    requires { ⌜ (at + longestReply ≤ lastPlace) × (length (now word) ≤ longestWord) ⌝ }
+    ensures { λ r. ⌜ r ≤ at + longestReply ⌝ }
 {
     let tables = answer.tables;
-    let a = put_tables(out, at, tables);
-    let b = put_counts(out, a, answer.cells, answer.floor, answer.visits);
-    put_text(out, b, word)
+    let counts = put_tables(out, at, tables);
+    let mark = put_counts(out, counts, answer.cells, answer.floor, answer.visits);
+    put_text(out, mark, word)
 }
 
 // Search: n (1), m (1), budget (4), sixteen sets (2 each).
 fn put_search(out: &mut [u8], at: usize, s: &[u8], from: usize) -> usize
-    requires { ⌜ (at ≤ 65000) × (from ≤ 65536) ⌝ }
-    ensures { λ r. ⌜ r ≤ at + 715 ⌝ }
+    requires { ⌜ (at + longestReply ≤ lastPlace) × (from + longestRecord ≤ lastPlace) ⌝ }
+    ensures { λ r. ⌜ r ≤ at + longestReply ⌝ }
 {
     let n = byte_at(s, from + 1);
     let m = byte_at(s, from + 2);
-    let budget = u32_at(s, from + 3);
     let sets = sets_at(s, from + 7);
-    let answer = search::search(Relation { n, m, sets }, budget);
+    let answer = search::search(Relation { n, m, sets }, u32_at(s, from + 3));
     let mark = answer.mark;
     match mark {
         Mark::Best => put_found(out, at, answer, b" best\n"),
         Mark::Stopped => put_found(out, at, answer, b" stopped\n"),
-        Mark::Refused(refusal) => put_refusal_line(out, at, refusal),
+        Mark::Refused(refusal) => put_refusal_line(out, at, b"", refusal),
     }
 }
 
 // The line of a stage that was written to a buffer, or of the refusal.
 fn put_written(out: &mut [u8], at: usize, written: Written, buffer: &[u8]) -> usize
-    requires { ⌜ at ≤ 65000 ⌝ }
-    ensures { λ r. ⌜ r ≤ at + 700 ⌝ }
+    requires { ⌜ at + longestReply ≤ lastPlace ⌝ }
+    ensures { λ r. ⌜ r ≤ at + longestReply ⌝ }
 {
     match written {
         Written::Length(k) => {
-            let number = put_named(out, at, b"", k as u64);
-            let next = put_byte(out, number, b' ');
+            let next = put_spaced(out, at, k as u64);
             put_stage(out, next, buffer, k)
         }
         Written::Refused(refusal) => put_refused(out, at, refusal, buffer),
@@ -211,11 +181,11 @@ fn put_write_into(
     at: usize,
     n: u8,
     m: u8,
-    tables: [u16; 4],
+    tables: [u16; Sheet::WIRES],
     buffer: &mut [u8],
 ) -> usize
-    requires { ⌜ at ≤ 65000 ⌝ }
-    ensures { λ r. ⌜ r ≤ at + 700 ⌝ }
+    requires { ⌜ at + longestReply ≤ lastPlace ⌝ }
+    ensures { λ r. ⌜ r ≤ at + longestReply ⌝ }
 {
     let written = write_stage(n, m, tables, buffer);
     put_written(out, at, written, buffer)
@@ -223,57 +193,57 @@ fn put_write_into(
 
 // Write a stage: n (1), m (1), buffer length (1), four tables (2 each).
 fn put_write(out: &mut [u8], at: usize, s: &[u8], from: usize) -> usize
-    requires { ⌜ (at ≤ 65000) × (from ≤ 65536) ⌝ }
-    ensures { λ r. ⌜ r ≤ at + 715 ⌝ }
+    requires { ⌜ (at + longestReply ≤ lastPlace) × (from + longestRecord ≤ lastPlace) ⌝ }
+    ensures { λ r. ⌜ r ≤ at + longestReply ⌝ }
 {
-    let n = byte_at(s, from + 1);
-    let m = byte_at(s, from + 2);
     let room = byte_at(s, from + 3) as usize;
     let tables = tables_at(s, from + 4);
-    let mut space = [FILL; 255];
-    put_write_into(out, at, n, m, tables, &mut space[0..room])
-}
-
-// n and m, each with a space behind it.
-fn put_sizes(out: &mut [u8], at: usize, n: u8, m: u8) -> usize
-    requires { ⌜ at ≤ 65000 ⌝ }
-    ensures { λ r. ⌜ r ≤ at + 73 ⌝ }
-{
-    let inputs = put_named(out, at, b"", n as u64);
-    let wires = put_named(out, inputs, b" ", m as u64);
-    put_byte(out, wires, b' ')
+    let mut space = [FILL; MOST_ROOM];
+    put_write_into(
+        out,
+        at,
+        byte_at(s, from + 1),
+        byte_at(s, from + 2),
+        tables,
+        &mut space[0..room],
+    )
 }
 
 // The line of a stage that was read.
 fn put_stage_read(out: &mut [u8], at: usize, read: StageRead) -> usize
-    requires { ⌜ at ≤ 65000 ⌝ }
-    ensures { λ r. ⌜ r ≤ at + 300 ⌝ }
+    requires { ⌜ at + longestReply ≤ lastPlace ⌝ }
+    ensures { λ r. ⌜ r ≤ at + longestReply ⌝ }
 {
     let tables = read.tables;
-    let sizes = put_sizes(out, at, read.n, read.m);
-    let line = put_tables(out, sizes, tables);
-    let cells = put_named(out, line, b"cells ", read.cells as u64);
-    put_byte(out, cells, b'\n')
+    let inputs = put_spaced(out, at, read.n as u64);
+    let wires = put_spaced(out, inputs, read.m as u64);
+    let line = put_tables(out, wires, tables);
+    put_judged(out, line, b"cells ", read.cells as u32)
 }
 
 // Read a stage: length (2), stage.
 fn put_read(out: &mut [u8], at: usize, s: &[u8], from: usize) -> usize
-    requires { ⌜ (at ≤ 65000) × (from ≤ 65536) ⌝ }
-    ensures { λ r. ⌜ r ≤ at + 715 ⌝ }
+    requires { ⌜ (at + longestReply ≤ lastPlace) × (from + longestRecord ≤ lastPlace) ⌝ }
+    ensures { λ r. ⌜ r ≤ at + longestReply ⌝ }
 {
     let stage = part(s, from + 3, length_at(s, from + 1));
     let read = read_stage(stage);
     let answer = read.answer;
     match answer {
-        Answer::Accepted => put_stage_read(out, at, read),
-        Answer::Refused(refusal) => put_refusal_line(out, at, refusal),
+<<<<<<< HEAD
+        Verdict::Accepted => put_stage_read(out, at, read),
+        Verdict::Refused(refusal) => put_refusal_line(out, at, refusal),
+=======
+        Verdict::Accepted => put_stage_read(out, at, read),
+        Verdict::Refused(refusal) => put_refusal_line(out, at, b"", refusal),
+>>>>>>> hC
     }
 }
 
 // The reply to the record at a place.
 pub fn put_reply(out: &mut [u8], at: usize, s: &[u8], from: usize) -> usize
-    requires { ⌜ (at ≤ 65000) × (from ≤ 65536) ⌝ }
-    ensures { λ r. ⌜ r ≤ at + 715 ⌝ }
+    requires { ⌜ (at + longestReply ≤ lastPlace) × (from + longestRecord ≤ lastPlace) ⌝ }
+    ensures { λ r. ⌜ r ≤ at + longestReply ⌝ }
 {
     let kind = byte_at(s, from);
     match kind {

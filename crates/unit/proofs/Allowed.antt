@@ -18,7 +18,7 @@ use Rattle.table.proofs.Bits.{bit-ofBits, bit-past, test-and}
 use Rattle.sheet.specs.declared.Command.{Command}
 use Rattle.sheet.specs.Commands.{inputsOf, wiresOf, rowsOn, limitsOn}
 use Rattle.sheet.specs.Gathered.{rowMark, limitOn, gathered}
-use Rattle.sheet.proofs.Each.{Each}
+use Rattle.base.specs.Each.{Each}
 use Rattle.reader.proofs.Sound.{Sound}
 use Rattle.reader.proofs.Marks.{Given, present, impossible}
 use Rattle.sheet.proofs.Permitted.{meet-has, has-meet, all-values, limit-below}

@@ -7,7 +7,5 @@ pub mod Codings
 pub mod Allowed
 pub mod Told
 pub mod Forming
-pub mod Said
-pub mod Choice
 pub mod Rivals
 pub mod Rows

@@ -16,7 +16,7 @@ use Rattle.sheet.specs.declared.Sheet.{Sheet}
 use Rattle.sheet.specs.Commands.{LogicGate, noGate, wiresOf, gatesOf, outputsOf, signalsMade}
 use Rattle.sheet.specs.Gathered.{gathered, gateAt}
 use Rattle.reader.proofs.Sound.{Sound, sound}
-use Rattle.sheet.proofs.Each.{each-getD}
+use Rattle.base.proofs.Each.{each-getD}
 use Rattle.reader.proofs.Wiring.{Wired}
 use Rattle.sheet.proofs.Fields.{inputs-field, wires-field, gates-field, outputs-field, kind-field, left-field, right-field, output-field}
 use Rattle.unit.specs.Gates.{signalsOn}

@@ -15,9 +15,10 @@ use Rattle.sheet.specs.Limits.{sizesOut, maxInputs, maxWires, maxPatterns, maxV
 use Rattle.base.proofs.Lowest.{lowest-none, lowest-cong}
 use Rattle.base.proofs.Tests.{decide, cond-has, test-yes, test-no}
 use Rattle.table.specs.Bits.{bit, any, ofBits}
-use Rattle.table.specs.Tree.{Tree, follow}
+use Rattle.table.specs.Drawing.{Drawing, drawnValue}
+use Rattle.table.specs.Inner.Drawing.{Counts}
 use Rattle.table.proofs.Bits.{any-cong, ofBits-lt, zero-bit}
-use Rattle.table.proofs.Trees.{follow-lt}
+use Rattle.relation.proofs.Families.{value-below}
 use Rattle.relation.specs.Source.{WellDefined}
 use Rattle.relation.specs.Tests.{ofSets, emptyPattern}
 use Rattle.relation.specs.Handed.{relationOf, widePattern, checkOf}
@@ -79,18 +80,17 @@ module _ (cs : List Command) (s : Sound cs) where
   pub set-told : (p v : ℕ) → p < 2 ^ inputsOf cs → v < 2 ^ wiresOf cs → relationOf (relationIn cs) p v ≡ unitRelation cs p v
   set-told p v l b = sets-told p v ∙ rw (lt-ltb p (2 ^ inputsOf cs) l, lt-ltb v (2 ^ wiresOf cs) b)
 
-  -- the same families of trees are compatible, and the same patterns are empty
-  pub family-told : (x : ℕ → Tree) → Family (inputsOf cs) (wiresOf cs) (relationOf (relationIn cs)) x ↔ Family (inputsOf cs) (wiresOf cs) (unitRelation cs) x
-  family-told x = (
-    λ f. record { ordered = f .ordered; allowed = λ p l. subst T (set-told p (value p) l (small f p)) (f .allowed p l) },
-    λ f. record { ordered = f .ordered; allowed = λ p l. subst T (sym (set-told p (value p) l (small f p))) (f .allowed p l) },
+  -- the same stages are compatible, and the same patterns are empty
+  pub family-told : (D : Drawing) (count : ℕ → ℕ) → Counts D (inputsOf cs) count → (xs : List (D .Shape))
+      → Family D (inputsOf cs) (wiresOf cs) (relationOf (relationIn cs)) xs ↔ Family D (inputsOf cs) (wiresOf cs) (unitRelation cs) xs
+  family-told D count counts xs = (
+    λ f. record { drawn = f .drawn; allowed = λ p l. subst T (same f p l) (f .allowed p l) },
+    λ f. record { drawn = f .drawn; allowed = λ p l. subst T (sym (same f p l)) (f .allowed p l) },
   )
     where
-      value : ℕ → ℕ
-      value p = ofBits (wiresOf cs) (λ j. follow (inputsOf cs) p (x j))
-
-      small : {Q : ℕ → ℕ → Bool} → Family (inputsOf cs) (wiresOf cs) Q x → (p : ℕ) → value p < 2 ^ wiresOf cs
-      small f p = ofBits-lt (λ j. follow (inputsOf cs) p (x j)) (wiresOf cs) (λ j l. follow-lt (inputsOf cs) 0 (x j) p (f .ordered j l))
+      same : {Q : ℕ → ℕ → Bool} → Family D (inputsOf cs) (wiresOf cs) Q xs → (p : ℕ) → p < 2 ^ inputsOf cs
+          → relationOf (relationIn cs) p (drawnValue D (inputsOf cs) xs p) ≡ unitRelation cs p (drawnValue D (inputsOf cs) xs p)
+      same {Q} f p l = set-told p (drawnValue D (inputsOf cs) xs p) l (value-below D (inputsOf cs) count counts (wiresOf cs) Q xs f p)
 
   pub well-defined-told : WellDefined (inputsOf cs) (wiresOf cs) (relationOf (relationIn cs)) ↔ WellDefined (inputsOf cs) (wiresOf cs) (unitRelation cs)
   well-defined-told = (

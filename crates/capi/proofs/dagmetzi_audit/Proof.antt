@@ -4,7 +4,7 @@ use mathlib.Core.Path.{ap, ap₂, _∙_}
 use mathlib.Core.List.{[], _∷_}
 use Rattle.base.specs.Cases.{Case}
 use Rattle.capi.specs.declared.told.Told.{Told}
-use Rattle.capi.specs.Told.{auditNumbers}
+use Rattle.capi.specs.Numbers.{auditNumbers}
 use borrow.Author.Needs.{needs}
 use Rattle.capi.proofs.dagmetzi_audit.Statement.{statement}
 use Rattle.capi.proofs.dagmetzi_audit.Tie as tie
@@ -26,7 +26,8 @@ returns c =
     let a = c .before .before .before .audit .ensures in
     let t = c .before .before .audit-told .ensures in
     let v = c .before .audited-cells .ensures in
-    (ap (λ (x : Told). x .number) t ∙ ap (λ (x : Case). x .number) a, ap₂ (λ (x : Told) (k : ℕ). x .outcome ∷ k ∷ 0 ∷ 0 ∷ 0 ∷ x .place ∷ []) t v ∙ ap auditNumbers a)
+    let numbers = ap₂ (λ (x : Told) (k : ℕ). x .outcome ∷ k ∷ 0 ∷ 0 ∷ 0 ∷ x .place ∷ []) t v in
+    (ap (λ (x : Told). x .number) t ∙ ap (λ (x : Case). x .number) a, numbers ∙ ap auditNumbers a)
 
 pub dagmetzi-audit-spec : {M : Type 1} → statement M
 dagmetzi-audit-spec =

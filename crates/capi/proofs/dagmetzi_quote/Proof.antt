@@ -7,7 +7,8 @@ use Rattle.quote.specs.declared.Quoted.{Quoted}
 use Rattle.quote.specs.Cases.{QuoteReply, quoteReply}
 use Rattle.quote.specs.Promised.{Promised}
 use Rattle.capi.specs.declared.told.Told.{Told}
-use Rattle.capi.specs.Told.{told, quoteNumbers}
+use Rattle.capi.specs.Inner.Told.{told}
+use Rattle.capi.specs.Numbers.{quoteNumbers}
 use borrow.Author.Needs.{needs}
 use Rattle.capi.proofs.dagmetzi_quote.Statement.{statement}
 use Rattle.capi.proofs.dagmetzi_quote.Tie as tie

@@ -10,7 +10,8 @@ use Rattle.search.specs.declared.Answer.{Answer}
 use Rattle.branch_bound.specs.Reply.{SearchReply}
 use Rattle.search.specs.Cases.{markCase, searchReply}
 use Rattle.capi.specs.declared.told.Told.{Told}
-use Rattle.capi.specs.Told.{told, searchNumbers, tablesAfter}
+use Rattle.capi.specs.Inner.Told.{told}
+use Rattle.capi.specs.Numbers.{searchNumbers, tablesAfter}
 use borrow.Author.Needs.{needs}
 use Rattle.capi.proofs.dagmetzi_search.Statement.{statement}
 use Rattle.capi.proofs.dagmetzi_search.Tie as tie

@@ -1,6 +1,7 @@
 -- `report_audit` meets its contract: the line by the case of the reply.
+use native.Mathlib.Omega.{arith}
 use Rattle.report.specs.Lines.{auditLine}
-use Rattle.report.proofs.Stores.{put-start}
+use Rattle.text.proofs.Stores.{put-start}
 use borrow.Author.Needs.{needs}
 use Rattle.report.proofs.report_audit.Statement.{statement}
 use Rattle.report.proofs.report_audit.Tie as tie
@@ -26,52 +27,48 @@ put-judged-requires-2 c κs = search needs
 enum-known-audited-3 : tie.Need-enum-known-audited-3
 enum-known-audited-3 c = search needs
 
-slice-aggregate-put-refusal : tie.Need-slice-aggregate-put-refusal
-slice-aggregate-put-refusal c = search needs
+slice-aggregate-put-refusal-line : tie.Need-slice-aggregate-put-refusal-line
+slice-aggregate-put-refusal-line c = search needs
 
-put-refusal-requires : tie.Need-put-refusal-requires
-put-refusal-requires c κs = search needs
+put-refusal-line-requires : tie.Need-put-refusal-line-requires
+put-refusal-line-requires c κs = search needs
 
 enum-known-audited-4 : tie.Need-enum-known-audited-4
 enum-known-audited-4 c = search needs
 
-slice-aggregate-put-refusal-2 : tie.Need-slice-aggregate-put-refusal-2
-slice-aggregate-put-refusal-2 c = search needs
+slice-aggregate-put-refusal-line-2 : tie.Need-slice-aggregate-put-refusal-line-2
+slice-aggregate-put-refusal-line-2 c = search needs
 
-put-refusal-requires-2 : tie.Need-put-refusal-requires-2
-put-refusal-requires-2 c κs = search needs
+put-refusal-line-requires-2 : tie.Need-put-refusal-line-requires-2
+put-refusal-line-requires-2 c κs = search needs
 
 same-length : tie.Need-same-length
 same-length c = search needs
 
 returns : tie.Need-returns
 unfolding auditLine
-returns c =
-    rw (c .before .before .before .before .before .before .audited .given .1) (put-start (c .before .before .put-judged .ensures))
+returns c = let p = c .before .before in rw (p .before .before .before .before .audited .given .1) (put-start (p .put-judged .ensures) (omega arith))
 
 same-length-2 : tie.Need-same-length-2
 same-length-2 c = search needs
 
 returns-2 : tie.Need-returns-2
 unfolding auditLine
-returns-2 c =
-    rw (c .before .before .before .before .before .before .audited2 .given .1) (put-start (c .before .before .put-judged2 .ensures))
+returns-2 c = let p = c .before .before in rw (p .before .before .before .before .audited2 .given .1) (put-start (p .put-judged2 .ensures) (omega arith))
 
 same-length-3 : tie.Need-same-length-3
 same-length-3 c = search needs
 
 returns-3 : tie.Need-returns-3
 unfolding auditLine
-returns-3 c =
-    rw (c .before .before .before .before .before .before .audited3 .given .1) (put-start (c .before .before .put-refusal .ensures))
+returns-3 c = let p = c .before .before in rw (p .before .before .before .before .audited3 .given .1) (put-start (p .put-refusal-line .ensures) (omega arith))
 
 same-length-4 : tie.Need-same-length-4
 same-length-4 c = search needs
 
 returns-4 : tie.Need-returns-4
 unfolding auditLine
-returns-4 c =
-    rw (c .before .before .before .before .before .before .audited4 .given .1) (put-start (c .before .before .put-refusal2 .ensures))
+returns-4 c = let p = c .before .before in rw (p .before .before .before .before .audited4 .given .1) (put-start (p .put-refusal-line2 .ensures) (omega arith))
 
 pub report-audit-spec : {M : Type 1} → statement M
 report-audit-spec =
@@ -84,11 +81,11 @@ report-audit-spec =
     slice-aggregate-put-judged-2
     put-judged-requires-2
     enum-known-audited-3
-    slice-aggregate-put-refusal
-    put-refusal-requires
+    slice-aggregate-put-refusal-line
+    put-refusal-line-requires
     enum-known-audited-4
-    slice-aggregate-put-refusal-2
-    put-refusal-requires-2
+    slice-aggregate-put-refusal-line-2
+    put-refusal-line-requires-2
     same-length
     returns
     same-length-2

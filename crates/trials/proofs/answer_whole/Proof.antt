@@ -1,12 +1,14 @@
--- `answer_whole` is safe and ends. The invariant: the place lies within the bytes, and the replies leave room for another. The measure is what is left of the bytes. Assumes nothing.
+-- `answer_whole` is safe and ends. The invariant: the place lies within the bytes, and the replies leave room for another.
+-- The measure is what is left of the bytes. Assumes nothing.
 use Prim.Native.Nat.{_-_, _≤_}
 use borrow.Author.Needs.{needs}
 use lib.ListN.{length}
+use Rattle.trials.specs.Window.{nearlyFull}
 use Rattle.trials.proofs.answer_whole.Statement.{statement}
 use Rattle.trials.proofs.answer_whole.Tie as tie
 
 abbrev Inv-loop : tie.InvT-loop
-Inv-loop s out₀ used₀ at₀ out used at = (at ≤ length s) × (used ≤ 60000)
+Inv-loop s out₀ used₀ at₀ out used at = (at ≤ length s) × (used ≤ nearlyFull)
 
 abbrev μ-loop : tie.MeasureT-loop
 μ-loop s out₀ used₀ at₀ out used at = length s - at

@@ -1,16 +1,18 @@
--- `main` is safe and ends. The invariant: what is held lies within the window, whose length stays. The measure is the number of turns that are left. Assumes nothing.
+-- `main` is safe and ends. The invariant: what is held lies within the window, whose length stays.
+-- The measure is the number of turns that are left. Assumes nothing.
 use Prim.Native.Nat.{_≤_}
 use mathlib.Core.Path.{_≡_}
 use borrow.Author.Needs.{needs}
 use lib.ListN.{length}
+use Rattle.trials.specs.Window.{window}
 use Rattle.trials.proofs.main.Statement.{statement}
 use Rattle.trials.proofs.main.Tie as tie
 
 abbrev Inv-loop : tie.InvT-loop
-Inv-loop window₀ held₀ turns₀ window held turns = (held ≤ 65536) × (length window ≡ 65536)
+Inv-loop seen₀ held₀ turns₀ seen held turns = (held ≤ window) × (length seen ≡ window)
 
 abbrev μ-loop : tie.MeasureT-loop
-μ-loop window₀ held₀ turns₀ window held turns = turns
+μ-loop seen₀ held₀ turns₀ seen held turns = turns
 
 large-buffer-requires : tie.Need-large-buffer-requires Inv-loop μ-loop
 large-buffer-requires c κs = search needs

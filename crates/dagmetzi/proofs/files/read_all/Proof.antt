@@ -57,8 +57,10 @@ loop-less c = omega arith
 
 loop-again : tie.Need-loop-again Inv-loop μ-loop
 loop-again c =
-    let e = c .before .before .before .before .before .buffer .given .1 in
-    (e ∙ c .before .before .before .before .before .before .before .before .before .loop .inv .0, omega (arith, e, c .before .before .before .before .before .before .before .before .before .loop .inv .1, c .count .ensures .0 .0))
+    let b = c .before .before .before .before .before in
+    let e = b .buffer .given .1 in
+    let v = b .before .before .before .before .loop .inv in
+    (e ∙ v .0, omega (arith, e, v .1, c .count .ensures .0 .0))
 
 same-length-2 : tie.Need-same-length-2 Inv-loop μ-loop
 same-length-2 c = c .before .loop .inv .0

@@ -1,9 +1,5 @@
 -- `quote` meets its contract: what is printed is so many bytes of the buffer.
 use native.Mathlib.Omega.{arith}
-use mathlib.Core.Path.{_≡_, ap, _∙_}
-use lib.ListN.{length}
-use lib.Seq.{length-sets}
-use Rattle.report.specs.Lines.{longestReport}
 use Rattle.dagmetzi.proofs.Counting.{counts}
 use borrow.Author.Needs.{needs}
 use Rattle.dagmetzi.proofs.words.quote.Statement.{statement}
@@ -37,10 +33,7 @@ array-share-prefix-out : tie.Need-array-share-prefix-out
 array-share-prefix-out c = search needs
 
 slice-aggregate-print : tie.Need-slice-aggregate-print
-slice-aggregate-print c =
-    let r = c .before .before .quote-reply in
-    let e : length (r .last .1 .0) ≡ longestReport = ap length (r .ensures .1) ∙ simp length-sets in
-    counts (r .result) (r .last .1 .0) (omega (arith, e, r .ensures .2)) .1
+slice-aggregate-print c = let r = c .before .before .quote-reply in counts (r .result) (r .last .1 .0) (omega (arith, r .kept .1 .0, r .ensures .2)) .1
 
 print-requires : tie.Need-print-requires
 print-requires c κs = search needs

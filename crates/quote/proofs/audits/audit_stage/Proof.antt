@@ -11,7 +11,7 @@ use Rattle.quote.proofs.audits.audit_stage.Lts as lts
 use Rattle.base.proofs.Refusal.at.Reads as at-reads
 use Rattle.quote.proofs.audits.allowed_everywhere.Reads as allowed-everywhere-reads
 use Rattle.quote.proofs.audits.refused_stage.Reads as refused-stage-reads
-use Rattle.stage.proofs.reader.read_stage.Reads as read-stage-reads
+use Rattle.stage_reader.proofs.read_stage.Reads as read-stage-reads
 
 read-stage-requires : tie.Need-read-stage-requires
 read-stage-requires c κs = search needs

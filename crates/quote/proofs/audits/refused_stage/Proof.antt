@@ -3,7 +3,7 @@ use Prim.Native.Nat.{ℕ}
 use native.Mathlib.Omega.{arith}
 use mathlib.Core.Path.{_≡_, sym, _∙_}
 use Rattle.base.specs.declared.Refusal.{Refusal}
-use Rattle.stage.specs.declared.reader.Answer.the-variants.{Accepted, Refused}
+use Rattle.base.specs.declared.Verdict.the-variants.{Accepted, Refused}
 use borrow.Author.Needs.{needs}
 use Rattle.quote.proofs.audits.refused_stage.Statement.{statement}
 use Rattle.quote.proofs.audits.refused_stage.Tie as tie

@@ -1,7 +1,7 @@
 -- `put_counts` meets its contract: three numbers, each after its name.
 use native.Mathlib.Omega.{arith}
 use Rattle.report.specs.Lines.{countsOf}
-use Rattle.report.proofs.Stores.{put-then}
+use Rattle.text.proofs.Stores.{put-then}
 use borrow.Author.Needs.{needs}
 use Rattle.report.proofs.parts.put_counts.Statement.{statement}
 use Rattle.report.proofs.parts.put_counts.Tie as tie
@@ -9,26 +9,17 @@ use Rattle.report.proofs.parts.put_counts.Tie as tie
 slice-aggregate-put-named : tie.Need-slice-aggregate-put-named
 slice-aggregate-put-named c = search needs
 
-cast-put-named : tie.Need-cast-put-named
-cast-put-named c = search needs
-
 put-named-requires : tie.Need-put-named-requires
 put-named-requires c κs = search needs
 
 slice-aggregate-put-named-2 : tie.Need-slice-aggregate-put-named-2
 slice-aggregate-put-named-2 c = search needs
 
-cast-put-named-2 : tie.Need-cast-put-named-2
-cast-put-named-2 c = search needs
-
 put-named-requires-2 : tie.Need-put-named-requires-2
 put-named-requires-2 c κs = search needs
 
 slice-aggregate-put-named-3 : tie.Need-slice-aggregate-put-named-3
 slice-aggregate-put-named-3 c = search needs
-
-cast-put-named-3 : tie.Need-cast-put-named-3
-cast-put-named-3 c = search needs
 
 put-named-requires-3 : tie.Need-put-named-requires-3
 put-named-requires-3 c κs = search needs
@@ -39,8 +30,8 @@ same-length c = search needs
 returns : tie.Need-returns
 unfolding countsOf
 returns c =
-    let x = c .before .before .before .before .before .before .before .before .before .before .before .before .before .before .put-named .ensures in
-    let y = c .before .before .before .before .before .before .before .before .put-named2 .ensures in
+    let x = c .before .before .before .before .before .before .before .before .before .before .before .before .put-named .ensures in
+    let y = c .before .before .before .before .before .before .before .put-named2 .ensures in
     let z = c .before .before .put-named3 .ensures in
     (put-then (put-then (x .0) (y .0)) (z .0), omega (arith, x .1, y .1, z .1))
 
@@ -49,13 +40,10 @@ put-counts-spec =
     tie.close
     (tie.spec
     slice-aggregate-put-named
-    cast-put-named
     put-named-requires
     slice-aggregate-put-named-2
-    cast-put-named-2
     put-named-requires-2
     slice-aggregate-put-named-3
-    cast-put-named-3
     put-named-requires-3
     same-length
     returns)

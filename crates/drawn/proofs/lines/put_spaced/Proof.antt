@@ -1,0 +1,26 @@
+-- `put_spaced` meets its contract: the number, then the space.
+use native.Mathlib.Omega.{arith}
+use Rattle.drawn.specs.Lines.{spacedText}
+use Rattle.text.proofs.Stores.{put-then}
+use borrow.Author.Needs.{needs}
+use Rattle.drawn.proofs.lines.put_spaced.Statement.{statement}
+use Rattle.drawn.proofs.lines.put_spaced.Tie as tie
+
+put-decimal-requires : tie.Need-put-decimal-requires
+put-decimal-requires c κs = search needs
+
+put-byte-requires : tie.Need-put-byte-requires
+put-byte-requires c κs = search needs
+
+same-length : tie.Need-same-length
+same-length c = search needs
+
+returns : tie.Need-returns
+unfolding spacedText
+returns c =
+    let y = c .before .before in
+    let x = y .before .before .before .before .put-decimal .ensures in
+    (put-then (x .0) (y .put-byte .ensures), omega (arith, x .1, y .put-byte .ensures .past))
+
+pub put-spaced-spec : {M : Type 1} → statement M
+put-spaced-spec = tie.close (tie.spec put-decimal-requires put-byte-requires same-length returns)

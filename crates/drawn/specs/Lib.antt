@@ -1,0 +1,3 @@
+-- What the input of the trials holds, and what its replies are made of beside the report's parts.
+pub mod Records
+pub mod Lines

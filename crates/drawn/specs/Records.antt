@@ -1,0 +1,45 @@
+-- The records of the input. Numbers of more than one byte come low byte first; bytes past the end count as 0.
+use Prim.Native.Nat.{ℕ, _+_, _*_}
+use mathlib.Core.Bool.{cond}
+use mathlib.Core.List.{List, []}
+use lib.Dec.{eqb, leb}
+use lib.ListN.{length, getD, take, drop}
+use Rattle.sheet.specs.Limits.{maxPatterns, maxWires}
+use Rattle.base.specs.Tabulate.{tabulate}
+
+-- the byte at a place
+abbrev pub byteAt : List ℕ → ℕ → ℕ
+byteAt s at = getD s at 0
+
+-- the number of two bytes at a place
+abbrev pub twoAt : List ℕ → ℕ → ℕ
+twoAt s at = byteAt s at + 256 * byteAt s (at + 1)
+
+-- the number of four bytes at a place
+abbrev pub fourAt : List ℕ → ℕ → ℕ
+fourAt s at = twoAt s at + 65536 * twoAt s (at + 2)
+
+-- so many numbers of two bytes, one after the other from a place on
+abbrev pub numbersAt : ℕ → List ℕ → ℕ → List ℕ
+numbersAt k s from = tabulate k (λ i. twoAt s (from + 2 * i))
+
+-- `count` bytes from a place on, or none where the bytes end before
+unfoldable pub partOf : List ℕ → ℕ → ℕ → List ℕ
+partOf s from count = cond (leb (from + count) (length s)) (take count (drop from s)) []
+
+-- the bytes of the record at a place, by its kind: Q, A, S, W, R; a byte of no kind is a record by itself
+unfoldable pub recordLength : List ℕ → ℕ → ℕ
+recordLength s at =
+    let kind = byteAt s at in
+    cond (eqb kind 0x51) (8 + twoAt s (at + 6))
+    (cond (eqb kind 0x41) (5 + twoAt s (at + 1) + twoAt s (at + 3))
+    (cond (eqb kind 0x53) (7 + 2 * maxPatterns)
+    (cond (eqb kind 0x57) (4 + 2 * maxWires)
+    (cond (eqb kind 0x52) (3 + twoAt s (at + 1)) 1))))
+
+-- the most bytes of a part, whose length is a number of two bytes, and of a record: an audit has two parts
+abbrev pub longestPart : ℕ
+longestPart = 65535
+
+abbrev pub longestRecord : ℕ
+longestRecord = 5 + 2 * longestPart

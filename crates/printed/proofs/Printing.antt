@@ -1,0 +1,70 @@
+-- What the program prints, by whether the sheet is too long.
+use Prim.Native.Nat.{ℕ, _+_, _<_, _≤_}
+use mathlib.Core.Path.{_≡_, sym, ap, ap₂, _∙_}
+use mathlib.Core.Logic.{⊎-elim}
+use mathlib.Core.List.{List, []}
+use native.Mathlib.Omega.{arith}
+use borrow.Author.Tests.{lt-ltb, le-ltb}
+use lib.ListN.{length, take}
+use lib.Dec.{ltb, ltb→lt, nltb→le}
+use lib.Seq.{sets, take-all, length-take-le}
+use Rattle.base.specs.Cases.{Case, refusing, refusedOutcome}
+use Rattle.base.specs.Refusals.{refusalAt, tooLong}
+use Rattle.base.proofs.Tests.{decide}
+use Rattle.stage.specs.Bytes.{longestStage}
+use Rattle.stage.proofs.Prefix.{front-tells}
+use Rattle.quote.specs.Cases.{QuoteReply}
+use Rattle.quote.specs.Quote.{refusedQuote, bufferQuoted}
+use Rattle.quote.specs.Audit.{auditedFrom, auditedOf}
+use Rattle.report.specs.Lines.{Printed, sheetText, linesOf, auditLine}
+use Rattle.printed.specs.Printed.{longestSheet, budget, lent, tooLongLine, quoted, printedOf, auditPrintedOf}
+
+-- a report of one text is that of any other that is the same
+pub printed : {text other : List ℕ} (before after : List ℕ) (r : ℕ) → text ≡ other → Printed text before after r → Printed other before after r
+printed before after r e p = (p .0 ∙ ap length e, p .1 ∙ ap (sets before 0) e, p .2)
+
+module _ (sheet : List ℕ) where
+  pub quote-too-long : (q : QuoteReply) (stage : List ℕ) → q ≡ refusedQuote (refusalAt tooLong longestSheet) → longestSheet < length sheet
+      → linesOf q stage ≡ printedOf sheet
+  unfolding linesOf printedOf
+  quote-too-long q stage e l = rw (e, lt-ltb longestSheet (length sheet) l)
+
+  pub quote-lines : (q : QuoteReply) (stage : List ℕ) → q ≡ quoted sheet → stage ≡ bufferQuoted sheet budget lent → length sheet ≤ longestSheet
+      → linesOf q stage ≡ printedOf sheet
+  unfolding printedOf
+  quote-lines q stage eq es l = ap₂ linesOf eq es ∙ sym (rw (le-ltb longestSheet (length sheet) l))
+
+  pub audit-too-long : (c : Case) (stage : List ℕ) → c ≡ refusing refusedOutcome (refusalAt tooLong longestSheet) → longestSheet < length sheet
+      → auditLine c ≡ auditPrintedOf sheet stage
+  unfolding auditLine auditPrintedOf
+  audit-too-long c stage e l = rw (e, lt-ltb longestSheet (length sheet) l)
+
+  pub audit-line : (c : Case) (stage : List ℕ) → c ≡ auditedOf sheet stage → length sheet ≤ longestSheet → auditLine c ≡ auditPrintedOf sheet stage
+  unfolding auditPrintedOf
+  audit-line c stage e l = ap auditLine e ∙ sym (rw (le-ltb longestSheet (length sheet) l))
+
+  -- what the program reads of a file is enough: of a stage, one byte more than the longest has
+  pub stage-front : (stage : List ℕ) → auditPrintedOf sheet (take (longestStage + 1) stage) ≡ auditPrintedOf sheet stage
+  unfolding auditPrintedOf auditedOf auditedFrom
+  stage-front stage = rw (front-tells stage (longestStage + 1) (omega arith))
+
+  -- of a sheet, one byte more than the longest that is taken: it is whole, or too long either way
+  module _ {A : Type 0} (P : List ℕ → A) (refusal : A) (long : (s : List ℕ) → longestSheet < length s → P s ≡ refusal) where
+    sheet-front : P (take (longestSheet + 1) sheet) ≡ P sheet
+    sheet-front =
+        ⊎-elim
+        (λ t.
+        let l = ltb→lt longestSheet (length sheet) t in
+        let k : length (take (longestSheet + 1) sheet) ≡ longestSheet + 1 = length-take-le (longestSheet + 1) sheet (omega arith) in
+        long (take (longestSheet + 1) sheet) (omega arith) ∙ sym (long sheet l))
+        (λ t. let l = nltb→le longestSheet (length sheet) t in ap P (take-all (longestSheet + 1) sheet (omega arith)))
+        (decide (ltb longestSheet (length sheet)))
+
+-- so of every reply that refuses a longer sheet
+pub quote-front : (sheet : List ℕ) → printedOf (take (longestSheet + 1) sheet) ≡ printedOf sheet
+unfolding printedOf
+quote-front sheet = sheet-front sheet printedOf (tooLongLine []) (λ s l. rw (lt-ltb longestSheet (length s) l))
+
+pub audit-front : (sheet stage : List ℕ) → auditPrintedOf (take (longestSheet + 1) sheet) stage ≡ auditPrintedOf sheet stage
+unfolding auditPrintedOf
+audit-front sheet stage = sheet-front sheet (λ s. auditPrintedOf s stage) (tooLongLine sheetText) (λ s l. rw (lt-ltb longestSheet (length s) l))

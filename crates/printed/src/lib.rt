@@ -1,0 +1,60 @@
+// What the program prints, as bytes at the start of a lent buffer: a function for each word, each with the length of what it put.
+use base::Refusal;
+use quote::Audited;
+use quote::Quoted;
+use search::Mark;
+use stage::LONGEST_STAGE;
+ghost use mathlib.Core.Path.{_≡_};
+ghost use Rattle.base.specs.Refusals.{refusalAt, tooLong};
+ghost use Rattle.quote.specs.Cases.{quoteReply};
+ghost use Rattle.quote.specs.Quote.{refusedQuote};
+ghost use Rattle.report.specs.Lines.{Printed};
+ghost use Rattle.printed.specs.Printed.{longestSheet, printedOf, auditPrintedOf};
+
+// The longest sheet that is taken, and the budget of a quote.
+pub const LONGEST_SHEET: usize = 4096;
+
+const BUDGET: u32 = 10000;
+
+// The refusal of a sheet that is too long: nothing of such a sheet is read, and no stage beside it.
+fn too_long() -> Refusal
+    ensures { λ r. ⌜ r ≡ refusalAt tooLong longestSheet ⌝ }
+{
+    Refusal::at(Refusal::TOO_LONG, LONGEST_SHEET)
+}
+
+// The same as a quote's reply.
+fn too_long_quote() -> Quoted
+    ensures { λ r. ⌜ quoteReply r ≡ refusedQuote (refusalAt tooLong longestSheet) ⌝ }
+{
+    Quoted {
+        cells: 0,
+        floor: 0,
+        visits: 0,
+        length: 0,
+        mark: Mark::Refused(too_long()),
+    }
+}
+
+// The lines for a sheet.
+pub fn quote_reply(sheet: &[u8], out: &mut [u8]) -> usize
+    ensures { λ r. ⌜ Printed (printedOf (now (sheet .entry))) (now (out .entry)) (now (out .exit)) r ⌝ }
+{
+    let mut stage = [0u8; LONGEST_STAGE];
+    if LONGEST_SHEET < sheet.len() {
+        return report::report(too_long_quote(), &stage, out);
+    }
+    let quoted = quote::quote(sheet, BUDGET, &mut stage);
+    report::report(quoted, &stage, out)
+}
+
+// The line for a sheet and a stage.
+pub fn audit_reply(sheet: &[u8], stage: &[u8], out: &mut [u8]) -> usize
+    ensures { λ r. ⌜ Printed (auditPrintedOf (now (sheet .entry)) (now (stage .entry))) (now (out .entry)) (now (out .exit)) r ⌝ }
+{
+    if LONGEST_SHEET < sheet.len() {
+        return report::report_audit(Audited::SheetRefused(too_long()), out);
+    }
+    let audited = quote::audit(sheet, stage);
+    report::report_audit(audited, out)
+}

@@ -1,0 +1,44 @@
+-- `put_judged` meets its contract: the word, the cells after their name, and the end of the line.
+use native.Mathlib.Omega.{arith}
+use Rattle.report.specs.Lines.{judgedLine}
+use Rattle.text.proofs.Stores.{put-then}
+use borrow.Author.Needs.{needs}
+use Rattle.report.proofs.lines.put_judged.Statement.{statement}
+use Rattle.report.proofs.lines.put_judged.Tie as tie
+
+put-text-requires : tie.Need-put-text-requires
+put-text-requires c κs = search needs
+
+slice-aggregate-put-named : tie.Need-slice-aggregate-put-named
+slice-aggregate-put-named c = search needs
+
+put-named-requires : tie.Need-put-named-requires
+put-named-requires c κs = search needs
+
+put-byte-requires : tie.Need-put-byte-requires
+put-byte-requires c κs = search needs
+
+same-length : tie.Need-same-length
+same-length c = search needs
+
+returns : tie.Need-returns
+unfolding judgedLine
+returns c =
+    let z = c .before .before in
+    let y = z .before .before .before .before in
+    let x = y .before .before .before .before .before in
+    let short = x .before .before .before .before .pre in (
+      put-then (put-then (x .put-text .ensures) (y .put-named .ensures .0)) (z .put-byte .ensures),
+      omega (arith, x .put-text .ensures .past, y .put-named .ensures .1, z .put-byte .ensures .past, short),
+    )
+
+pub put-judged-spec : {M : Type 1} → statement M
+put-judged-spec =
+    tie.close
+    (tie.spec
+    put-text-requires
+    slice-aggregate-put-named
+    put-named-requires
+    put-byte-requires
+    same-length
+    returns)

@@ -1,0 +1,26 @@
+-- `put_stage_pairs` meets its contract: as many bytes as are shown.
+use native.Mathlib.Omega.{arith}
+use Rattle.report.specs.Lines.{stagePairs}
+use borrow.Author.Needs.{needs}
+use Rattle.report.proofs.parts.put_stage_pairs.Statement.{statement}
+use Rattle.report.proofs.parts.put_stage_pairs.Tie as tie
+
+shown-requires : tie.Need-shown-requires
+shown-requires c κs = search needs
+
+put-hex-pairs-requires : tie.Need-put-hex-pairs-requires
+put-hex-pairs-requires c κs = search needs
+
+same-length : tie.Need-same-length
+same-length c = search needs
+
+returns : tie.Need-returns
+unfolding stagePairs
+returns c =
+    let s = c .before .before .before .shown .ensures in
+    let p = c .before .before .put-hex-pairs .ensures in
+    (rw (s .0) at (p .0), omega (arith, s .1, p .1))
+
+pub put-stage-pairs-spec : {M : Type 1} → statement M
+put-stage-pairs-spec =
+    tie.close (tie.spec shown-requires put-hex-pairs-requires same-length returns)

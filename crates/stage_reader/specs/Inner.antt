@@ -1,0 +1,3 @@
+-- What the contracts of inner functions speak of.
+pub mod Tables
+pub mod Trees

@@ -1,0 +1,26 @@
+// Truth tables of an input, and of a selector from the tables of its trees.
+ghost use mathlib.Core.Path.{_≡_};
+ghost use Prim.Native.Nat.{_^_, _<_, _≤_};
+ghost use Rattle.sheet.specs.Limits.{maxInputs};
+ghost use Rattle.stage_reader.specs.Inner.Tables.{inputTable, selectOf};
+
+// The table of the input whose bit of a pattern is bit j.
+fn input_table(j: u8) -> u16
+    requires { ⌜ j < maxInputs ⌝ }
+    ensures { λ r. ⌜ r ≡ inputTable j ⌝ }
+{
+    match j {
+        0 => 0xAAAA,
+        1 => 0xCCCC,
+        2 => 0xF0F0,
+        _ => 0xFF00,
+    }
+}
+
+// The table of a selector on input i, of the tables of its trees for 0 and 1: where the input is 1, each bit of `off` that differs is turned.
+pub fn select(n: u8, i: u8, off: u16, on: u16) -> u16
+    requires { ⌜ (1 ≤ i) × (i ≤ n) × (n ≤ maxInputs) × (off < 2 ^ (2 ^ n)) × (on < 2 ^ (2 ^ n)) ⌝ }
+    ensures { λ r. ⌜ r ≡ selectOf n i off on ⌝ }
+{
+    off ^ ((off ^ on) & input_table(n - i))
+}

@@ -1,0 +1,45 @@
+use borrow.Author.Needs.{needs}
+use Rattle.stage_writer.proofs.Storing.{stage-stored}
+use Rattle.stage_writer.proofs.stores.put_sheet.Statement.{statement}
+use Rattle.stage_writer.proofs.stores.put_sheet.Tie as tie
+
+put-requires : tie.Need-put-requires
+put-requires c κs = search needs
+
+put-requires-2 : tie.Need-put-requires-2
+put-requires-2 c κs = search needs
+
+put-requires-3 : tie.Need-put-requires-3
+put-requires-3 c κs = search needs
+
+put-wires-requires : tie.Need-put-wires-requires
+put-wires-requires c κs = search needs
+
+put-requires-4 : tie.Need-put-requires-4
+put-requires-4 c κs = search needs
+
+same-length : tie.Need-same-length
+same-length c = search needs
+
+returns : tie.Need-returns
+returns c =
+    let p4 = c .before .before in
+    let w = p4 .before .before .before .before in
+    let p3 = w .before .before .before .before in
+    let p2 = p3 .before .before .before .before in
+    let p1 = p2 .before .before .before .before in
+    let a = p1 .before .before .before .args in
+    stage-stored (a .buffer .now) _ _ _ _ _ (a .tables) (a .n) (a .m) _ (p1 .put .ensures) (p2 .put2 .ensures) (p3 .put3 .ensures) (w .put-wires .ensures)
+    (p4 .put4 .ensures)
+
+pub put-sheet-spec : {M : Type 1} → statement M
+put-sheet-spec =
+    tie.close
+    (tie.spec
+    put-requires
+    put-requires-2
+    put-requires-3
+    put-wires-requires
+    put-requires-4
+    same-length
+    returns)

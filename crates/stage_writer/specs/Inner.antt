@@ -1,0 +1,2 @@
+-- What the contracts of inner functions speak of.
+pub mod Stores

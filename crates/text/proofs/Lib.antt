@@ -1,0 +1,4 @@
+pub mod Stores
+pub mod Decimal
+pub mod Pairs
+pub mod Rows

@@ -1,0 +1,15 @@
+-- What a call that puts text into a lent buffer leaves.
+use Prim.Native.Nat.{ℕ, _+_}
+use mathlib.Core.Path.{_≡_}
+use mathlib.Core.List.{List}
+use lib.ListN.{length}
+use lib.Seq.{sets}
+
+-- the text stands from a place on, and nothing else has changed; bytes that find no room are dropped, and the next place is told as if they had it
+pub record Put (before : List ℕ) (at : ℕ) (text after : List ℕ) (next : ℕ) : Type 0 where
+  pub stored : after ≡ sets before at text
+  pub past : next ≡ at + length text
+
+-- no text ends past this place: far more than any buffer here holds, and small enough that a sum of two such places wraps around nowhere
+abbrev pub lastPlace : ℕ
+lastPlace = 1000000
