@@ -12,7 +12,7 @@ use lib.Pow.{pow-pos}
 use Rattle.base.proofs.Tests.{cond-has}
 use Rattle.sheet.specs.Limits.{maxWires}
 use Rattle.table.specs.Bits.{bit}
-use Rattle.table.specs.Cells.{cells}
+use Rattle.table.specs.Cells.{cells, total}
 use Rattle.table.specs.Pick.{suits, orZero}
 use Rattle.table.specs.Inner.Ranks.{masked, pickOf, rank}
 use Rattle.table.specs.Inner.Blocks.{Covered}
@@ -25,21 +25,22 @@ use Rattle.relation.specs.Inner.Source.{fits}
 use Rattle.relation.specs.Inner.Masks.{maskOf}
 use Rattle.relation.proofs.Decide.{occurs-intro}
 use Rattle.relation.proofs.Sets.{Narrow, mask-lt, mask-projection, mask-covers}
-use Rattle.branch_bound.specs.Search.{replyTables, total, pick, picks, floor}
+use Rattle.branch_bound.specs.Search.{replyTables, pick, picks, floor}
 use Rattle.branch_bound.specs.TreeBoard.{tree}
 use Rattle.branch_bound.proofs.Picks.{pick-least}
 use Rattle.parts.specs.Inner.Ranks.{tableIn, cellsIn, tablesIn, floorIn}
 use Rattle.parts.specs.Inner.Pairs.{pairOf, pairsOf, Covers, PairsCover}
-use Rattle.parts.specs.Inner.Parts.{InLimits, PartSets, rankOf, ranksOf, rankBetween, ranksBetween}
+use Rattle.sheet.specs.Inner.Sized.{Sized}
+use Rattle.parts.specs.Inner.Parts.{PartSets, rankOf, ranksOf, rankBetween, ranksBetween}
 use Rattle.parts.proofs.Packing.{rank-table, rank-cells}
 use Rattle.parts.proofs.PairSums.{pair-zeros, pair-ones}
 
-module _ {n m : ℕ} (sz : InLimits n m) {sets : List ℕ} (ok : PartSets n m sets) where
+module _ {n m : ℕ} (sz : Sized n m) {sets : List ℕ} (ok : PartSets n m sets) where
   pub narrow : Narrow n m sets
   narrow = record { long = ok .long; small = ok .small; past = ok .past }
 
   pub cover : (j : ℕ) → Covered n (maskOf sets j 0) (maskOf sets j 1)
-  cover j p l = mask-covers n m sets j p (sz .wires) (sz .inputs) narrow (ok .defined) l
+  cover j p l = mask-covers n m sets j p (sz .m-most) (sz .n-most) narrow (ok .defined) l
 
   -- the pick between the masks is the pick of the wire
   pub kept-pick : (j : ℕ) → pickOf n (maskOf sets j 0) (maskOf sets j 1) ≡ pick (tree n m) (ofSets sets) j
@@ -47,11 +48,11 @@ module _ {n m : ℕ} (sz : InLimits n m) {sets : List ℕ} (ok : PartSets n m se
   kept-pick j =
       ap orZero
       (least-cong (cells n) n (masked (maskOf sets j 0) (maskOf sets j 1)) (projection m (ofSets sets) j)
-      (λ p b l lb. mask-projection n m sets j p b (sz .wires) (sz .inputs) narrow l lb))
+      (λ p b l lb. mask-projection n m sets j p b (sz .m-most) (sz .n-most) narrow l lb))
 
-  pub least : (j : ℕ) → Least (cells n) (fits n m (ofSets sets) j) (2 ^ (2 ^ n)) (some (pick (tree n m) (ofSets sets) j))
+  pub kept-least : (j : ℕ) → Least (cells n) (fits n m (ofSets sets) j) (2 ^ (2 ^ n)) (some (pick (tree n m) (ofSets sets) j))
   unfolding tree
-  least j = pick-least (tree n m) (ofSets sets) (ok .defined) j
+  kept-least j = pick-least (tree n m) (ofSets sets) (ok .defined) j
 
   -- a wire past the last has 0 everywhere, and so the pick 0
   zero-fits : (j : ℕ) → m ≤ j → T (fits n m (ofSets sets) j 0)
@@ -65,7 +66,7 @@ module _ {n m : ℕ} (sz : InLimits n m) {sets : List ℕ} (ok : PartSets n m se
   pub pick-past : (j : ℕ) → m ≤ j → pick (tree n m) (ofSets sets) j ≡ 0
   pick-past j l =
       let z : cells n 0 ≡ 0 = constant-cells n 0 (inl refl) in
-      least-only (cells n) (fits n m (ofSets sets) j) (2 ^ (2 ^ n)) (pick (tree n m) (ofSets sets) j) 0 (least j)
+      least-only (cells n) (fits n m (ofSets sets) j) (2 ^ (2 ^ n)) (pick (tree n m) (ofSets sets) j) 0 (kept-least j)
       (pow-pos (2 ^ n), zero-fits j l, λ t _ _. omega (arith, z), λ t _ _ _. omega arith)
 
   rank-at : (j : ℕ) → j < maxWires → getD (ranksOf n sets) j 0 ≡ rank n (pick (tree n m) (ofSets sets) j)
@@ -79,7 +80,7 @@ module _ {n m : ℕ} (sz : InLimits n m) {sets : List ℕ} (ok : PartSets n m se
       tabulate-cong maxWires (λ j. tableIn (getD (ranksOf n sets) j 0)) (λ j. cond (ltb j m) (pick (tree n m) (ofSets sets) j) 0)
       (λ j l.
       let t = pick (tree n m) (ofSets sets) j in
-      ap tableIn (rank-at j l) ∙ rank-table n t (sz .inputs) (least j .0)
+      ap tableIn (rank-at j l) ∙ rank-table n t (sz .n-most) (kept-least j .0)
       ∙ cond-has (λ x. t ≡ x) (ltb j m) (λ _. refl) (λ h. pick-past j (nltb→le j m h)))
 
   pub kept-floor : floorIn (ranksOf n sets) ≡ floor (tree n m) (ofSets sets)
@@ -87,15 +88,15 @@ module _ {n m : ℕ} (sz : InLimits n m) {sets : List ℕ} (ok : PartSets n m se
   kept-floor =
       let f : ℕ → ℕ = λ j. cells n (pick (tree n m) (ofSets sets) j) in
       sum-cong maxWires (λ j. cellsIn (getD (ranksOf n sets) j 0)) f
-      (λ j l. ap cellsIn (rank-at j l) ∙ rank-cells n (pick (tree n m) (ofSets sets) j) (sz .inputs) (least j .0))
-      ∙ sum-short f m maxWires (sz .wires) (λ j l. ap (cells n) (pick-past j l) ∙ constant-cells n 0 (inl refl))
+      (λ j l. ap cellsIn (rank-at j l) ∙ rank-cells n (pick (tree n m) (ofSets sets) j) (sz .n-most) (kept-least j .0))
+      ∙ sum-short f m maxWires (sz .m-most) (λ j l. ap (cells n) (pick-past j l) ∙ constant-cells n 0 (inl refl))
 
   -- the masks of a part are fit for a pick
   pub pair-covers : (j : ℕ) → Covers n (pairOf sets j)
   pair-covers j =
       record {
-        zeros-lt = rw (pair-zeros sets j) (mask-lt n m sets j 0 narrow (sz .inputs));
-        ones-lt = rw (pair-ones sets j) (mask-lt n m sets j 1 narrow (sz .inputs));
+        zeros-fit = rw (pair-zeros sets j) (mask-lt n m sets j 0 narrow (sz .n-most));
+        ones-fit = rw (pair-ones sets j) (mask-lt n m sets j 1 narrow (sz .n-most));
         covered = rw (pair-zeros sets j, pair-ones sets j) (cover j);
       }
 

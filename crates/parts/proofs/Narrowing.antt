@@ -25,18 +25,19 @@ use Rattle.relation.proofs.Decide.{free-both}
 use Rattle.relation.proofs.Splits.{keep-part, keep-well-defined, occurs-part}
 use Rattle.relation.proofs.Sets.{member-sets, narrow-keep, narrowed-narrow, occurs-four, mask-projection}
 use Rattle.parts.specs.Inner.Pairs.{pairOf, pairsOf, cutPair, cutPairs}
-use Rattle.parts.specs.Inner.Parts.{InLimits, PartSets, rankOf, ranksOf, rankAgain, ranksAgain}
+use Rattle.sheet.specs.Inner.Sized.{Sized}
+use Rattle.parts.specs.Inner.Parts.{PartSets, rankOf, ranksOf, rankAgain, ranksAgain}
 use Rattle.parts.proofs.Packing.{rank-table}
 use Rattle.parts.proofs.PairCuts.{pair-cut}
-use Rattle.parts.proofs.Keeping.{narrow, cover, kept-pick, least, rank-between}
+use Rattle.parts.proofs.Keeping.{narrow, cover, kept-pick, kept-least, rank-between}
 
-module _ {n m : ℕ} (sz : InLimits n m) {sets : List ℕ} (ok : PartSets n m sets) {p j b : ℕ} (lp : p < 2 ^ n) (lj : j < m)
+module _ {n m : ℕ} (sz : Sized n m) {sets : List ℕ} (ok : PartSets n m sets) {p j b : ℕ} (lp : p < 2 ^ n) (lj : j < m)
     (free-there : T (free m (ofSets sets p) j)) (lb : b < 2) where
   there : p < maxPatterns
-  there = lt-of-lt-of-le lp (pow-mono {i = n} {j = maxInputs} (sz .inputs))
+  there = lt-of-lt-of-le lp (pow-mono {i = n} {j = maxInputs} (sz .n-most))
 
   small : getD sets p 0 < 2 ^ maxValues
-  small = lt-of-lt-of-le (ok .small p) (pow-mono {i = 2 ^ m} {j = maxValues} (pow-mono {i = m} {j = maxWires} (sz .wires)))
+  small = lt-of-lt-of-le (ok .small p) (pow-mono {i = 2 ^ m} {j = maxValues} (pow-mono {i = m} {j = maxWires} (sz .m-most)))
 
   pub with-keep : ofSets (narrowed sets p j b) ≡ keep (ofSets sets) p j b
   with-keep = narrow-keep sets p j b (rw (ok .long) there) small
@@ -69,11 +70,11 @@ module _ {n m : ℕ} (sz : InLimits n m) {sets : List ℕ} (ok : PartSets n m se
   -- a pick whose bit on p still occurs still suits, and so is still the pick
   module _ (i : ℕ) (still : T (occurs maxWires (member (withBit (getD sets p 0) j b)) i (bit (pickOf n (maskOf sets i 0) (maskOf sets i 1)) p))) where
     told : (q c : ℕ) → q < 2 ^ n → c < 2 → masked (maskOf sets i 0) (maskOf sets i 1) q c ≡ occurs m (ofSets sets q) i c
-    told q c l lc = mask-projection n m sets i q c (sz .wires) (sz .inputs) (narrow sz ok) l lc
+    told q c l lc = mask-projection n m sets i q c (sz .m-most) (sz .n-most) (narrow sz ok) l lc
 
     told-with : (q c : ℕ) → q < 2 ^ n → c < 2
         → masked (maskOf (narrowed sets p j b) i 0) (maskOf (narrowed sets p j b) i 1) q c ≡ occurs m (ofSets (narrowed sets p j b) q) i c
-    told-with q c l lc = mask-projection n m (narrowed sets p j b) i q c (sz .wires) (sz .inputs) (narrow sz with-sets) l lc
+    told-with q c l lc = mask-projection n m (narrowed sets p j b) i q c (sz .m-most) (sz .n-most) (narrow sz with-sets) l lc
 
     has-pick : leastOf (cells n) n (masked (maskOf sets i 0) (maskOf sets i 1)) ≡ some (pickOf n (maskOf sets i 0) (maskOf sets i 1))
     has-pick = pick-some n (maskOf sets i 0) (maskOf sets i 1) (cover sz ok i)
@@ -98,7 +99,7 @@ module _ {n m : ℕ} (sz : InLimits n m) {sets : List ℕ} (ok : PartSets n m se
         let d = eqb→eq q p e in
         let w = withBit (getD sets p 0) j b in
         let lw : w < 2 ^ (2 ^ m) = subst (λ x. x < 2 ^ (2 ^ m)) set-there (with-sets .small p) in
-        let f : T (occurs m (member w) i (bit t p)) = subst T (occurs-four m w i (bit t p) (sz .wires) lw) still in
+        let f : T (occurs m (member w) i (bit t p)) = subst T (occurs-four m w i (bit t p) (sz .m-most) lw) still in
         rw (d, member-sets (narrowed sets p j b) p, set-there) f)
         (λ e.
         let ne : q ≡ p → ⊥ = λ d. T-not (eqb q p) e (eq-test d) in
@@ -128,9 +129,9 @@ module _ {n m : ℕ} (sz : InLimits n m) {sets : List ℕ} (ok : PartSets n m se
       tabulate-cong maxWires (λ i. rankAgain n (getD (ranksOf n sets) i 0) p i w (getD (pairsOf W) i 0)) (rankOf n W)
       (λ i l.
       let t = pickOf n (maskOf sets i 0) (maskOf sets i 1) in
-      let lt : t < 2 ^ (2 ^ n) = rw (kept-pick sz ok i) (least sz ok i .0) in
+      let lt : t < 2 ^ (2 ^ n) = rw (kept-pick sz ok i) (kept-least sz ok i .0) in
       let er = tabulate-at maxWires (rankOf n sets) i l in
       let ep = tabulate-at maxWires (pairOf W) i l in
-      let et = rank-table n t (sz .inputs) lt in
+      let et = rank-table n t (sz .n-most) lt in
       rw (er, ep, et)
       (cond-has (λ x. x ≡ rankOf n W i) (occurs maxWires (member w) i (bit t p)) (λ h. ap (rank n) (sym (still-pick i h))) (λ _. rank-between n W i)))

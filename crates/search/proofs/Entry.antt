@@ -17,7 +17,8 @@ use Rattle.branch_bound.specs.declared.State.{State}
 use Rattle.branch_bound.specs.Reply.{bestOutcome, stoppedOutcome, SearchReply, markOf, answerOf, refusedWith, searchTested, searchOf}
 use Rattle.branch_bound.specs.Search.{floor, start, searchPart, run}
 use Rattle.branch_bound.specs.TreeBoard.{tree}
-use Rattle.parts.specs.Inner.Parts.{InLimits, PartSets}
+use Rattle.sheet.specs.Inner.Sized.{Sized}
+use Rattle.parts.specs.Inner.Parts.{PartSets}
 use Rattle.search.specs.Inner.Tally.{stateOf}
 
 -- what the parts of the run make together
@@ -48,18 +49,15 @@ module _ (r : Relation) (long : length (r .sets) ≡ maxPatterns) (passes : chec
   fit : Fit r
   fit = check-well-formed r passes
 
-  pub inputs : r .n ≤ maxInputs
-  inputs = fit .sizes .n-most
-
-  pub sized : InLimits (r .n) (r .m)
-  sized = record { one = fit .sizes .n-least; inputs = fit .sizes .n-most; wires = fit .sizes .m-most }
+  pub sizes-held : Sized (r .n) (r .m)
+  sizes-held = fit .sizes
 
   pub as-held : ofSets (cleared (r .n) (r .sets)) ≡ relationOf r
   unfolding relationOf
   as-held = cleared-takes (r .n) (r .sets) (fit .sizes .n-most) long
 
-  pub held : PartSets (r .n) (r .m) (cleared (r .n) (r .sets))
-  held =
+  pub sets-held : PartSets (r .n) (r .m) (cleared (r .n) (r .sets))
+  sets-held =
       let w = cleared-narrow (r .n) (r .m) (r .sets) long (fit .sizes .n-most) (fit .small) in
       record { long = w .long; small = w .small; past = w .past; defined = rw as-held (fit .well-defined) }
 

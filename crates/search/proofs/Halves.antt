@@ -92,7 +92,7 @@ module _ {n m : ℕ} {S ws rs : List ℕ} {p j b w : ℕ} (h : Half n m S ws rs 
         let same : value m (wires (tablesIn rs)) q ≡ value m (wires (tablesIn r)) q =
         sum-cong m (λ i. bit (wires (tablesIn rs) i) q * 2 ^ i) (λ i. bit (wires (tablesIn r) i) q * 2 ^ i)
         (λ i li.
-        let l4 : i < maxWires = omega (arith, whole .sized .wires) in
+        let l4 : i < maxWires = omega (arith, whole .sized .m-most) in
         ap (λ b. b * 2 ^ i) (ap (λ x. bit x q) (tables-at rs i l4) ∙ alike i q l4 l ∙ ap (λ x. bit x q) (sym (tables-at r i l4)))) in
         rw (at, ← same) (settled q (omega arith))
 

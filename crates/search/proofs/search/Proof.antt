@@ -8,7 +8,7 @@ use Rattle.branch_bound.specs.Search.{run}
 use Rattle.branch_bound.specs.TreeBoard.{tree}
 use Rattle.branch_bound.specs.Reply.{answerOf, refusedWith}
 use Rattle.parts.specs.Inner.Parts.{PartSets}
-use Rattle.search.proofs.Entry.{inputs, sized, as-held, held, answered, turned-away}
+use Rattle.search.proofs.Entry.{sizes-held, sets-held, as-held, answered, turned-away}
 use borrow.Author.Needs.{needs}
 use Rattle.search.proofs.search.Statement.{statement}
 use Rattle.search.proofs.search.Tie as tie
@@ -28,14 +28,14 @@ clear-past-requires : tie.Need-clear-past-requires
 clear-past-requires c κs =
     let a = c .before .before .before .before .args in
     let l : length (a .relation .sets) ≡ maxPatterns = search needs in
-    inputs (a .relation) l (sym (c .before .before .check .ensures) ∙ ap verdictCase (c .enum-told .given .1))
+    sizes-held (a .relation) l (sym (c .before .before .check .ensures) ∙ ap verdictCase (c .enum-told .given .1)) .n-most
 
 search-sets-requires : tie.Need-search-sets-requires
 search-sets-requires c κs =
     let a = c .before .before .before .before .before .args in
     let l : length (a .relation .sets) ≡ maxPatterns = search needs in
     let p = sym (c .before .before .before .check .ensures) ∙ ap verdictCase (c .before .enum-told .given .1) in
-    (sized (a .relation) l p, subst (PartSets (a .relation .n) (a .relation .m)) (sym (c .clear-past .ensures)) (held (a .relation) l p))
+    (sizes-held (a .relation) l p, subst (PartSets (a .relation .n) (a .relation .m)) (sym (c .clear-past .ensures)) (sets-held (a .relation) l p))
 
 enum-known-checked : tie.Need-enum-known-checked
 enum-known-checked c = search needs

@@ -5,7 +5,7 @@ use Rattle.relation.specs.Tests.{ofSets}
 use Rattle.branch_bound.specs.Search.{run}
 use Rattle.branch_bound.specs.TreeBoard.{tree}
 use Rattle.search.specs.Inner.Tally.{stateOf}
-use Rattle.search.proofs.Carrying.{floor-is}
+use Rattle.search.proofs.Carrying.{carried-floor}
 use Rattle.parts.proofs.Keeping.{rank-first}
 use Rattle.search.proofs.Entry.{ran, stopped-answer, best-answer}
 use borrow.Author.Needs.{needs}
@@ -60,7 +60,7 @@ returns c =
     let a = c .before .before .before .before .before .before .before .before .before .before .before .before .before .before .before .args in
     let h = c .before .before .before .before .before .before .before .before .before .before .before .before .whole-part .ensures in
     let f = c .before .before .before .before .before .before .before .floor-of in
-    stopped-answer (a .n) (a .m) (ofSets (a .sets)) _ _ (f .result) (at-end (c .before)) (eq-eqb _ _ (c .if1 .taken)) (floor-is h (f .ensures))
+    stopped-answer (a .n) (a .m) (ofSets (a .sets)) _ _ (f .result) (at-end (c .before)) (eq-eqb _ _ (c .if1 .taken)) (carried-floor h (f .ensures))
 
 returns-2 : tie.Need-returns-2
 returns-2 c =

@@ -11,7 +11,7 @@ use Rattle.relation.specs.Tests.{ofSets, openPairs}
 use Rattle.relation.specs.Inner.Masks.{withBit}
 use Rattle.search.specs.Inner.Conflicts.{Settled}
 use Rattle.search.specs.Inner.Tally.{stateOf}
-use Rattle.search.proofs.Carrying.{tables-are, pattern-lt}
+use Rattle.search.proofs.Carrying.{carried-tables, pattern-lt}
 use Rattle.search.proofs.Opening.{found-open, found-below}
 use Rattle.search.proofs.Steps.{lt→nleb, discards, halts, improves, splits}
 use Rattle.search.proofs.Halves.{Half, half-cover, Reached, none-reached, both-reached, Made, made-fewer, ready, visited, passed-over}
@@ -82,10 +82,10 @@ split-element-copy-out-set : (t : ℕ) → split-lts.Need-element-copy-out-set (
 split-element-copy-out-set t c = split-pattern c
 
 split-with-bit-requires : (t : ℕ) → split-lts.Need-with-bit-requires (split-claims t) (split-at t) split.Post
-split-with-bit-requires t c κs = let q = c .before .pre .1 in (omega (arith, q .3, q .1 .sized .wires), omega arith)
+split-with-bit-requires t c κs = let q = c .before .pre .1 in (omega (arith, q .3, q .1 .sized .m-most), omega arith)
 
 split-with-bit-requires-2 : (t : ℕ) → split-lts.Need-with-bit-requires-2 (split-claims t) (split-at t) split.Post
-split-with-bit-requires-2 t c κs = let q = c .before .before .pre .1 in (omega (arith, q .3, q .1 .sized .wires), omega arith)
+split-with-bit-requires-2 t c κs = let q = c .before .before .pre .1 in (omega (arith, q .3, q .1 .sized .m-most), omega arith)
 
 -- the two parts
 split-half : {t : ℕ} (c : split-lts.Start (split-claims t) (split-at t) split.Post) (b : ℕ) → b < 2 → {w : ℕ}
@@ -132,14 +132,14 @@ split-ranks-again-requires t c κs =
     let i = c .before .before .before .before .before in
     let q = i .pre .1 in
     let cover = half-cover (split-half i 0 (omega arith) (c .before .before .before .with-bit .ensures)) refl (c .before .cut-pairs .ensures) in
-    (q .0, q .1 .sized .one, q .1 .sized .inputs, split-pattern i, cover)
+    (q .0, q .1 .sized .n-least, q .1 .sized .n-most, split-pattern i, cover)
 
 split-ranks-again-requires-2 : (t : ℕ) → split-lts.Need-ranks-again-requires-2 (split-claims t) (split-at t) split.Post
 split-ranks-again-requires-2 t c κs =
     let i = c .before .before .before .before .before .before in
     let q = i .pre .1 in
     let cover = half-cover (split-half i 1 (omega arith) (c .before .before .before .with-bit2 .ensures)) refl (c .before .cut-pairs2 .ensures) in
-    (q .0, q .1 .sized .one, q .1 .sized .inputs, split-pattern i, cover)
+    (q .0, q .1 .sized .n-least, q .1 .sized .n-most, split-pattern i, cover)
 
 split-floor-of-requires : (t : ℕ) → split-lts.Need-floor-of-requires (split-claims t) (split-at t) split.Post
 split-floor-of-requires t c κs = search needs
@@ -270,7 +270,7 @@ visit-first-open-requires t c κs =
     let q = c .before .before .before .before .before .before .before .pre .1 in
     let h = q .1 in
     let et = c .before .tables-of .ensures in
-    (h .sized, h .sets, tables-are h et, q .3, rw et (q .4))
+    (h .sized, h .sets, carried-tables h et, q .3, rw et (q .4))
 
 visit-enum-told : (t : ℕ) → visit-lts.Need-enum-told (visit-claims t) (visit-at t) visit.Post
 visit-enum-told t c = c .match .keys1
@@ -288,7 +288,7 @@ visit-split-requires t c κs =
     let q = i .pre .1 in
     let h = q .1 in
     let et = c .before .before .before .before .before .before .before .before .tables-of .ensures in
-    let are = tables-are h et in
+    let are = carried-tables h et in
     let found = c .before .before .before .before .found .given in
     let ef = c .before .before .before .before .before .before .first-open .ensures in
     let o = found-open (h .sized) (h .sets) are ef (found .1) in

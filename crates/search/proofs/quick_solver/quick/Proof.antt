@@ -21,22 +21,22 @@ rank-left-requires c κs =
     let a = c .before .before .args in
     let q = c .before .before .pre in
     let l = c .before .loop in
-    (q .0, q .1, l .inv .0 .kept, omega (arith, q .1 .wires), λ e. q .3 ∙ ap (λ s. rankOf (a .n) s 0) (sym (l .inv .1 e)))
+    (q .0, q .1, l .inv .0 .kept, omega (arith, q .1 .m-most), λ e. q .3 ∙ ap (λ s. rankOf (a .n) s 0) (sym (l .inv .1 e)))
 
 table-of-requires : tie.Need-table-of-requires Inv-loop μ-loop
 table-of-requires c κs = search needs
 
 agreeing-requires : tie.Need-agreeing-requires Inv-loop μ-loop
-agreeing-requires c κs = omega (arith, c .before .before .before .before .pre .1 .wires)
+agreeing-requires c κs = omega (arith, c .before .before .before .before .pre .1 .m-most)
 
 cast-tables : tie.Need-cast-tables Inv-loop μ-loop
 cast-tables c = omega arith
 
 mul-tables : tie.Need-mul-tables Inv-loop μ-loop
-mul-tables c = omega (arith, c .before .before .before .before .before .pre .1 .wires)
+mul-tables c = omega (arith, c .before .before .before .before .before .pre .1 .m-most)
 
 array-write-tables : tie.Need-array-write-tables Inv-loop μ-loop
-array-write-tables c = omega (arith, c .before .before .before .before .before .pre .1 .wires)
+array-write-tables c = omega (arith, c .before .before .before .before .before .pre .1 .m-most)
 
 cells-of-requires : tie.Need-cells-of-requires Inv-loop μ-loop
 cells-of-requires c κs = search needs
@@ -44,7 +44,7 @@ cells-of-requires c κs = search needs
 add-cells : tie.Need-add-cells Inv-loop μ-loop
 add-cells c =
     let l = c .before .before .before .before .before .loop .inv .0 in
-    omega (arith, c .before .before .before .before .before .before .pre .1 .wires, l .few, l .reached)
+    omega (arith, c .before .before .before .before .before .before .pre .1 .m-most, l .few, l .reached)
 
 add-j : tie.Need-add-j Inv-loop μ-loop
 add-j c = omega arith
