@@ -28,7 +28,7 @@ pub stage-cells-cong : (b : Board) (X Y : Tables) → ((j : ℕ) → j < b .m �
 unfolding total
 stage-cells-cong b X Y h = sum-cong (b .m) (λ j. b .count (X j)) (λ j. b .count (Y j)) (λ j l. ap (b .count) (h j l))
 
--- a reply has four tables
+-- a reply has as many tables as there may be wires
 pub tables-long : (m : ℕ) (X : Tables) → length (replyTables m X) ≡ maxWires
 unfolding replyTables
 tables-long m X = tabulate-length maxWires (λ j. cond (ltb j m) (X j) 0)

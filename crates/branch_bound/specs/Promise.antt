@@ -15,7 +15,7 @@ pub record Fair (b : Board) : Type 0 where
   pub order : (s t : ℕ) → s < 2 ^ (2 ^ b .n) → t < 2 ^ (2 ^ b .n) → b .key s ≤ b .key t → b .count s ≤ b .count t
   pub few : b .m ≤ maxWires
 
--- What holds of every state of a search of Q: the four tables are an answer, the cells are theirs, no more visits than the budget allows,
+-- What holds of every state of a search of Q: the tables are an answer, the cells are theirs, no more visits than the budget allows,
 -- and a stopped search has used the budget up.
 pub record AnswerSoFar (b : Board) (budget : ℕ) (Q : Rel) (s : State) : Type 0 where
   pub long : length (s .tables) ≡ maxWires
