@@ -10,7 +10,7 @@ use lib.Seq.{getD-take, length-take-le}
 use Rattle.sheet.specs.Limits.{maxWires}
 use Rattle.table.specs.Cells.{wires, total}
 use Rattle.table.specs.Drawing.{Drawing, drawnCells}
-use Rattle.table.specs.Inner.Drawing.{Counts}
+use Rattle.table.specs.Inner.Drawing.{FairCount}
 use Rattle.table.proofs.Bits.{sum-cong}
 use Rattle.table.proofs.Drawings.{least}
 use Rattle.relation.specs.Source.{Rel, Tables, Stage, WellDefined, Compatible, value}
@@ -27,7 +27,7 @@ pub fair : (n m : ℕ) → m ≤ maxWires → Fair (tree n m)
 unfolding tree
 fair n m few = record { order = λ s t ls lt h. h; few = few }
 
-module _ (D : Drawing) (b : Board) (counts : Counts D (b .n) (b .count)) (fairly : Fair b) (budget : ℕ) (R : Rel) (ne : WellDefined (b .n) (b .m) R) where
+module _ (D : Drawing) (b : Board) (counts : FairCount D (b .n) (b .count)) (fairly : Fair b) (budget : ℕ) (R : Rel) (ne : WellDefined (b .n) (b .m) R) where
   promise : Promise b budget R (run b budget R)
   promise = run-promise b fairly budget R ne
 

@@ -4,7 +4,7 @@ use mathlib.Core.Path.{sym}
 use mathlib.Core.List.{List}
 use lib.ListN.{length}
 use lib.Seq.{length-take-le}
-use Rattle.table.specs.Inner.Drawing.{Counts}
+use Rattle.io.specs.Counts.{Counts}
 
 pub counts : (n : ℕ) (s : List ℕ) → n ≤ length s → Counts n s
 counts n s h = (h, sym (length-take-le n s h))

@@ -1,6 +1,6 @@
 // Reading: an argument, a descriptor, or a file by its name, put at the start of a lent buffer.
 use crate::messages;
-ghost use Rattle.table.specs.Inner.Drawing.{Counts};
+ghost use Rattle.io.specs.Counts.{Counts};
 
 // How many bytes were read; and whether that is all there was, or as much as the buffer takes. Where it is not, the reason has been said on standard error.
 pub struct Input {

@@ -3,7 +3,7 @@
 use libc::STDERR_FILENO;
 ghost use Prim.Native.Nat.{_≤_};
 ghost use lib.ListN.{length};
-ghost use Rattle.table.specs.Inner.Drawing.{Counts};
+ghost use Rattle.io.specs.Counts.{Counts};
 
 // Room for a name as long as the system takes, and the words around it.
 const LONGEST_LINE: usize = 4200;

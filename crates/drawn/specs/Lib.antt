@@ -1,3 +1,4 @@
 -- What the input of the trials holds, and what its replies are made of beside the report's parts.
 pub mod Records
 pub mod Lines
+pub mod Inner

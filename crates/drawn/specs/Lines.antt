@@ -1,12 +1,11 @@
 -- The parts of the reply lines that the report does not have, as bytes.
-use Prim.Native.Nat.{ℕ, _+_, _*_}
+use Prim.Native.Nat.{ℕ}
 use mathlib.Core.Bool.{Bool, true, false, cond}
 use mathlib.Core.List.{List, [], _∷_, _++_}
 use lib.Dec.{eqb}
-use lib.ListN.{getD, drop, length}
-use Rattle.sheet.specs.Limits.{maxWires}
-use Rattle.text.specs.Text.{space, decimal, longestDecimal}
-use Rattle.report.specs.Lines.{newline, longestCounts, longestPairs, longestWord}
+use lib.ListN.{getD, drop}
+use Rattle.text.specs.Text.{space, decimal}
+use Rattle.report.specs.Lines.{newline}
 
 -- a number with a space behind it
 unfoldable pub spacedText : ℕ → List ℕ
@@ -35,21 +34,3 @@ minusText = space ∷ 0x2D ∷ newline ∷ []
 -- a plus where every byte of a buffer from a place on is as it was filled, else a minus
 abbrev pub keptText : List ℕ → ℕ → List ℕ
 keptText buffer from = cond (allFilled (drop from buffer)) plusText minusText
-
--- the longest of each
-abbrev pub longestSpaced : ℕ
-longestSpaced = longestDecimal + 1
-
-abbrev pub longestTables : ℕ
-longestTables = maxWires * longestSpaced
-
-abbrev pub longestKept : ℕ
-longestKept = length plusText
-
--- a word, a number and the end of the line
-abbrev pub longestJudged : ℕ
-longestJudged = longestWord + longestDecimal + 1
-
--- the longest reply is that of a quote with a stage: the counts, the word of the mark, the stage, and what is told of the buffer
-abbrev pub longestReply : ℕ
-longestReply = longestCounts + longestWord + longestPairs + longestKept

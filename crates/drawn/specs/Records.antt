@@ -36,10 +36,3 @@ recordLength s at =
     (cond (eqb kind 0x53) (7 + 2 * maxPatterns)
     (cond (eqb kind 0x57) (4 + 2 * maxWires)
     (cond (eqb kind 0x52) (3 + twoAt s (at + 1)) 1))))
-
--- the most bytes of a part, whose length is a number of two bytes, and of a record: an audit has two parts
-abbrev pub longestPart : ℕ
-longestPart = 65535
-
-abbrev pub longestRecord : ℕ
-longestRecord = 5 + 2 * longestPart

@@ -7,8 +7,9 @@ use text::put_text;
 ghost use mathlib.Core.Path.{_≡_};
 ghost use Prim.Native.Nat.{_+_, _≤_};
 ghost use lib.ListN.{drop, length};
-ghost use Rattle.text.specs.Inner.Put.{Put, lastPlace};
-ghost use Rattle.drawn.specs.Lines.{allFilled, keptText, longestKept, longestSpaced, longestTables, spacedText, tablesText};
+ghost use Rattle.text.specs.Inner.Put.{PutWithin, lastPlace};
+ghost use Rattle.drawn.specs.Lines.{allFilled, keptText, spacedText, tablesText};
+ghost use Rattle.drawn.specs.Inner.Lengths.{longestKept, longestSpaced, longestTables};
 
 // What a lent buffer is filled with before a call.
 pub const FILL: u8 = 0xEE;
@@ -16,7 +17,7 @@ pub const FILL: u8 = 0xEE;
 // A number with a space behind it.
 pub fn put_spaced(out: &mut [u8], at: usize, x: u64) -> usize
     requires { ⌜ at + longestSpaced ≤ lastPlace ⌝ }
-    ensures { λ r. ⌜ Put (now (out .entry)) at (spacedText x) (now (out .exit)) r × (r ≤ at + longestSpaced) ⌝ }
+    ensures { λ r. ⌜ PutWithin longestSpaced (now (out .entry)) at (spacedText x) (now (out .exit)) r ⌝ }
 {
     let next = put_decimal(out, at, x);
     put_byte(out, next, b' ')
@@ -25,7 +26,7 @@ pub fn put_spaced(out: &mut [u8], at: usize, x: u64) -> usize
 // The four tables, each with a space behind it.
 pub fn put_tables(out: &mut [u8], at: usize, tables: [u16; Sheet::WIRES]) -> usize
     requires { ⌜ at + longestTables ≤ lastPlace ⌝ }
-    ensures { λ r. ⌜ Put (now (out .entry)) at (tablesText tables) (now (out .exit)) r × (r ≤ at + longestTables) ⌝ }
+    ensures { λ r. ⌜ PutWithin longestTables (now (out .entry)) at (tablesText tables) (now (out .exit)) r ⌝ }
 {
     let first = put_spaced(out, at, tables[0] as u64);
     let second = put_spaced(out, first, tables[1] as u64);
@@ -50,7 +51,7 @@ fn is_filled(buffer: &[u8], from: usize) -> bool
 // The end of the line of a call with a buffer: a plus where every byte from a place on is as it was lent, else a minus.
 pub fn put_kept(out: &mut [u8], at: usize, buffer: &[u8], from: usize) -> usize
     requires { ⌜ at + longestKept ≤ lastPlace ⌝ }
-    ensures { λ r. ⌜ Put (now (out .entry)) at (keptText (now (buffer .entry)) from) (now (out .exit)) r × (r ≤ at + longestKept) ⌝ }
+    ensures { λ r. ⌜ PutWithin longestKept (now (out .entry)) at (keptText (now (buffer .entry)) from) (now (out .exit)) r ⌝ }
 {
     if is_filled(buffer, from) {
         return put_text(out, at, b" +\n");

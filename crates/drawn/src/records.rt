@@ -8,7 +8,8 @@ ghost use Prim.Native.Nat.{_+_, _*_, _≤_};
 ghost use lib.ListN.{length};
 ghost use Rattle.sheet.specs.Limits.{maxPatterns, maxWires};
 ghost use Rattle.text.specs.Inner.Put.{lastPlace};
-ghost use Rattle.drawn.specs.Records.{fourAt, longestPart, longestRecord, numbersAt, partOf, recordLength, twoAt};
+ghost use Rattle.drawn.specs.Records.{fourAt, numbersAt, partOf, recordLength, twoAt};
+ghost use Rattle.drawn.specs.Inner.Lengths.{longestPart, longestRecord};
 
 // The bytes of a record that has no part of its own length: n, m, a budget and the sets of a relation; n, m, a buffer's length and the tables of a stage.
 const SEARCH_RECORD: usize = 7 + 2 * Sheet::MAX_PATTERNS;

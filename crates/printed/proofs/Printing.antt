@@ -36,7 +36,7 @@ module _ (sheet : List ℕ) where
 
   pub audit-too-long : (c : Case) (stage : List ℕ) → c ≡ refusing refusedOutcome (refusalAt tooLong longestSheet) → longestSheet < length sheet
       → auditLine c ≡ auditPrintedOf sheet stage
-  unfolding auditLine auditPrintedOf
+  unfolding auditPrintedOf
   audit-too-long c stage e l = rw (e, lt-ltb longestSheet (length sheet) l)
 
   pub audit-line : (c : Case) (stage : List ℕ) → c ≡ auditedOf sheet stage → length sheet ≤ longestSheet → auditLine c ≡ auditPrintedOf sheet stage

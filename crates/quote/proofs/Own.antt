@@ -58,7 +58,7 @@ module _ (r : Relation) (passes : checkOf r ≡ acceptedCase) (budget : ℕ) whe
   trees = stageTrees (r .n) (r .m) (found .tables)
 
   told : Smallest treeDrawing (tree (r .n) (r .m)) budget (relationOf r) (run (tree (r .n) (r .m)) budget (relationOf r)) trees
-  unfolding tree stageTrees
+  unfolding tree stageTrees tree-counts
   told = smallest treeDrawing (tree (r .n) (r .m)) (tree-counts (r .n)) (fair (r .n) (r .m) (sized .m-most)) budget (relationOf r) (fit .well-defined)
 
   -- the stage written is compatible and has exactly the cells found

@@ -13,13 +13,13 @@ use Rattle.base.proofs.Tabulate.{tabulate-length, tabulate-at}
 use Rattle.table.specs.Bits.{bit, ofBits, tabulate}
 use Rattle.table.specs.Cells.{wires, total}
 use Rattle.table.specs.Drawing.{Drawing, drawnValue, drawnCells}
-use Rattle.table.specs.Inner.Drawing.{drawnTable, Counts}
+use Rattle.table.specs.Inner.Drawing.{drawnTable, FairCount}
 use Rattle.table.proofs.Bits.{sum-cong, bit-lt, bit-ofBits, ofBits-lt, ofBits-bit}
 use Rattle.table.proofs.Drawings.{tables-lt, value-tables, value-lt, total-drawn, least, least-formed, least-value, least-cells}
 use Rattle.relation.specs.Source.{Rel, Tables, Stage, WellDefined, Compatible, value}
 use Rattle.relation.specs.Families.{Family}
 
-module _ (D : Drawing) (n : ℕ) (count : ℕ → ℕ) (counts : Counts D n count) (m : ℕ) (R : Rel) where
+module _ (D : Drawing) (n : ℕ) (count : ℕ → ℕ) (counts : FairCount D n count) (m : ℕ) (R : Rel) where
   -- the tables of a family
   module _ (xs : List (D .Shape)) (f : Family D n m R xs) where
     abbrev pub drawnTables : Tables

@@ -7,8 +7,7 @@ use Rattle.base.specs.Refusals.{refusalAt, empty, sizesDiffer, tooLong}
 use Rattle.branch_bound.specs.Reply.{stoppedOutcome}
 use Rattle.quote.specs.Cases.{fitsOutcome, differsOutcome}
 use Rattle.text.specs.Text.{digits, decimal, hexDigit, hexPair, furtherPairs, hexPairs, named}
-use Rattle.report.specs.Lines.{newline, cellsText, fitsText, differsText, sheetText, stageText, refusedText, atText}
-use Rattle.report.specs.Lines.{countsOf, stagePairs, resultLines, refusalText, refusalLine, linesOf, judgedLine, auditLine}
+use Rattle.report.specs.Lines.{newline, cellsText, fitsText, differsText, sheetText, stageText, refusedText, atText, countsOf, stagePairs, resultLines, refusalText, refusalLine, linesOf, judgedLine, auditLine}
 
 -- all meanings open: those of text, and with them those of the lines
 unfoldable pub texts : ℕ
@@ -16,7 +15,7 @@ unfolding digits decimal hexDigit hexPair furtherPairs hexPairs named
 texts = 0
 
 unfoldable pub printing : ℕ
-unfolding texts countsOf stagePairs resultLines refusalText refusalLine linesOf judgedLine auditLine
+unfolding texts countsOf stagePairs resultLines refusalText refusalLine linesOf judgedLine
 printing = 0
 
 -- "cells 2 floor 1 visits 0 stopped" and "20 2F": bytes of the buffer past the length are not shown

@@ -89,7 +89,7 @@ unfoldable pub judgedLine : List ℕ → ℕ → List ℕ
 judgedLine word cells = word ++ named cellsText cells ++ newline ∷ []
 
 -- what the program prints for a reply of the audit: "fits cells C", "differs cells C", "sheet refused N at P" or "stage refused N at P"
-unfoldable pub auditLine : Case → List ℕ
+abbrev pub auditLine : Case → List ℕ
 auditLine c =
     let word = cond (eqb (c .outcome) fitsOutcome) fitsText differsText in
     let whose = cond (eqb (c .outcome) refusedOutcome) sheetText stageText in
@@ -110,13 +110,6 @@ longestPairs = 3 * longestStage
 -- with the end of its line
 abbrev pub longestReport : ℕ
 longestReport = longestCounts + longestWord + longestPairs + 1
-
--- "refused N at P" is shorter, and so is its line
-abbrev pub longestRefusal : ℕ
-longestRefusal = length refusedText + length atText + 2 * longestDecimal
-
-abbrev pub longestRefusalLine : ℕ
-longestRefusalLine = longestWord + longestRefusal + 1
 
 -- what a report leaves in the buffer: its text at the start, all else as it was; its length is handed back
 abbrev pub Printed : (text before after : List ℕ) → ℕ → Type 0

@@ -14,9 +14,17 @@ ghost use Rattle.report.specs.Lines.{Printed, linesOf, auditLine};
 pub mod parts; // what lines are made of
 mod lines; // the lines
 
-// The lines of a report have at most so many bytes: three numbers with their names (6, 7 and 8 bytes), the longest word (9), three bytes for each of a stage,
-// and the end of its line.
-pub const LONGEST_REPORT: usize = 21 + 3 * LONGEST_DECIMAL + 9 + 3 * LONGEST_STAGE + 1;
+// The bytes of "cells ", " floor " and " visits ", and of " stopped" with the end of its line, the longest word.
+const COUNT_NAMES: usize = 6 + 7 + 8;
+
+const LONGEST_WORD: usize = 9;
+
+// The lines of a report have at most so many bytes: three numbers with their names, a word, three bytes for each of a stage, and the end of its line.
+pub const LONGEST_REPORT: usize = COUNT_NAMES
+    + 3 * LONGEST_DECIMAL
+    + LONGEST_WORD
+    + 3 * LONGEST_STAGE
+    + 1;
 
 // The lines for a reply of the quote and the bytes that it wrote its stage to.
 pub fn report(q: Quoted, stage: &[u8], out: &mut [u8]) -> usize

@@ -9,14 +9,14 @@ use text::put_text;
 ghost use Prim.Native.Nat.{_≤_};
 ghost use lib.ListN.{length};
 ghost use Rattle.quote.specs.Cases.{quoteReply};
-ghost use Rattle.text.specs.Inner.Put.{Put};
+ghost use Rattle.text.specs.Inner.Put.{PutWithin};
 ghost use Rattle.report.specs.Lines.{longestReport, longestWord, resultLines, judgedLine};
+ghost use Rattle.report.specs.Inner.Lengths.{longestJudged};
 
 // Puts both lines of a quote with a stage, with the word of its mark.
 pub fn put_result(out: &mut [u8], word: &[u8], q: Quoted, stage: &[u8]) -> usize
     requires { ⌜ length (now word) ≤ longestWord ⌝ }
-    ensures { λ r. ⌜ Put (now (out .entry)) 0 (resultLines (now (word .entry)) (quoteReply q) (now (stage .entry))) (now (out .exit)) r
-        × (r ≤ longestReport) ⌝ }
+    ensures { λ r. ⌜ PutWithin longestReport (now (out .entry)) 0 (resultLines (now (word .entry)) (quoteReply q) (now (stage .entry))) (now (out .exit)) r ⌝ }
 {
     let counts = put_counts(out, 0, q.cells, q.floor, q.visits);
     let line = put_text(out, counts, word);
@@ -27,7 +27,7 @@ pub fn put_result(out: &mut [u8], word: &[u8], q: Quoted, stage: &[u8]) -> usize
 // Puts the line of a stage that was judged: the word of the judgement, and the stage's cells.
 pub fn put_judged(out: &mut [u8], word: &[u8], cells: u32) -> usize
     requires { ⌜ length (now word) ≤ longestWord ⌝ }
-    ensures { λ r. ⌜ Put (now (out .entry)) 0 (judgedLine (now (word .entry)) cells) (now (out .exit)) r × (r ≤ longestReport) ⌝ }
+    ensures { λ r. ⌜ PutWithin longestJudged (now (out .entry)) 0 (judgedLine (now (word .entry)) cells) (now (out .exit)) r ⌝ }
 {
     let start = put_text(out, 0, word);
     let end = put_named(out, start, b"cells ", cells as u64);

@@ -10,14 +10,14 @@ ghost use mathlib.Core.Path.{_≡_};
 ghost use Prim.Native.Nat.{_+_, _≤_, min};
 ghost use lib.ListN.{length};
 ghost use Rattle.stage.specs.Bytes.{longestStage};
-ghost use Rattle.text.specs.Inner.Put.{Put, lastPlace};
-ghost use Rattle.report.specs.Lines.{longestCounts, longestPairs, longestRefusal, longestRefusalLine, longestWord};
-ghost use Rattle.report.specs.Lines.{countsOf, stagePairs, refusalText, refusalLine};
+ghost use Rattle.text.specs.Inner.Put.{PutWithin, lastPlace};
+ghost use Rattle.report.specs.Lines.{longestCounts, longestPairs, longestWord, countsOf, stagePairs, refusalText, refusalLine};
+ghost use Rattle.report.specs.Inner.Lengths.{longestRefusal, longestRefusalLine};
 
 // Puts the counts of a reply: "cells C floor F visits V".
 pub fn put_counts(out: &mut [u8], at: usize, cells: u32, floor: u32, visits: u32) -> usize
     requires { ⌜ at + longestCounts ≤ lastPlace ⌝ }
-    ensures { λ r. ⌜ Put (now (out .entry)) at (countsOf cells floor visits) (now (out .exit)) r × (r ≤ at + longestCounts) ⌝ }
+    ensures { λ r. ⌜ PutWithin longestCounts (now (out .entry)) at (countsOf cells floor visits) (now (out .exit)) r ⌝ }
 {
     let first = put_named(out, at, b"cells ", cells as u64);
     let second = put_named(out, first, b" floor ", floor as u64);
@@ -34,7 +34,7 @@ fn shown(k: usize) -> usize
 // Puts a stage of `k` bytes as pairs.
 pub fn put_stage_pairs(out: &mut [u8], at: usize, stage: &[u8], k: usize) -> usize
     requires { ⌜ at + longestPairs ≤ lastPlace ⌝ }
-    ensures { λ r. ⌜ Put (now (out .entry)) at (stagePairs k (now (stage .entry))) (now (out .exit)) r × (r ≤ at + longestPairs) ⌝ }
+    ensures { λ r. ⌜ PutWithin longestPairs (now (out .entry)) at (stagePairs k (now (stage .entry))) (now (out .exit)) r ⌝ }
 {
     put_hex_pairs(out, at, stage, shown(k))
 }
@@ -42,7 +42,7 @@ pub fn put_stage_pairs(out: &mut [u8], at: usize, stage: &[u8], k: usize) -> usi
 // Puts a refusal: "refused N at P".
 pub fn put_refusal(out: &mut [u8], at: usize, refusal: Refusal) -> usize
     requires { ⌜ at + longestRefusal ≤ lastPlace ⌝ }
-    ensures { λ r. ⌜ Put (now (out .entry)) at (refusalText (refusal .number) (refusal .place)) (now (out .exit)) r × (r ≤ at + longestRefusal) ⌝ }
+    ensures { λ r. ⌜ PutWithin longestRefusal (now (out .entry)) at (refusalText (refusal .number) (refusal .place)) (now (out .exit)) r ⌝ }
 {
     let number = refusal.number as u64;
     let place = refusal.place as u64;
@@ -53,8 +53,8 @@ pub fn put_refusal(out: &mut [u8], at: usize, refusal: Refusal) -> usize
 // Puts its line, after the word for what is refused where several things were handed in.
 pub fn put_refusal_line(out: &mut [u8], at: usize, whose: &[u8], refusal: Refusal) -> usize
     requires { ⌜ (length (now whose) ≤ longestWord) × (at + longestRefusalLine ≤ lastPlace) ⌝ }
-    ensures { λ r. ⌜ Put (now (out .entry)) at (refusalLine (now (whose .entry)) (refusal .number) (refusal .place)) (now (out .exit)) r
-        × (r ≤ at + longestRefusalLine) ⌝ }
+    ensures { λ r. ⌜ PutWithin longestRefusalLine (now (out .entry)) at (refusalLine (now (whose .entry)) (refusal .number) (refusal .place))
+        (now (out .exit)) r ⌝ }
 {
     let start = put_text(out, at, whose);
     let end = put_refusal(out, start, refusal);

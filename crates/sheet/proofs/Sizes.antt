@@ -1,4 +1,4 @@
--- Counts and sizes in their ranges.
+-- FairCount and sizes in their ranges.
 use Prim.Native.Nat.{ℕ, _≤_}
 use mathlib.Core.Path.{_≡_}
 use mathlib.Core.Bool.{false}

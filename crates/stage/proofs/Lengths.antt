@@ -9,14 +9,14 @@ use lib.Pow.{pow-mono}
 use Rattle.table.specs.Drawing.{drawnCells}
 use Rattle.sheet.specs.Limits.{maxInputs, maxWires, maxPatterns}
 use Rattle.table.specs.Bits.{sum}
-use Rattle.table.specs.Cells.{cells}
+use Rattle.table.specs.Cells.{cells, wires, total}
 use Rattle.table.specs.Tree.{Tree, con, sel, selectors, reduced}
 use Rattle.table.proofs.Bits.{sum-bound}
 use Rattle.table.proofs.Cells.{cells-lt}
 use Rattle.table.proofs.Trees.{reduced-selectors}
 use Rattle.stage.specs.Bytes.{treeBytes, wireBytes, wiresBytes, stageBytes, longestStage}
 use Rattle.stage.specs.Trees.{size}
-use Rattle.stage.specs.Written.{stageTrees, stageOf, stageCells}
+use Rattle.stage.specs.Written.{stageTrees, stageOf}
 
 -- a tree takes a byte, and three more for each selector
 pub tree-length : (x : Tree) → length (treeBytes x) ≡ 1 + 3 * selectors x
@@ -43,8 +43,8 @@ pub trees-length : (n m : ℕ) (tables : List ℕ) → m ≤ length tables → l
 unfolding stageTrees
 trees-length n m tables h = length-map (take m tables) (reduced n 0) ∙ length-take-le m tables h
 
-pub trees-size : (n m : ℕ) (tables : List ℕ) → m ≤ length tables → size (stageTrees n m tables) ≡ stageCells n m tables
-unfolding stageTrees stageCells sum drawnCells
+pub trees-size : (n m : ℕ) (tables : List ℕ) → m ≤ length tables → size (stageTrees n m tables) ≡ total (cells n) m (wires tables)
+unfolding stageTrees total sum drawnCells
 trees-size n zero tables h = refl
 trees-size n (suc m) tables h =
     let t = getD tables m 0 in
@@ -52,7 +52,7 @@ trees-size n (suc m) tables h =
     (omega (arith, size-append (map (reduced n 0) (take m tables)) (reduced n 0 t ∷ []), trees-size n m tables (omega arith), reduced-selectors n 0 t))
 
 -- the length by wires and cells, and its bound
-pub stage-length : (n m : ℕ) (tables : List ℕ) → m ≤ length tables → length (stageOf n m tables) ≡ 4 + 3 * m + 3 * stageCells n m tables
+pub stage-length : (n m : ℕ) (tables : List ℕ) → m ≤ length tables → length (stageOf n m tables) ≡ 4 + 3 * m + 3 * total (cells n) m (wires tables)
 unfolding stageOf
 stage-length n m tables h =
     omega (arith, stage-bytes-length n m (stageTrees n m tables), trees-length n m tables h, trees-size n m tables h)
@@ -61,8 +61,8 @@ stage-length n m tables h =
 pub cells-few : (n t : ℕ) → n ≤ maxInputs → cells n t < maxPatterns
 cells-few n t h = let p : 2 ^ n ≤ maxPatterns = pow-mono {j = maxInputs} h in omega (arith, cells-lt n t)
 
-pub stage-cells-few : (n m : ℕ) (tables : List ℕ) → n ≤ maxInputs → stageCells n m tables ≤ m * (maxPatterns - 1)
-unfolding stageCells
+pub stage-cells-few : (n m : ℕ) (tables : List ℕ) → n ≤ maxInputs → total (cells n) m (wires tables) ≤ m * (maxPatterns - 1)
+unfolding total
 stage-cells-few n m tables h =
     sum-bound m (maxPatterns - 1) (λ j. cells n (getD tables j 0)) (λ j _. omega (arith, cells-few n (getD tables j 0) h))
 

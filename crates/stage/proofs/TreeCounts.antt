@@ -5,12 +5,12 @@ use native.Mathlib.Nat.{mod-eq-of-lt, zero-add}
 use Rattle.table.specs.Bits.{bit}
 use Rattle.table.specs.Cells.{cells}
 use Rattle.table.specs.Tree.{follow, reduced}
-use Rattle.table.specs.Inner.Drawing.{drawnTable, Counts}
+use Rattle.table.specs.Inner.Drawing.{drawnTable, FairCount}
 use Rattle.table.proofs.Bits.{ofBits-lt, bit-ofBits}
 use Rattle.table.proofs.Trees.{follow-lt, least-tree, reduced-selectors, reduced-ordered, reduced-follow}
 use Rattle.stage.specs.Trees.{treeDrawing}
 
-pub tree-counts : (n : ℕ) → Counts treeDrawing n (cells n)
+unfoldable pub tree-counts : (n : ℕ) → FairCount treeDrawing n (cells n)
 unfolding drawnTable
 tree-counts n =
     record {

@@ -1,10 +1,10 @@
 -- Document 01, "Stage sheet": the bytes of a stage, one decision tree for each wire.
-use Prim.Native.Nat.{ℕ, zero, suc, _+_, _-_, _*_}
+use Prim.Native.Nat.{ℕ, suc, _+_, _-_, _*_}
 use mathlib.Core.Bool.{cond}
 use mathlib.Core.List.{List, [], _∷_, _++_}
 use lib.Dec.{eqb}
 use Rattle.sheet.specs.Limits.{maxWires, maxPatterns}
-use Rattle.table.specs.Tree.{Tree, con, sel, Ordered, selectors}
+use Rattle.table.specs.Tree.{Tree, con, sel}
 
 -- a constant is one byte
 abbrev pub constantByte : ℕ → ℕ

@@ -9,9 +9,10 @@ use lib.ListN.{length, getD, take}
 use Rattle.base.specs.Cases.{acceptedCase, isRefused}
 use Rattle.sheet.specs.Limits.{maxWires}
 use Rattle.table.specs.Bits.{tabulate}
+use Rattle.table.specs.Cells.{cells, wires, total}
 use Rattle.stage.specs.Read.{readStage}
 use Rattle.stage.specs.Reply.{StageReply, replyToStage}
-use Rattle.stage.specs.Written.{stageCells, writtenOf, bufferAfter}
+use Rattle.stage.specs.Written.{writtenOf, bufferAfter}
 
 -- the first bytes of the buffer that the writer leaves, as many as it says the stage has
 abbrev pub bytesWritten : ℕ → ℕ → List ℕ → List ℕ → List ℕ
@@ -24,7 +25,7 @@ givenBack n m tables =
       n = n;
       m = m;
       tables = tabulate maxWires (λ j. cond (ltb j m) (getD tables j 0) 0);
-      cells = stageCells n m tables;
+      cells = total (cells n) m (wires tables);
       answer = acceptedCase;
     }
 

@@ -1,7 +1,6 @@
 -- The drawings of document 01's board: ordered trees, their selectors counted as cells, read from its stage sheets.
 use Prim.Native.Nat.{ℕ}
 use mathlib.Core.List.{List}
-use Rattle.base.specs.Each.{Each}
 use Rattle.table.specs.Drawing.{Drawing, drawnCells}
 use Rattle.table.specs.Tree.{Tree, Ordered, follow, selectors}
 use Rattle.stage.specs.Read.{readStage}

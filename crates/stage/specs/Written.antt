@@ -8,8 +8,6 @@ use Rattle.base.specs.Cases.{Case, accepting, acceptedOutcome, refusedCase, isR
 use Rattle.base.specs.Refusals.{refusalAt, outOfRange, shortBuffer}
 use Rattle.sheet.specs.Limits.{sizesOut, isBeyond}
 use Rattle.base.specs.Lowest.{lowest}
-use Rattle.table.specs.Bits.{sum}
-use Rattle.table.specs.Cells.{cells}
 use Rattle.table.specs.Tree.{Tree, reduced}
 use Rattle.stage.specs.Bytes.{stageBytes}
 
@@ -20,10 +18,6 @@ stageTrees n m tables = map (reduced n 0) (take m tables)
 -- the bytes of the stage
 unfoldable pub stageOf : ℕ → ℕ → List ℕ → List ℕ
 stageOf n m tables = stageBytes n m (stageTrees n m tables)
-
--- document 01, "Cells": the cells of all wires together
-unfoldable pub stageCells : ℕ → ℕ → List ℕ → ℕ
-stageCells n m tables = sum m (λ j. cells n (getD tables j 0))
 
 -- the first wire whose table has bits past the patterns of n inputs; m where there is none
 unfoldable pub firstOut : ℕ → ℕ → List ℕ → ℕ

@@ -6,8 +6,9 @@ ghost use mathlib.Core.Path.{_≡_};
 ghost use Prim.Native.Nat.{ℕ, _+_, _*_, _^_, _<_, _≤_};
 ghost use lib.ListN.{getD};
 ghost use Rattle.sheet.specs.Limits.{maxInputs, maxWires};
+ghost use Rattle.table.specs.Cells.{cells, wires, total};
 ghost use Rattle.stage.specs.Bytes.{mostCells};
-ghost use Rattle.stage.specs.Written.{stageCells, firstOut};
+ghost use Rattle.stage.specs.Written.{firstOut};
 
 // The first wire whose table has bits past the patterns of n inputs, or m.
 pub fn first_out(n: u8, m: u8, tables: [u16; Sheet::WIRES]) -> u8
@@ -27,7 +28,7 @@ pub fn first_out(n: u8, m: u8, tables: [u16; Sheet::WIRES]) -> u8
 // The cells of a stage whose tables are of n inputs.
 pub fn stage_cells(n: u8, m: u8, tables: [u16; Sheet::WIRES]) -> u8
     requires { ⌜ (1 ≤ n) × (n ≤ maxInputs) × (m ≤ maxWires) × ((j : ℕ) → j < m → getD tables j 0 < 2 ^ (2 ^ n)) ⌝ }
-    ensures { λ r. ⌜ (r ≡ stageCells n m tables) × (r ≤ mostCells) ⌝ }
+    ensures { λ r. ⌜ (r ≡ total (cells n) m (wires tables)) × (r ≤ mostCells) ⌝ }
 {
     let mut cells: u8 = 0;
     let mut j: u8 = 0;

@@ -9,7 +9,7 @@ use Rattle.base.specs.Each.{Each}
 use Rattle.table.specs.Bits.{bit, sum, ofBits}
 use Rattle.table.specs.Cells.{wires, total}
 use Rattle.table.specs.Drawing.{Drawing, Drawn, drawnValue, drawnCells}
-use Rattle.table.specs.Inner.Drawing.{drawnTable, Counts}
+use Rattle.table.specs.Inner.Drawing.{drawnTable, FairCount}
 use Rattle.table.proofs.Bits.{sum-cong, sum-le, ofBits-lt, bit-ofBits}
 
 -- the first of a sum apart
@@ -18,7 +18,7 @@ unfolding sum
 sum-first zero f = omega arith
 sum-first (suc k) f = omega (arith, sum-first k f)
 
-module _ (D : Drawing) (n : ℕ) (count : ℕ → ℕ) (counts : Counts D n count) where
+module _ (D : Drawing) (n : ℕ) (count : ℕ → ℕ) (counts : FairCount D n count) where
   table-lt : (x : D .Shape) → D .WellFormed n x → drawnTable D n x < 2 ^ (2 ^ n)
   unfolding drawnTable
   table-lt x f = ofBits-lt (λ p. D .follow n p x) (2 ^ n) (λ p _. counts .drives x f p)

@@ -1,12 +1,12 @@
 -- Laws of text put into a buffer: one text after another, and text at its start.
 use Rattle.base.proofs.Tabulate.{sets-append}
-use Prim.Native.Nat.{ℕ, _≤_}
+use Prim.Native.Nat.{ℕ, _+_, _≤_}
 use mathlib.Core.Path.{_≡_, refl}
 use mathlib.Core.List.{List, [], _++_}
 use native.Mathlib.Omega.{arith}
 use lib.ListN.{length, length-append}
 use lib.Seq.{sets}
-use Rattle.text.specs.Inner.Put.{Put}
+use Rattle.text.specs.Inner.Put.{Put, PutWithin}
 
 -- no text
 pub put-none : {l : List ℕ} {at : ℕ} → Put l at [] l at
@@ -19,7 +19,14 @@ put-then {l} {b} {c} {x} {y} {at} {next} {r} p q =
       past = omega (arith, p .past, q .past, length-append x y);
     }
 
+-- the same with bounds on what is put
+pub puts : {l b c x y : List ℕ} {at next r j k : ℕ} → PutWithin j l at x b next → PutWithin k b next y c r → PutWithin (j + k) l at (x ++ y) c r
+puts p q = record { put = put-then (p .put) (q .put); short = omega (arith, p .short, q .short) }
+
+pub at-most : {l x b : List ℕ} {at r : ℕ} (k : ℕ) → Put l at x b r → length x ≤ k → PutWithin k l at x b r
+at-most k p h = record { put = p; short = omega (arith, p .past, h) }
+
 -- what stands at the start of a buffer, as the reports tell it, under any larger bound
-pub put-start : {l after text : List ℕ} {r short long : ℕ} → Put l 0 text after r × (r ≤ short) → short ≤ long
+pub put-start : {l after text : List ℕ} {r short long : ℕ} → PutWithin short l 0 text after r → short ≤ long
     → (r ≡ length text) × (after ≡ sets l 0 text) × (r ≤ long)
-put-start p h = (omega (arith, p .0 .past), p .0 .stored, omega (arith, p .1, h))
+put-start p h = (omega (arith, p .put .past), p .put .stored, omega (arith, p .short, h))

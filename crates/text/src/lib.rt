@@ -6,7 +6,7 @@ ghost use mathlib.Core.Path.{_≡_};
 ghost use mathlib.Core.List.{[], _∷_};
 ghost use Prim.Native.Nat.{_+_, _*_, _≤_, _<_};
 ghost use lib.ListN.{length, take};
-ghost use Rattle.text.specs.Inner.Put.{Put, lastPlace};
+ghost use Rattle.text.specs.Inner.Put.{Put, PutWithin, lastPlace};
 ghost use Rattle.text.specs.Text.{decimal, hexDigit, hexPair, hexPairs, longestDecimal, named};
 
 // The most digits of a number.
@@ -38,7 +38,7 @@ pub fn put_text(out: &mut [u8], at: usize, text: &[u8]) -> usize
 // Puts a number in decimal digits: those of a tenth of it, and the last one.
 pub fn put_decimal(out: &mut [u8], at: usize, x: u64) -> usize
     requires { ⌜ at + longestDecimal ≤ lastPlace ⌝ }
-    ensures { λ r. ⌜ Put (now (out .entry)) at (decimal x) (now (out .exit)) r × (r ≤ at + longestDecimal) ⌝ }
+    ensures { λ r. ⌜ PutWithin longestDecimal (now (out .entry)) at (decimal x) (now (out .exit)) r ⌝ }
 {
     if x < 10 {
         return put_byte(out, at, 0x30 + (x as u8));
@@ -50,7 +50,7 @@ pub fn put_decimal(out: &mut [u8], at: usize, x: u64) -> usize
 // Puts a number after its name.
 pub fn put_named(out: &mut [u8], at: usize, name: &[u8], x: u64) -> usize
     requires { ⌜ at + length (now name) + longestDecimal ≤ lastPlace ⌝ }
-    ensures { λ r. ⌜ Put (now (out .entry)) at (named (now (name .entry)) x) (now (out .exit)) r × (r ≤ at + length (now (name .entry)) + longestDecimal) ⌝ }
+    ensures { λ r. ⌜ PutWithin (length (now (name .entry)) + longestDecimal) (now (out .entry)) at (named (now (name .entry)) x) (now (out .exit)) r ⌝ }
 {
     let next = put_text(out, at, name);
     put_decimal(out, next, x)
@@ -88,7 +88,7 @@ fn available(bytes: &[u8], count: usize) -> usize
 // Puts the first `count` bytes of a slice, or all where it has fewer, as hexadecimal pairs parted by single spaces.
 pub fn put_hex_pairs(out: &mut [u8], at: usize, bytes: &[u8], count: usize) -> usize
     requires { ⌜ at + 3 * count ≤ lastPlace ⌝ }
-    ensures { λ r. ⌜ Put (now (out .entry)) at (hexPairs (take count (now (bytes .entry)))) (now (out .exit)) r × (r ≤ at + 3 * count) ⌝ }
+    ensures { λ r. ⌜ PutWithin (3 * count) (now (out .entry)) at (hexPairs (take count (now (bytes .entry)))) (now (out .exit)) r ⌝ }
 {
     let n = available(bytes, count);
     if n == 0 {

@@ -1,2 +1,2 @@
 -- Sizes of the trials' program.
-pub mod Window
+pub mod Inner

@@ -5,7 +5,7 @@ use libc::STDIN_FILENO;
 use libc::STDOUT_FILENO;
 ghost use Prim.Native.Nat.{_≤_};
 ghost use lib.ListN.{length};
-ghost use Rattle.trials.specs.Window.{nearlyFull, window};
+ghost use Rattle.trials.specs.Inner.Window.{nearlyFull, window};
 
 mod replies; // the reply to a record
 

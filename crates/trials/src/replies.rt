@@ -32,8 +32,7 @@ ghost use Prim.Native.Nat.{_+_, _≤_};
 ghost use lib.ListN.{length};
 ghost use Rattle.text.specs.Inner.Put.{lastPlace};
 ghost use Rattle.report.specs.Lines.{longestPairs, longestWord};
-ghost use Rattle.drawn.specs.Lines.{longestJudged, longestKept, longestReply};
-ghost use Rattle.drawn.specs.Records.{longestRecord};
+ghost use Rattle.drawn.specs.Inner.Lengths.{longestKept, longestNumberLine, longestRecord, longestReply};
 
 // The most bytes of a lent buffer, whose length is a number of one byte.
 const MOST_ROOM: usize = 255;
@@ -102,8 +101,8 @@ fn put_quote(out: &mut [u8], at: usize, s: &[u8], from: usize) -> usize
 
 // The line of a stage that was judged: the word of the judgement, and the stage's cells.
 fn put_judged(out: &mut [u8], at: usize, word: &[u8], cells: u32) -> usize
-    requires { ⌜ (at + longestJudged ≤ lastPlace) × (length (now word) ≤ longestWord) ⌝ }
-    ensures { λ r. ⌜ r ≤ at + longestJudged ⌝ }
+    requires { ⌜ (at + longestNumberLine ≤ lastPlace) × (length (now word) ≤ longestWord) ⌝ }
+    ensures { λ r. ⌜ r ≤ at + longestNumberLine ⌝ }
 {
     let next = put_named(out, at, word, cells as u64);
     put_byte(out, next, b'\n')
@@ -230,13 +229,8 @@ fn put_read(out: &mut [u8], at: usize, s: &[u8], from: usize) -> usize
     let read = read_stage(stage);
     let answer = read.answer;
     match answer {
-<<<<<<< HEAD
-        Verdict::Accepted => put_stage_read(out, at, read),
-        Verdict::Refused(refusal) => put_refusal_line(out, at, refusal),
-=======
         Verdict::Accepted => put_stage_read(out, at, read),
         Verdict::Refused(refusal) => put_refusal_line(out, at, b"", refusal),
->>>>>>> hC
     }
 }
 

@@ -23,7 +23,7 @@ use Rattle.unit.proofs.Codings.{same-list, list-same}
 use Rattle.unit.proofs.Allowed.{permits-each, each-permits}
 use Rattle.unit.proofs.Told.{emptyIn, family-told}
 use Rattle.table.specs.Drawing.{Drawing, drawnValue}
-use Rattle.table.specs.Inner.Drawing.{Counts}
+use Rattle.table.specs.Inner.Drawing.{FairCount}
 use Rattle.relation.proofs.Families.{family-well-defined, some-family}
 
 -- bytes hold one list of commands
@@ -71,7 +71,7 @@ module _ (D : Drawing) (bytes : List ℕ) (cs : List Command) (e : readingOf byt
     },
   )
 
-  module _ (count : ℕ → ℕ) (counts : Counts D (inputsOf cs) count) where
+  module _ (count : ℕ → ℕ) (counts : FairCount D (inputsOf cs) count) where
     -- rivals are the stages compatible with the relation that the search is handed
     pub rival-told : (stage : List (D .Shape)) → Rival D bytes stage ↔ Family D (inputsOf cs) (wiresOf cs) (relationOf (relationIn cs)) stage
     rival-told stage =

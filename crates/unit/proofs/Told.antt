@@ -16,7 +16,7 @@ use Rattle.base.proofs.Lowest.{lowest-none, lowest-cong}
 use Rattle.base.proofs.Tests.{decide, cond-has, test-yes, test-no}
 use Rattle.table.specs.Bits.{bit, any, ofBits}
 use Rattle.table.specs.Drawing.{Drawing, drawnValue}
-use Rattle.table.specs.Inner.Drawing.{Counts}
+use Rattle.table.specs.Inner.Drawing.{FairCount}
 use Rattle.table.proofs.Bits.{any-cong, ofBits-lt, zero-bit}
 use Rattle.relation.proofs.Families.{value-below}
 use Rattle.relation.specs.Source.{WellDefined}
@@ -81,7 +81,7 @@ module _ (cs : List Command) (s : Sound cs) where
   set-told p v l b = sets-told p v ∙ rw (lt-ltb p (2 ^ inputsOf cs) l, lt-ltb v (2 ^ wiresOf cs) b)
 
   -- the same stages are compatible, and the same patterns are empty
-  pub family-told : (D : Drawing) (count : ℕ → ℕ) → Counts D (inputsOf cs) count → (xs : List (D .Shape))
+  pub family-told : (D : Drawing) (count : ℕ → ℕ) → FairCount D (inputsOf cs) count → (xs : List (D .Shape))
       → Family D (inputsOf cs) (wiresOf cs) (relationOf (relationIn cs)) xs ↔ Family D (inputsOf cs) (wiresOf cs) (unitRelation cs) xs
   family-told D count counts xs = (
     λ f. record { drawn = f .drawn; allowed = λ p l. subst T (same f p l) (f .allowed p l) },

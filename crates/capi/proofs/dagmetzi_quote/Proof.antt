@@ -5,6 +5,7 @@ use mathlib.Core.List.{List, [], _∷_}
 use Rattle.search.specs.Cases.{markCase}
 use Rattle.quote.specs.declared.Quoted.{Quoted}
 use Rattle.quote.specs.Cases.{QuoteReply, quoteReply}
+use Rattle.stage.specs.Trees.{treeDrawing}
 use Rattle.quote.specs.Promised.{Promised}
 use Rattle.capi.specs.declared.told.Told.{Told}
 use Rattle.capi.specs.Inner.Told.{told}
@@ -31,7 +32,7 @@ cast-t12 c = search needs
 same-length : tie.Need-same-length
 same-length c = search needs
 
-kept : {sheet buffer : List ℕ} {budget : ℕ} {q r : QuoteReply} → q ≡ r → Promised sheet budget q buffer → Promised sheet budget r buffer
+kept : {sheet buffer : List ℕ} {budget : ℕ} {q r : QuoteReply} → q ≡ r → Promised treeDrawing sheet budget q buffer → Promised treeDrawing sheet budget r buffer
 kept e p = rw (← e) p
 
 -- the six numbers, from the quote and from what is told of its mark

@@ -1,6 +1,5 @@
 -- `report_audit` meets its contract: the line by the case of the reply.
 use native.Mathlib.Omega.{arith}
-use Rattle.report.specs.Lines.{auditLine}
 use Rattle.text.proofs.Stores.{put-start}
 use borrow.Author.Needs.{needs}
 use Rattle.report.proofs.report_audit.Statement.{statement}
@@ -46,28 +45,24 @@ same-length : tie.Need-same-length
 same-length c = search needs
 
 returns : tie.Need-returns
-unfolding auditLine
 returns c = let p = c .before .before in rw (p .before .before .before .before .audited .given .1) (put-start (p .put-judged .ensures) (omega arith))
 
 same-length-2 : tie.Need-same-length-2
 same-length-2 c = search needs
 
 returns-2 : tie.Need-returns-2
-unfolding auditLine
 returns-2 c = let p = c .before .before in rw (p .before .before .before .before .audited2 .given .1) (put-start (p .put-judged2 .ensures) (omega arith))
 
 same-length-3 : tie.Need-same-length-3
 same-length-3 c = search needs
 
 returns-3 : tie.Need-returns-3
-unfolding auditLine
 returns-3 c = let p = c .before .before in rw (p .before .before .before .before .audited3 .given .1) (put-start (p .put-refusal-line .ensures) (omega arith))
 
 same-length-4 : tie.Need-same-length-4
 same-length-4 c = search needs
 
 returns-4 : tie.Need-returns-4
-unfolding auditLine
 returns-4 c = let p = c .before .before in rw (p .before .before .before .before .audited4 .given .1) (put-start (p .put-refusal-line2 .ensures) (omega arith))
 
 pub report-audit-spec : {M : Type 1} → statement M

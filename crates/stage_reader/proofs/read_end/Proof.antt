@@ -1,8 +1,8 @@
-use Prim.Native.Nat.{_+_}
+use Prim.Native.Nat.{_+_, _<_, _≤_}
 use mathlib.Core.Path.{_≡_, ap}
 use native.Mathlib.Omega.{arith}
 use borrow.Author.Needs.{needs}
-use lib.ListN.{drop}
+use lib.ListN.{length, drop}
 use Rattle.base.specs.Cases.{acceptedCase, refusedCase}
 use Rattle.stage.specs.Read.{endAt, nothingAfter}
 use Rattle.stage_reader.proofs.Places.{byte-there, no-byte, due-within, due-refused, due-goes}
@@ -48,11 +48,16 @@ returns-2 : tie.Need-returns-2
 unfolding nothingAfter
 returns-2 c =
     let e = c .before .before in
-    rw (stands e, byte-there _ _ (c .before .if2 .taken)) (ap refusedCase (c .at2 .ensures))
+    let a = from (e .before) .args in
+    let more : a .at + 1 < length (a .s .now) = c .before .if2 .taken in
+    rw (stands e, byte-there _ _ more) (ap refusedCase (c .at2 .ensures))
 
 returns-3 : tie.Need-returns-3
 unfolding nothingAfter
-returns-3 c = rw (stands (c .before), no-byte _ _ (c .if2 .left))
+returns-3 c =
+    let a = from (c .before .before) .args in
+    let none : length (a .s .now) ≤ a .at + 1 = c .if2 .left in
+    rw (stands (c .before), no-byte _ _ none)
 
 pub read-end-spec : {M : Type 1} → statement M
 read-end-spec =

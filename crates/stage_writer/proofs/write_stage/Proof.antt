@@ -64,7 +64,8 @@ returns c =
     let s = o .before .before in
     let a = s .args in
     let out : sizesOut (a .n) (a .m) ≡ true = sym (o .sizes-out .ensures) ∙ c .before .if1 .taken in
-    refusal s (refusalAt outOfRange 0) _ (c .at .ensures) (sizes-refused (a .n) (a .m) (a .tables) _ out)
+    let told : c .at .result ≡ refusalAt outOfRange 0 = c .at .ensures in
+    refusal s (refusalAt outOfRange 0) _ told (sizes-refused (a .n) (a .m) (a .tables) _ out)
 
 first-out-requires : tie.Need-first-out-requires
 first-out-requires c κs = sized c .m-most
@@ -82,7 +83,8 @@ returns-2 c =
     let a = s .args in
     let wire : f .first-out .result ≡ firstOut (a .n) (a .m) (a .tables) = f .first-out .ensures in
     let early : firstOut (a .n) (a .m) (a .tables) < a .m = rw wire at (c .before .if2 .taken) in
-    refusal s (refusalAt outOfRange (firstOut (a .n) (a .m) (a .tables))) _ (c .at2 .ensures ∙ ap (refusalAt outOfRange) wire)
+    let told : c .at2 .result ≡ refusalAt outOfRange (f .first-out .result) = c .at2 .ensures in
+    refusal s (refusalAt outOfRange (firstOut (a .n) (a .m) (a .tables))) _ (told ∙ ap (refusalAt outOfRange) wire)
     (table-refused (a .n) (a .m) (a .tables) _ (sizes (f .before)) early)
 
 stage-cells-requires : tie.Need-stage-cells-requires
@@ -104,7 +106,8 @@ returns-3 c =
     let a = from2 e2 .args in
     let stage = length (stageOf (a .n) (a .m) (a .tables)) in
     let short : length (a .buffer .now) < stage = rw (length-is l) at (c .before .if3 .taken) in
-    refusal (from2 e2) (refusalAt shortBuffer stage) _ (c .at3 .ensures ∙ ap (refusalAt shortBuffer) (length-is l))
+    let told : c .at3 .result ≡ refusalAt shortBuffer (l .stage-length .result) = c .at3 .ensures in
+    refusal (from2 e2) (refusalAt shortBuffer stage) _ (told ∙ ap (refusalAt shortBuffer) (length-is l))
     (short-refused (a .n) (a .m) (a .tables) _ (sizes (e2 .before .before)) (in-range e2) short)
 
 put-sheet-requires : tie.Need-put-sheet-requires

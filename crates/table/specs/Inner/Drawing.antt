@@ -8,7 +8,7 @@ use Rattle.table.specs.Drawing.{Drawing}
 unfoldable pub drawnTable : (D : Drawing) (n : ℕ) → D .Shape → ℕ
 drawnTable D n x = ofBits (2 ^ n) (λ p. D .follow n p x)
 
-pub record Counts (D : Drawing) (n : ℕ) (count : ℕ → ℕ) : Type 0 where
+pub record FairCount (D : Drawing) (n : ℕ) (count : ℕ → ℕ) : Type 0 where
   -- a well-formed drawing drives bits
   pub drives : (x : D .Shape) → D .WellFormed n x → (p : ℕ) → D .follow n p x < 2
   -- none of the drawings of a table has fewer cells than the count

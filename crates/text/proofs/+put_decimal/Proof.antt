@@ -45,7 +45,7 @@ put-decimal-returns : (t : ℕ) → put-decimal-lts.Need-returns (put-decimal-cl
 put-decimal-returns t c =
     let a = c .before .before .before .before .before .before .args in
     let p = c .before .before .put-byte .ensures in
-    (rw (decimal-one (a .x) (c .before .before .before .before .if1 .taken)) p, omega (arith, p .past))
+    record { put = rw (decimal-one (a .x) (c .before .before .before .before .if1 .taken)) p; short = omega (arith, p .past) }
 
 put-decimal-put-decimal-requires : (t : ℕ) → put-decimal-lts.Need-put-decimal-requires (put-decimal-claims t) (put-decimal-at t) put-decimal.Post
 put-decimal-put-decimal-requires t c κs = (omega arith, omega arith)
@@ -60,7 +60,7 @@ put-decimal-put-byte-requires-2 : (t : ℕ) → put-decimal-lts.Need-put-byte-re
 put-decimal-put-byte-requires-2 t c κs =
     let a = c .before .before .before .before .before .before .before .args in
     let fewer : length (decimal (a .x / 10)) ≤ 19 = decimal-length (a .x / 10) 18 (omega arith) in
-    omega (arith, c .before .before .before .put-decimal .ensures .0 .past, fewer)
+    omega (arith, c .before .before .before .put-decimal .ensures .put .past, fewer)
 
 put-decimal-same-length-2 : (t : ℕ) → put-decimal-lts.Need-same-length-2 (put-decimal-claims t) (put-decimal-at t) put-decimal.Post
 put-decimal-same-length-2 t c = c .before .before .put-byte2 .kept .0 ∙ c .before .before .before .before .before .before .put-decimal .kept .0
@@ -70,9 +70,9 @@ put-decimal-returns-2 t c =
     let a = c .before .before .before .before .before .before .before .before .before .before .args in
     let p = c .before .before .before .before .before .before .put-decimal in
     let q = c .before .before .put-byte2 in
-    let w = put-then (p .ensures .0) (q .ensures) in
+    let w = put-then (p .ensures .put) (q .ensures) in
     let e = decimal-more (a .x) (c .before .before .before .before .before .before .before .before .if1 .left) in
-    (rw e w, omega (arith, w .past, ap length e, decimal-length (a .x) 19 (omega arith)))
+    record { put = rw e w; short = omega (arith, w .past, ap length e, decimal-length (a .x) 19 (omega arith)) }
 
 pub +put-decimal-spec : {M : Type 1} → statement M
 +put-decimal-spec = close μ-put-decimal λ t. put-decimal-lts.spec (put-decimal-claims t)

@@ -30,7 +30,7 @@ returns : tie.Need-returns Inv-loop μ-loop
 returns c =
     let s = c .before .before .before .before in
     let a = s .args in
-    (rw (pairs-none (take (a .count) (a .bytes .now)) (sym (c .before .available .ensures .0) ∙ c .if1 .taken)) put-none, omega arith)
+    record { put = rw (pairs-none (take (a .count) (a .bytes .now)) (sym (c .before .available .ensures .0) ∙ c .if1 .taken)) put-none; short = omega arith }
 
 byte-at-requires : tie.Need-byte-at-requires Inv-loop μ-loop
 byte-at-requires c κs = search needs
@@ -92,7 +92,7 @@ returns-2 c =
     let a = c .before .before .before .before .before .before .before .before .before .before .before .args in
     let rest = rw (take-all (l .i) (take (a .count) (a .bytes .now)) (omega (arith, n .ensures .0, c .loop-test .left))) at (l .inv .4) in
     let first = pairs-first (a .bytes .now) (a .count) (omega (arith, n .ensures .0, g .if1 .left)) in
-    (rw first (put-then (rw (x .ensures) at (p .put-hex-pair .ensures)) rest), omega (arith, l .inv))
+    record { put = rw first (put-then (rw (x .ensures) at (p .put-hex-pair .ensures)) rest); short = omega (arith, l .inv) }
 
 pub put-hex-pairs-spec : {M : Type 1} → statement M
 put-hex-pairs-spec =

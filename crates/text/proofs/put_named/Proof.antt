@@ -1,7 +1,8 @@
 -- `put_named` meets its contract: the name, then the number.
 use native.Mathlib.Omega.{arith}
+use lib.ListN.{length}
 use Rattle.text.specs.Text.{named}
-use Rattle.text.proofs.Stores.{put-then}
+use Rattle.text.proofs.Stores.{puts, at-most}
 use borrow.Author.Needs.{needs}
 use Rattle.text.proofs.put_named.Statement.{statement}
 use Rattle.text.proofs.put_named.Tie as tie
@@ -18,9 +19,8 @@ same-length c = search needs
 returns : tie.Need-returns
 unfolding named
 returns c =
-    let d = c .before .before in
-    let t = d .before .before .before .before in
-    (put-then (t .put-text .ensures) (d .put-decimal .ensures .0), omega (arith, t .put-text .ensures .past, d .put-decimal .ensures .1))
+    let name = c .before .before .before .before .before .before .before .before .before .before .args .name .now in
+    puts (at-most (length name) (c .before .before .before .before .before .before .put-text .ensures) (omega arith)) (c .before .before .put-decimal .ensures)
 
 pub put-named-spec : {M : Type 1} → statement M
 put-named-spec = tie.close (tie.spec put-text-requires put-decimal-requires same-length returns)

@@ -1,5 +1,5 @@
 -- What a call that puts text into a lent buffer leaves.
-use Prim.Native.Nat.{ℕ, _+_}
+use Prim.Native.Nat.{ℕ, _+_, _≤_}
 use mathlib.Core.Path.{_≡_}
 use mathlib.Core.List.{List}
 use lib.ListN.{length}
@@ -9,6 +9,11 @@ use lib.Seq.{sets}
 pub record Put (before : List ℕ) (at : ℕ) (text after : List ℕ) (next : ℕ) : Type 0 where
   pub stored : after ≡ sets before at text
   pub past : next ≡ at + length text
+
+-- the same of a text of at most so many bytes, which is what a sum of places needs to know
+pub record PutWithin (most : ℕ) (before : List ℕ) (at : ℕ) (text after : List ℕ) (next : ℕ) : Type 0 where
+  pub put : Put before at text after next
+  pub short : next ≤ at + most
 
 -- no text ends past this place: far more than any buffer here holds, and small enough that a sum of two such places wraps around nowhere
 abbrev pub lastPlace : ℕ

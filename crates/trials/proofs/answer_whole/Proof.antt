@@ -3,7 +3,7 @@
 use Prim.Native.Nat.{_-_, _≤_}
 use borrow.Author.Needs.{needs}
 use lib.ListN.{length}
-use Rattle.trials.specs.Window.{nearlyFull}
+use Rattle.trials.specs.Inner.Window.{nearlyFull}
 use Rattle.trials.proofs.answer_whole.Statement.{statement}
 use Rattle.trials.proofs.answer_whole.Tie as tie
 

@@ -4,7 +4,7 @@ use Prim.Native.Nat.{_≤_}
 use mathlib.Core.Path.{_≡_}
 use borrow.Author.Needs.{needs}
 use lib.ListN.{length}
-use Rattle.trials.specs.Window.{window}
+use Rattle.trials.specs.Inner.Window.{window}
 use Rattle.trials.proofs.main.Statement.{statement}
 use Rattle.trials.proofs.main.Tie as tie
 

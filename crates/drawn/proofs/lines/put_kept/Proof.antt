@@ -1,5 +1,7 @@
 -- `put_kept` meets its contract: the text by the test of the buffer.
 use native.Mathlib.Omega.{arith}
+use Rattle.text.proofs.Stores.{at-most}
+use Rattle.drawn.specs.Inner.Lengths.{longestKept}
 use borrow.Author.Needs.{needs}
 use Rattle.drawn.proofs.lines.put_kept.Statement.{statement}
 use Rattle.drawn.proofs.lines.put_kept.Tie as tie
@@ -20,7 +22,7 @@ returns : tie.Need-returns
 returns c =
     let p = c .before .before .put-text .ensures in
     let t = c .before .before .before .before .before in
-    (rw (← t .before .is-filled .ensures, t .if1 .taken) p, omega (arith, p .past))
+    rw (← t .before .is-filled .ensures, t .if1 .taken) (at-most longestKept p (omega arith))
 
 slice-aggregate-put-text-2 : tie.Need-slice-aggregate-put-text-2
 slice-aggregate-put-text-2 c = search needs
@@ -35,7 +37,7 @@ returns-2 : tie.Need-returns-2
 returns-2 c =
     let p = c .before .before .put-text2 .ensures in
     let t = c .before .before .before .before .before in
-    (rw (← t .before .is-filled .ensures, t .if1 .left) p, omega (arith, p .past))
+    rw (← t .before .is-filled .ensures, t .if1 .left) (at-most longestKept p (omega arith))
 
 pub put-kept-spec : {M : Type 1} → statement M
 put-kept-spec =

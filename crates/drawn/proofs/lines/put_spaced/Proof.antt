@@ -1,7 +1,7 @@
 -- `put_spaced` meets its contract: the number, then the space.
 use native.Mathlib.Omega.{arith}
 use Rattle.drawn.specs.Lines.{spacedText}
-use Rattle.text.proofs.Stores.{put-then}
+use Rattle.text.proofs.Stores.{puts, at-most}
 use borrow.Author.Needs.{needs}
 use Rattle.drawn.proofs.lines.put_spaced.Statement.{statement}
 use Rattle.drawn.proofs.lines.put_spaced.Tie as tie
@@ -18,9 +18,7 @@ same-length c = search needs
 returns : tie.Need-returns
 unfolding spacedText
 returns c =
-    let y = c .before .before in
-    let x = y .before .before .before .before .put-decimal .ensures in
-    (put-then (x .0) (y .put-byte .ensures), omega (arith, x .1, y .put-byte .ensures .past))
+    puts (c .before .before .before .before .before .before .put-decimal .ensures) (at-most 1 (c .before .before .put-byte .ensures) (omega arith))
 
 pub put-spaced-spec : {M : Type 1} → statement M
 put-spaced-spec = tie.close (tie.spec put-decimal-requires put-byte-requires same-length returns)

@@ -1,7 +1,6 @@
 -- `put_tables` meets its contract: four numbers, each with its space.
-use native.Mathlib.Omega.{arith}
 use Rattle.drawn.specs.Lines.{tablesText}
-use Rattle.text.proofs.Stores.{put-then}
+use Rattle.text.proofs.Stores.{puts}
 use borrow.Author.Needs.{needs}
 use Rattle.drawn.proofs.lines.put_tables.Statement.{statement}
 use Rattle.drawn.proofs.lines.put_tables.Tie as tie
@@ -48,14 +47,10 @@ same-length c = search needs
 returns : tie.Need-returns
 unfolding tablesText
 returns c =
-    let d = c .before .before in
-    let e = d .before .before .before .before in
-    let b = e .before .before .before .before in
-    let a = b .before .before .before .before .put-spaced .ensures in
-    let x = b .put-spaced2 .ensures in
-    let y = e .put-spaced3 .ensures in
-    let z = d .put-spaced4 .ensures in
-    (put-then (put-then (put-then (a .0) (x .0)) (y .0)) (z .0), omega (arith, a .1, x .1, y .1, z .1))
+    let x = c .before .before .before .before .before .before .before .before .before .before .before .before .before .before .put-spaced .ensures in
+    let y = c .before .before .before .before .before .before .before .before .before .before .put-spaced2 .ensures in
+    let z = c .before .before .before .before .before .before .put-spaced3 .ensures in
+    puts (puts (puts x y) z) (c .before .before .put-spaced4 .ensures)
 
 pub put-tables-spec : {M : Type 1} → statement M
 put-tables-spec =

@@ -72,8 +72,11 @@ returns-4 c = (simp (← c .before .byte-at .ensures, c .match .keys4), omega ar
 returns-5 : tie.Need-returns-5
 unfolding recordLength
 returns-5 c =
-    let l = c .length-at4 .ensures in
-    (simp (← c .before .before .byte-at .ensures, c .before .match .keys5) (omega (arith, l .0)), omega arith, omega (arith, l .1))
+    let l = c .length-at4 .ensures in (
+      simp (← c .before .before .byte-at .ensures, c .before .match .keys5) (omega (arith, l .0)),
+      omega arith,
+      omega (arith, l .1),
+    )
 
 returns-6 : tie.Need-returns-6
 unfolding recordLength

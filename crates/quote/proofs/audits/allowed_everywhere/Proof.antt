@@ -9,6 +9,8 @@ use lib.ListN.{getD}
 use Rattle.base.proofs.Tests.{denied, granted, test-yes, test-no}
 use Rattle.table.specs.Bits.{all}
 use Rattle.table.proofs.Bits.{all-at, all-intro}
+use borrow.Author.Needs.{needs}
+use Rattle.sheet.specs.Limits.{maxWires}
 use Rattle.relation.specs.Source.{value}
 use Rattle.relation.specs.Tests.{ofSets}
 use Rattle.table.specs.Cells.{wires}
@@ -18,22 +20,22 @@ use Rattle.quote.proofs.audits.allowed_everywhere.Statement.{statement}
 use Rattle.quote.proofs.audits.allowed_everywhere.Tie as tie
 use Rattle.quote.proofs.audits.allowed_everywhere.Reads as reads
 use Rattle.quote.proofs.audits.allowed_everywhere.Lts as lts
-use Rattle.relation.proofs.patterns.patterns_of.Reads as patterns-of-reads
+use Rattle.sheet.proofs.limits.patterns_of.Reads as patterns-of-reads
 use Rattle.relation.proofs.patterns.value_of.Reads as value-of-reads
 use Rattle.relation.proofs.values.contains.Reads as contains-reads
 
 -- the code's test, in the relation's terms
-here : (sets tables : List ℕ) (p : ℕ) {r : Bool} {v : ℕ} → r ≡ member (getD sets p 0) v → v ≡ value 4 (wires tables) p → r ≡ ofSets sets p (value 4 (wires tables) p)
-here sets tables p er ev = er ∙ ap (member (getD sets p 0)) ev ∙ ap (λ S. S (value 4 (wires tables) p)) (sym (member-sets sets p))
+here : (sets tables : List ℕ) (p : ℕ) {r : Bool} {v : ℕ} → r ≡ member (getD sets p 0) v → v ≡ value maxWires (wires tables) p → r ≡ ofSets sets p (value maxWires (wires tables) p)
+here sets tables p er ev = er ∙ ap (member (getD sets p 0)) ev ∙ ap (λ S. S (value maxWires (wires tables) p)) (sym (member-sets sets p))
 
 abbrev Inv-loop : tie.InvT-loop
-Inv-loop n tables sets count p₀ p = (p ≤ count) × ((q : ℕ) → q < p → T (ofSets sets q (value 4 (wires tables) q)))
+Inv-loop n tables sets count p₀ p = (p ≤ count) × ((q : ℕ) → q < p → T (ofSets sets q (value maxWires (wires tables) q)))
 
 abbrev μ-loop : tie.MeasureT-loop
 μ-loop n tables sets count p₀ p = count - p
 
 patterns-of-requires : tie.Need-patterns-of-requires Inv-loop μ-loop
-patterns-of-requires c κs = omega arith
+patterns-of-requires c κs = search needs
 
 loop-holds : tie.Need-loop-holds Inv-loop μ-loop
 loop-holds c = (omega arith, λ q l. absurd (omega arith))
@@ -57,8 +59,9 @@ returns : tie.Need-returns Inv-loop μ-loop
 returns c =
     let a = c .before .before .before .before .before .before .args in
     let p = c .before .before .before .before .loop .p in
-    let f : ℕ → Bool = λ q. ofSets (a .t2) q (value 4 (wires (a .tables)) q) in
-    let lp : p < 2 ^ a .n = omega arith in
+    let f : ℕ → Bool = λ q. ofSets (a .t2) q (value maxWires (wires (a .tables)) q) in
+    let count = c .before .before .before .before .before .patterns-of .ensures .2 (omega arith) in
+    let lp : p < 2 ^ a .n = omega (arith, count) in
     let no : T (not (f p)) = denied (here (a .t2) (a .tables) p (c .before .contains .ensures) (c .before .before .value-of .ensures .0)) (c .if1 .taken) in
     sym (test-no (all (2 ^ a .n) f) (not-T (all (2 ^ a .n) f) (λ t. T-not (f p) no (all-at (2 ^ a .n) f t p lp))))
 
@@ -71,14 +74,18 @@ loop-less c = omega arith
 loop-again : tie.Need-loop-again Inv-loop μ-loop
 loop-again c =
     let a = c .before .before .before .before .before .before .args in
-    let p = c .before .before .before .before .loop .p in
-    (omega arith, below-more _ _ (c .before .before .before .before .loop .inv .1) (granted (here (a .t2) (a .tables) p (c .before .contains .ensures) (c .before .before .value-of .ensures .0)) (c .if1 .left)))
+    let p = c .before .before .before .before .loop .p in (
+      omega arith,
+      below-more _ _ (c .before .before .before .before .loop .inv .1)
+          (granted (here (a .t2) (a .tables) p (c .before .contains .ensures) (c .before .before .value-of .ensures .0)) (c .if1 .left)),
+    )
 
 returns-2 : tie.Need-returns-2 Inv-loop μ-loop
 returns-2 c =
     let a = c .before .before .before .args in
-    let f : ℕ → Bool = λ q. ofSets (a .t2) q (value 4 (wires (a .tables)) q) in
-    sym (test-yes (all (2 ^ a .n) f) (all-intro (2 ^ a .n) f (λ q l. c .before .loop .inv .1 q (omega (arith, c .before .before .patterns-of .ensures .0, c .loop-test .left)))))
+    let f : ℕ → Bool = λ q. ofSets (a .t2) q (value maxWires (wires (a .tables)) q) in
+    let count = c .before .before .patterns-of .ensures .2 (omega arith) in
+    sym (test-yes (all (2 ^ a .n) f) (all-intro (2 ^ a .n) f (λ q l. c .before .loop .inv .1 q (omega (arith, count, c .loop-test .left)))))
 
 pub allowed-everywhere-spec : {M : Type 1} → statement M
 allowed-everywhere-spec =

@@ -1,7 +1,7 @@
 -- `put_judged` meets its contract: the word, the cells after their name, and the end of the line.
 use native.Mathlib.Omega.{arith}
-use Rattle.report.specs.Lines.{judgedLine}
-use Rattle.text.proofs.Stores.{put-then}
+use Rattle.report.specs.Lines.{longestWord, judgedLine}
+use Rattle.text.proofs.Stores.{puts, at-most}
 use borrow.Author.Needs.{needs}
 use Rattle.report.proofs.lines.put_judged.Statement.{statement}
 use Rattle.report.proofs.lines.put_judged.Tie as tie
@@ -24,13 +24,9 @@ same-length c = search needs
 returns : tie.Need-returns
 unfolding judgedLine
 returns c =
-    let z = c .before .before in
-    let y = z .before .before .before .before in
-    let x = y .before .before .before .before .before in
-    let short = x .before .before .before .before .pre in (
-      put-then (put-then (x .put-text .ensures) (y .put-named .ensures .0)) (z .put-byte .ensures),
-      omega (arith, x .put-text .ensures .past, y .put-named .ensures .1, z .put-byte .ensures .past, short),
-    )
+    let start = c .before .before .before .before .before .before .before .before .before .before .before in
+    let word = at-most longestWord (start .put-text .ensures) (start .before .before .before .before .pre) in
+    puts (puts word (c .before .before .before .before .before .before .put-named .ensures)) (at-most 1 (c .before .before .put-byte .ensures) (omega arith))
 
 pub put-judged-spec : {M : Type 1} → statement M
 put-judged-spec =

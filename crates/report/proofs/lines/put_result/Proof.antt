@@ -1,7 +1,7 @@
 -- `put_result` meets its contract: the counts, the word of the mark, the pairs of the stage, and the end of the line.
 use native.Mathlib.Omega.{arith}
-use Rattle.report.specs.Lines.{resultLines}
-use Rattle.text.proofs.Stores.{put-then}
+use Rattle.report.specs.Lines.{longestWord, resultLines}
+use Rattle.text.proofs.Stores.{puts, at-most}
 use borrow.Author.Needs.{needs}
 use Rattle.report.proofs.lines.put_result.Statement.{statement}
 use Rattle.report.proofs.lines.put_result.Tie as tie
@@ -24,14 +24,11 @@ same-length c = search needs
 returns : tie.Need-returns
 unfolding resultLines
 returns c =
-    let e = c .before .before in
-    let p = e .before .before .before .before in
-    let w = p .before .before .before .before in
-    let k = w .before .before .before .before in
-    let short = k .before .before .before .before .before .pre in (
-      put-then (put-then (put-then (k .put-counts .ensures .0) (w .put-text .ensures)) (p .put-stage-pairs .ensures .0)) (e .put-byte .ensures),
-      omega (arith, k .put-counts .ensures .1, w .put-text .ensures .past, p .put-stage-pairs .ensures .1, e .put-byte .ensures .past, short),
-    )
+    let counts = c .before .before .before .before .before .before .before .before .before .before .before .before .before .before in
+    let short = counts .before .before .before .before .before .pre in
+    let word = at-most longestWord (c .before .before .before .before .before .before .before .before .before .before .put-text .ensures) short in
+    let pairs = c .before .before .before .before .before .before .put-stage-pairs .ensures in
+    puts (puts (puts (counts .put-counts .ensures) word) pairs) (at-most 1 (c .before .before .put-byte .ensures) (omega arith))
 
 pub put-result-spec : {M : Type 1} → statement M
 put-result-spec =

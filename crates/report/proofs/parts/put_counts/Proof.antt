@@ -1,7 +1,6 @@
 -- `put_counts` meets its contract: three numbers, each after its name.
-use native.Mathlib.Omega.{arith}
 use Rattle.report.specs.Lines.{countsOf}
-use Rattle.text.proofs.Stores.{put-then}
+use Rattle.text.proofs.Stores.{puts}
 use borrow.Author.Needs.{needs}
 use Rattle.report.proofs.parts.put_counts.Statement.{statement}
 use Rattle.report.proofs.parts.put_counts.Tie as tie
@@ -32,8 +31,7 @@ unfolding countsOf
 returns c =
     let x = c .before .before .before .before .before .before .before .before .before .before .before .before .put-named .ensures in
     let y = c .before .before .before .before .before .before .before .put-named2 .ensures in
-    let z = c .before .before .put-named3 .ensures in
-    (put-then (put-then (x .0) (y .0)) (z .0), omega (arith, x .1, y .1, z .1))
+    puts (puts x y) (c .before .before .put-named3 .ensures)
 
 pub put-counts-spec : {M : Type 1} → statement M
 put-counts-spec =

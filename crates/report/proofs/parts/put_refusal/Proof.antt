@@ -1,7 +1,6 @@
 -- `put_refusal` meets its contract: two numbers, each after its name.
-use native.Mathlib.Omega.{arith}
 use Rattle.report.specs.Lines.{refusalText}
-use Rattle.text.proofs.Stores.{put-then}
+use Rattle.text.proofs.Stores.{puts}
 use borrow.Author.Needs.{needs}
 use Rattle.report.proofs.parts.put_refusal.Statement.{statement}
 use Rattle.report.proofs.parts.put_refusal.Tie as tie
@@ -27,9 +26,7 @@ same-length c = search needs
 returns : tie.Need-returns
 unfolding refusalText
 returns c =
-    let x = c .before .before .before .before .before .before .before .put-named .ensures in
-    let y = c .before .before .put-named2 .ensures in
-    (put-then (x .0) (y .0), omega (arith, x .1, y .1))
+    puts (c .before .before .before .before .before .before .before .put-named .ensures) (c .before .before .put-named2 .ensures)
 
 pub put-refusal-spec : {M : Type 1} → statement M
 put-refusal-spec =

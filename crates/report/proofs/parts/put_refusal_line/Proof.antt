@@ -1,7 +1,7 @@
 -- `put_refusal_line` meets its contract: the word for what is refused, the refusal, and the end of the line.
 use native.Mathlib.Omega.{arith}
-use Rattle.report.specs.Lines.{refusalLine}
-use Rattle.text.proofs.Stores.{put-then}
+use Rattle.report.specs.Lines.{longestWord, refusalLine}
+use Rattle.text.proofs.Stores.{puts, at-most}
 use borrow.Author.Needs.{needs}
 use Rattle.report.proofs.parts.put_refusal_line.Statement.{statement}
 use Rattle.report.proofs.parts.put_refusal_line.Tie as tie
@@ -21,13 +21,9 @@ same-length c = search needs
 returns : tie.Need-returns
 unfolding refusalLine
 returns c =
-    let z = c .before .before in
-    let y = z .before .before .before .before in
-    let x = y .before .before .before .before in
-    let short = x .before .before .before .before .pre .0 in (
-      put-then (put-then (x .put-text .ensures) (y .put-refusal .ensures .0)) (z .put-byte .ensures),
-      omega (arith, x .put-text .ensures .past, y .put-refusal .ensures .1, z .put-byte .ensures .past, short),
-    )
+    let start = c .before .before .before .before .before .before .before .before .before .before in
+    let word = at-most longestWord (start .put-text .ensures) (start .before .before .before .before .pre .0) in
+    puts (puts word (c .before .before .before .before .before .before .put-refusal .ensures)) (at-most 1 (c .before .before .put-byte .ensures) (omega arith))
 
 pub put-refusal-line-spec : {M : Type 1} → statement M
 put-refusal-line-spec =

@@ -19,7 +19,7 @@ unfolding stagePairs
 returns c =
     let s = c .before .before .before .shown .ensures in
     let p = c .before .before .put-hex-pairs .ensures in
-    (rw (s .0) at (p .0), omega (arith, s .1, p .1))
+    record { put = rw (s .0) at (p .put); short = omega (arith, s .1, p .short) }
 
 pub put-stage-pairs-spec : {M : Type 1} → statement M
 put-stage-pairs-spec =

@@ -1,12 +1,14 @@
 -- `put_tree` meets its contract: the halves of a table are equal, or a selector and the trees of both are stored one after the other.
 use Prim.Native.Nat.{ℕ, _+_, _-_, _/_, _%_, _<_, _≤_}
-use mathlib.Core.Path.{_∙_}
+use mathlib.Core.Path.{_≡_, _∙_}
 use native.Mathlib.Omega.{arith}
 use borrow.Author.Needs.{needs}
 use borrow.Fn.Kinds.{In, Out}
 use borrow.Fn.PlainCycle.{Measures, is, falls, and}
 use lib.Pow.{pow-pos}
 use lib.ListN.{length}
+use lib.Seq.{sets}
+use mathlib.Core.List.{[], _∷_}
 use Rattle.table.specs.Tree.{Tree, reduced}
 use Rattle.stage.specs.Bytes.{treeBytes, longestStage}
 use Rattle.base.proofs.put.Reads as put-reads
@@ -143,6 +145,13 @@ module _ (t : ℕ) where
   abbrev selector-done : Of lts.After-put-tree2 → Of lts.After-put-command
   selector-done c = c .before .before .before .before
 
+  -- the selector names the input after the k others
+  selector-there : (c : Of lts.After-put-command)
+      → c .put-command .last .0
+      ≡ sets (c .before .before .before .before .before .before .args .buffer .now) (c .before .before .before .before .before .before .args .at)
+      (0x22 ∷ (c .before .before .before .before .before .before .args .k + 1) ∷ [])
+  selector-there c = c .put-command .ensures .0
+
   length-kept-3 : Of lts.Need-same-length-3
   length-kept-3 c =
       let o = c .before .before in
@@ -158,7 +167,7 @@ module _ (t : ℕ) where
       let a = h .before .before .before .args in
       rw (reduced-two (a .w) (a .k) (a .t) _ (h .before .if1 .left) (h .half-of .ensures) (e .if2 .left))
       (selector-stored (a .buffer .now) _ _ _ (for-zero h) (for-one h) (a .at) (a .k + 1) _ _ _
-      (p .put-command .ensures) (z .put-tree2 .ensures) (o .put-tree3 .ensures))
+      (selector-there p, p .put-command .ensures .1) (z .put-tree2 .ensures) (o .put-tree3 .ensures))
 
   pub meets : {M : Type 1} → lts.Closed claims here put-tree.Post M
   meets =

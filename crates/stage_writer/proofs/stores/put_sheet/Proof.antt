@@ -21,16 +21,20 @@ put-requires-4 c κs = search needs
 same-length : tie.Need-same-length
 same-length c = search needs
 
+-- the head is stored before the wires
+abbrev head : tie.After-put-wires → tie.After-put3
+head c = c .before .before .before .before
+
 returns : tie.Need-returns
 returns c =
-    let p4 = c .before .before in
-    let w = p4 .before .before .before .before in
-    let p3 = w .before .before .before .before in
-    let p2 = p3 .before .before .before .before in
-    let p1 = p2 .before .before .before .before in
-    let a = p1 .before .before .before .args in
-    stage-stored (a .buffer .now) _ _ _ _ _ (a .tables) (a .n) (a .m) _ (p1 .put .ensures) (p2 .put2 .ensures) (p3 .put3 .ensures) (w .put-wires .ensures)
-    (p4 .put4 .ensures)
+    let end = c .before .before in
+    let wires = end .before .before .before .before in
+    let third = head wires in
+    let second = third .before .before .before .before in
+    let first = second .before .before .before .before in
+    let a = first .before .before .before .args in
+    stage-stored (a .buffer .now) _ _ _ _ _ (a .tables) (a .n) (a .m) _ (first .put .ensures) (second .put2 .ensures) (third .put3 .ensures)
+    (wires .put-wires .ensures) (end .put4 .ensures)
 
 pub put-sheet-spec : {M : Type 1} → statement M
 put-sheet-spec =

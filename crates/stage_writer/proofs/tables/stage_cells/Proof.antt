@@ -6,20 +6,20 @@ use native.Mathlib.Nat.{le-antisymm}
 use native.Mathlib.Numerals.{add-one}
 use lib.ListN.{getD}
 use Rattle.sheet.specs.Limits.{maxPatterns}
+use Rattle.table.specs.Cells.{cells as countCells, wires, total}
 use Rattle.table.specs.Bits.{sum}
-use Rattle.stage.specs.Written.{stageCells}
 use Rattle.stage.proofs.Lengths.{cells-few}
 use Rattle.stage_writer.proofs.tables.stage_cells.Statement.{statement}
 use Rattle.stage_writer.proofs.tables.stage_cells.Tie as tie
 
 abbrev Inv-loop : tie.InvT-loop
-Inv-loop n m tables cells₀ j₀ cells j = (j ≤ m) × (cells ≡ stageCells n j tables) × (cells ≤ j * (maxPatterns - 1))
+Inv-loop n m tables cells₀ j₀ cells j = (j ≤ m) × (cells ≡ total (countCells n) j (wires tables)) × (cells ≤ j * (maxPatterns - 1))
 
 abbrev μ-loop : tie.MeasureT-loop
 μ-loop n m tables cells₀ j₀ cells j = m - j
 
 loop-holds : tie.Need-loop-holds Inv-loop μ-loop
-unfolding stageCells sum
+unfolding total sum
 loop-holds c = (omega arith, refl, omega arith)
 
 cast-count : tie.Need-cast-count Inv-loop μ-loop
@@ -49,7 +49,7 @@ loop-less : tie.Need-loop-less Inv-loop μ-loop
 loop-less c = omega arith
 
 loop-again : tie.Need-loop-again Inv-loop μ-loop
-unfolding stageCells sum
+unfolding total sum
 loop-again c =
     let l = c .before .before .loop in
     let s = c .before .before .before in (
