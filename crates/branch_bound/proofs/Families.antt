@@ -58,7 +58,8 @@ module _ (D : Drawing) (b : Board) (counts : FairCount D (b .n) (b .count)) (fai
       ∙ sym (promise .so-far .counted)
 
   -- what is below the count of all tables is below the cells of all stages
-  module _ (k : ℕ) (below : (X : Tables) → Stage (b .n) (b .m) X → Compatible (b .n) (b .m) R X → k ≤ stageCells b X) (xs : List (D .Shape)) (f : Family D (b .n) (b .m) R xs) where
+  module _ (k : ℕ) (below : (X : Tables) → Stage (b .n) (b .m) X → Compatible (b .n) (b .m) R X → k ≤ stageCells b X)
+      (xs : List (D .Shape)) (f : Family D (b .n) (b .m) R xs) where
     below-drawn : k ≤ drawnCells D xs
     unfolding total
     below-drawn =
