@@ -8,7 +8,7 @@ use lib.Dec.{T}
 use lib.ListN.{length, take}
 use lib.Seq.{getD-take, length-take-le}
 use Rattle.sheet.specs.Limits.{maxWires}
-use Rattle.table.specs.Cells.{wires, total as totalOf}
+use Rattle.table.specs.Cells.{wires, total}
 use Rattle.table.specs.Drawing.{Drawing, drawnCells}
 use Rattle.table.specs.Inner.Drawing.{FairCount}
 use Rattle.table.proofs.Bits.{sum-cong}
@@ -17,7 +17,7 @@ use Rattle.relation.specs.Source.{Rel, Tables, Stage, WellDefined, Compatible, 
 use Rattle.relation.specs.Families.{Family}
 use Rattle.relation.proofs.Decide.{value-cong}
 use Rattle.relation.proofs.Families.{drawnTables, family-stage, family-compatible, family-total, least-family, least-total}
-use Rattle.branch_bound.specs.Search.{Board, total, floor, run}
+use Rattle.branch_bound.specs.Search.{Board, stageCells, floor, run}
 use Rattle.branch_bound.specs.Promise.{Fair, Promise}
 use Rattle.branch_bound.specs.TreeBoard.{tree}
 use Rattle.branch_bound.specs.Smallest.{Smallest}
@@ -51,16 +51,17 @@ module _ (D : Drawing) (b : Board) (counts : FairCount D (b .n) (b .count)) (fai
   answer p l = subst (λ v. T (R p v)) (sym (value-cong (b .m) (wires tables) (wires (run b budget R .tables)) p same)) (promise .so-far .answer p l)
 
   counted : drawnCells D ownStage ≡ run b budget R .cells
-  unfolding total totalOf
+  unfolding total
   counted =
       least-total D (b .n) (b .count) counts (b .m) R tables long stage
       ∙ sum-cong (b .m) (λ j. b .count (wires tables j)) (λ j. b .count (wires (run b budget R .tables) j)) (λ j l. ap (b .count) (same j l))
       ∙ sym (promise .so-far .counted)
 
   -- what is below the count of all tables is below the cells of all stages
-  module _ (k : ℕ) (below : (X : Tables) → Stage (b .n) (b .m) X → Compatible (b .n) (b .m) R X → k ≤ total b X) (xs : List (D .Shape)) (f : Family D (b .n) (b .m) R xs) where
+  module _ (k : ℕ) (below : (X : Tables) → Stage (b .n) (b .m) X → Compatible (b .n) (b .m) R X → k ≤ stageCells b X)
+      (xs : List (D .Shape)) (f : Family D (b .n) (b .m) R xs) where
     below-drawn : k ≤ drawnCells D xs
-    unfolding total totalOf
+    unfolding total
     below-drawn =
         le-trans
         (below (drawnTables D (b .n) (b .count) counts (b .m) R xs f) (family-stage D (b .n) (b .count) counts (b .m) R xs f)

@@ -16,19 +16,19 @@ use Rattle.table.proofs.Bits.{sum-cong, sum-le, tabulate-at, tabulate-length}
 use Rattle.table.proofs.Least.{Least, least-is, least-found}
 use Rattle.relation.specs.Source.{Rel, Tables, Stage, WellDefined, Compatible}
 use Rattle.relation.specs.Inner.Source.{Part, fits}
-use Rattle.table.specs.Cells.{wires}
+use Rattle.table.specs.Cells.{wires, total}
 use Rattle.relation.specs.Tests.{projection}
 use Rattle.relation.proofs.Decide.{value-cong, value-is, compatible-fits, some-fits}
 use Rattle.relation.proofs.Splits.{agree-part, agree-bit, agree-well-defined}
 use borrow.Author.Tests.{lt-ltb}
-use Rattle.branch_bound.specs.Search.{Board, replyTables, total, pick, picks, floor, left, quick}
+use Rattle.branch_bound.specs.Search.{Board, replyTables, stageCells, pick, picks, floor, left, quick}
 use Rattle.branch_bound.specs.Promise.{Fair}
 
-pub total-cong : (b : Board) (X Y : Tables) → ((j : ℕ) → j < b .m → X j ≡ Y j) → total b X ≡ total b Y
+pub stage-cells-cong : (b : Board) (X Y : Tables) → ((j : ℕ) → j < b .m → X j ≡ Y j) → stageCells b X ≡ stageCells b Y
 unfolding total
-total-cong b X Y h = sum-cong (b .m) (λ j. b .count (X j)) (λ j. b .count (Y j)) (λ j l. ap (b .count) (h j l))
+stage-cells-cong b X Y h = sum-cong (b .m) (λ j. b .count (X j)) (λ j. b .count (Y j)) (λ j l. ap (b .count) (h j l))
 
--- a reply has four tables
+-- a reply has as many tables as there may be wires
 pub tables-long : (m : ℕ) (X : Tables) → length (replyTables m X) ≡ maxWires
 unfolding replyTables
 tables-long m X = tabulate-length maxWires (λ j. cond (ltb j m) (X j) 0)
@@ -50,9 +50,9 @@ module _ (n m : ℕ) (few : m ≤ maxWires) (X : Tables) where
   tables-compatible R h p l = rw (value-cong m (wires (replyTables m X)) X p wires-tables) (h p l)
 
 -- the floor is the cells of the picks
-pub floor-picks : (b : Board) → b .m ≤ maxWires → (R : Rel) → floor b R ≡ total b (wires (picks b R))
+pub floor-picks : (b : Board) → b .m ≤ maxWires → (R : Rel) → floor b R ≡ stageCells b (wires (picks b R))
 unfolding floor picks
-floor-picks b few R = total-cong b (pick b R) (wires (replyTables (b .m) (pick b R))) (λ j l. sym (wires-tables (b .n) (b .m) few (pick b R) j l))
+floor-picks b few R = stage-cells-cong b (pick b R) (wires (replyTables (b .m) (pick b R))) (λ j l. sym (wires-tables (b .n) (b .m) few (pick b R) j l))
 
 module _ (b : Board) (R : Rel) (ne : WellDefined (b .n) (b .m) R) where
   pub pick-least : (j : ℕ) → Least (b .key) (fits (b .n) (b .m) R j) (2 ^ (2 ^ b .n)) (some (pick b R j))
@@ -69,7 +69,7 @@ module _ (b : Board) (R : Rel) (ne : WellDefined (b .n) (b .m) R) where
   pick-fits j = pick-least j .1
 
   -- no compatible stage has fewer cells than the floor
-  pub floor-le : Fair b → (X : Tables) → Stage (b .n) (b .m) X → Compatible (b .n) (b .m) R X → floor b R ≤ total b X
+  pub floor-le : Fair b → (X : Tables) → Stage (b .n) (b .m) X → Compatible (b .n) (b .m) R X → floor b R ≤ stageCells b X
   unfolding floor total
   floor-le fair X st c =
       sum-le (b .m) (λ j. b .count (pick b R j)) (λ j. b .count (X j))

@@ -15,17 +15,20 @@ use Rattle.relation.specs.Tests.{keep, free, freeWire, compatible, conflict, op
 use Rattle.relation.proofs.Decide.{free-both, compatible-at, conflict-is, freeWire-is}
 use Rattle.relation.proofs.Splits.{keep-part, keep-well-defined, keep-compatible, keep-closes}
 use Rattle.branch_bound.specs.declared.State.{State}
-use Rattle.branch_bound.specs.Search.{Board, total, pick, picks, floor, start, split, expand, charge, treat, visit, searchPart, run, charged, discarded, usedUp}
+use Rattle.branch_bound.specs.Search.{Board, stageCells, pick, picks, floor, start, split, expand}
+use Rattle.branch_bound.specs.Search.{charge, treat, visit, searchPart, run, charged, discarded, usedUp}
 use Rattle.branch_bound.specs.Promise.{Fair, AnswerSoFar, Promise}
-use Rattle.branch_bound.proofs.Picks.{wires-tables, tables-long, quick-long, tables-stage, floor-picks, pick-stage, pick-fits, floor-le, quick-compatible, quick-stage}
+use Rattle.branch_bound.proofs.Picks.{wires-tables, tables-long, quick-long, tables-stage, floor-picks}
+use Rattle.branch_bound.proofs.Picks.{pick-stage, pick-fits, floor-le, quick-compatible, quick-stage}
 
 -- What treating the part R does to a state s that becomes t: never more cells, a stop stays, and with no stop no answer of R has fewer cells.
 pub record Treated (b : Board) (R : Rel) (s t : State) : Type 0 where
   pub down : t .cells ≤ s .cells
   pub stays : T (s .stopped) → T (t .stopped)
-  pub best : T (not (t .stopped)) → (X : Tables) → Stage (b .n) (b .m) X → Compatible (b .n) (b .m) R X → t .cells ≤ total b X
+  pub best : T (not (t .stopped)) → (X : Tables) → Stage (b .n) (b .m) X → Compatible (b .n) (b .m) R X → t .cells ≤ stageCells b X
 
--- The induction over the parts asks two things of the test that discards: what it discards holds nothing better, and what it keeps has a floor below the best cells.
+-- The induction over the parts asks two things of the test that discards: what it discards holds nothing better, and what it keeps has a floor below the
+-- best cells.
 module _ (b : Board) (fair : Fair b) (budget : ℕ) (Q : Rel)
     (prunes : (s : State) (f : ℕ) → T (discarded s f) → s .cells ≤ f) (spares : (s : State) (f : ℕ) → T (not (discarded s f)) → f < s .cells) where
   abbrev After : Rel → State → State → Type 0
@@ -100,7 +103,14 @@ module _ (b : Board) (fair : Fair b) (budget : ℕ) (Q : Rel)
     charge-treats k s ih lk sd lf =
         cond-has (After R s) (usedUp budget s)
         (λ h. (
-          record { long = sd .long; stage = sd .stage; answer = sd .answer; counted = sd .counted; within = sd .within; spent = λ _. omega (arith, leb→le budget (s .visits) h, sd .within) },
+          record {
+            long = sd .long;
+            stage = sd .stage;
+            answer = sd .answer;
+            counted = sd .counted;
+            within = sd .within;
+            spent = λ _. omega (arith, leb→le budget (s .visits) h, sd .within);
+          },
           record { down = le-refl (s .cells); stays = λ _. tt; best = λ h. absurd h },
         ))
         (λ h. expand-treats k s ih lk sd lf (nleb→lt budget (s .visits) h))
@@ -121,6 +131,15 @@ pub run-promise : (b : Board) → Fair b → (budget : ℕ) (R : Rel) → WellDe
 unfolding run searchPart start
 run-promise b fair budget R ne =
     let few = fair .few in
-    let r = visit-treats b fair budget R (λ s f. leb→le (s .cells) f) (λ s f. nleb→lt (s .cells) f) (suc (openPairs (b .n) (b .m) R)) R (start b R) (omega arith) ne (λ p v t. t)
-    (record { long = quick-long b R; stage = quick-stage b R ne few; answer = quick-compatible b R ne few; counted = refl; within = omega arith; spent = λ h. absurd h }) in
+    let k = suc (openPairs (b .n) (b .m) R) in
+    let first : AnswerSoFar b budget R (start b R) =
+    record {
+      long = quick-long b R;
+      stage = quick-stage b R ne few;
+      answer = quick-compatible b R ne few;
+      counted = refl;
+      within = omega arith;
+      spent = λ h. absurd h;
+    } in
+    let r = visit-treats b fair budget R (λ s f. leb→le (s .cells) f) (λ s f. nleb→lt (s .cells) f) k R (start b R) (omega arith) ne (λ p v t. t) first in
     record { so-far = r .0; above = floor-le b R ne fair; best = r .1 .best }

@@ -4,10 +4,10 @@ use mathlib.Core.Bool.{Bool, true, false, cond}
 use mathlib.Core.List.{List}
 use lib.Dec.{leb, ltb}
 use Rattle.sheet.specs.Limits.{maxWires}
-use Rattle.table.specs.Bits.{sum, tabulate}
+use Rattle.table.specs.Bits.{tabulate}
 use Rattle.table.specs.Pick.{orZero, leastOf}
 use Rattle.relation.specs.Source.{Rel, Tables}
-use Rattle.table.specs.Cells.{wires}
+use Rattle.table.specs.Cells.{wires, total}
 use Rattle.relation.specs.Tests.{keep, agree, projection, freeWire, compatible, conflict, openPairs}
 use Rattle.branch_bound.specs.declared.State.{State}
 
@@ -44,8 +44,8 @@ usedUp budget s = leb budget (s .visits)
 
 module _ (b : Board) where
   -- the cells of a stage
-  unfoldable pub total : Tables → ℕ
-  total X = sum (b .m) (λ j. b .count (X j))
+  abbrev pub stageCells : Tables → ℕ
+  stageCells X = total (b .count) (b .m) X
 
   -- the pick of a wire: the least key among the tables that its projection admits, of equals the smallest table
   unfoldable pub pick : Rel → ℕ → ℕ
@@ -64,11 +64,11 @@ module _ (b : Board) where
 
   -- the lower bound for every stage of R: the cells of its picks
   unfoldable pub floor : Rel → ℕ
-  floor R = total (pick R)
+  floor R = stageCells (pick R)
 
   -- the state before any part is treated: the first answer is the best (the incumbent)
   unfoldable pub start : Rel → State
-  start R = record { tables = quick R; cells = total (wires (quick R)); visits = zero; stopped = false }
+  start R = record { tables = quick R; cells = stageCells (wires (quick R)); visits = zero; stopped = false }
 
   module _ (budget : ℕ) where
     -- step 4: both parts of a split, wire j at 0 before wire j at 1. `on` treats the parts of a part.

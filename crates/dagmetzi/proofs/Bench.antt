@@ -6,7 +6,7 @@ use Rattle.base.specs.Cases.{accepting, acceptedCase}
 use Rattle.base.specs.Lowest.{lowest}
 use Rattle.base.specs.Refusals.{refusalAt, cutShort, outOfTurn, empty}
 use Rattle.table.specs.Bits.{bit, all, any, sum, ofBits, tabulate, isOne}
-use Rattle.table.specs.Cells.{low, high, cells}
+use Rattle.table.specs.Cells.{low, high, cells, total}
 use Rattle.table.specs.Tree.{reduced}
 use Rattle.table.specs.Pick.{suits, nearer, least, orZero, leastOf}
 use Rattle.relation.specs.declared.Relation.{Relation}
@@ -15,7 +15,7 @@ use Rattle.relation.specs.Tests.{ofSets, keep, agree, occurs, free, freeWire, c
 use Rattle.relation.specs.Inner.Source.{fits}
 use Rattle.relation.specs.Handed.{relationOf, widePattern, checkOf}
 use Rattle.branch_bound.specs.Reply.{bestOutcome, stoppedOutcome, SearchReply, markOf, answerOf, refusedWith, searchTested, searchOf}
-use Rattle.branch_bound.specs.Search.{replyTables, total, pick, picks, floor, left, quick, start, split, expand, charge, treat, visit, searchPart, run}
+use Rattle.branch_bound.specs.Search.{replyTables, pick, picks, floor, left, quick, start, split, expand, charge, treat, visit, searchPart, run}
 use Rattle.branch_bound.specs.TreeBoard.{tree}
 use Rattle.reader.specs.Reading.{readingOf}
 use Rattle.reader.proofs.Rows.{sheetA}

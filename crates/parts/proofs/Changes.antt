@@ -17,7 +17,7 @@ use Rattle.table.specs.Bits.{bit}
 use Rattle.table.proofs.Bits.{any-at, any-intro, bit-div}
 use Rattle.parts.specs.Inner.Ranks.{rankBits}
 use Rattle.parts.specs.Inner.Changes.{bitIn, AlikeBelow, changedOn, firstChange}
-use Rattle.parts.proofs.Packing.{table-bit}
+use Rattle.parts.proofs.Packing.{packed-bit}
 
 half-bit : (n q : ℕ) → bit (n / 2) q ≡ bit n (suc q)
 half-bit n q = let e : 1 + q ≡ suc q = omega arith in bit-div n 1 q ∙ ap (bit n) e
@@ -104,7 +104,7 @@ module _ (before ranks : List ℕ) where
       table : bit (differs j) q ≡ 0 → bitIn before j q ≡ bitIn ranks j q
       table e =
           let lt : q < maxPatterns = omega arith in
-          table-bit (getD before j 0) q lt ∙ xor-none (getD before j 0) (getD ranks j 0) q e ∙ sym (table-bit (getD ranks j 0) q lt)
+          packed-bit (getD before j 0) q lt ∙ xor-none (getD before j 0) (getD ranks j 0) q e ∙ sym (packed-bit (getD ranks j 0) q lt)
 
   unchanged : (k : ℕ) → AlikeBelow before ranks k → (q : ℕ) → q < k → T (not (changedOn before ranks q))
   unchanged k h q l =
@@ -115,7 +115,8 @@ module _ (before ranks : List ℕ) where
   none-set : (q : ℕ) → ((j : ℕ) → j < maxWires → bit (getD before j 0) q ≡ bit (getD ranks j 0) q) → bit changed q ≡ 0
   none-set q h =
       or-both (bitOr (bitOr (differs 0) (differs 1)) (differs 2)) (differs 3) q
-      (or-both (bitOr (differs 0) (differs 1)) (differs 2) q (or-both (differs 0) (differs 1) q (each 0 (omega arith)) (each 1 (omega arith))) (each 2 (omega arith)))
+      (or-both (bitOr (differs 0) (differs 1)) (differs 2) q
+      (or-both (differs 0) (differs 1) q (each 0 (omega arith)) (each 1 (omega arith))) (each 2 (omega arith)))
       (each 3 (omega arith))
     where
       each : (j : ℕ) → j < maxWires → bit (differs j) q ≡ 0
@@ -131,7 +132,7 @@ module _ (before ranks : List ℕ) where
           let y = bitIn ranks j q in
           let test : ℕ → Bool = λ i. not (eqb (bitIn before i q) (bitIn ranks i q)) in
           let e : x ≡ y = eqb→eq x y (⊎-elim (λ t. t) (λ n. absurd (T-not (changedOn before ranks q) u (any-intro maxWires test j lj n))) (decide (eqb x y))) in
-          sym (table-bit (getD before j 0) q l) ∙ e ∙ table-bit (getD ranks j 0) q l
+          sym (packed-bit (getD before j 0) q l) ∙ e ∙ packed-bit (getD ranks j 0) q l
 
   -- the trailing zeros of what changed, below p, are the lowest pattern that changed; else none did
   pub change-found : (p : ℕ) → p < maxPatterns → trailingZeros rankBits changed < p → trailingZeros rankBits changed ≡ firstChange before ranks p

@@ -4,4 +4,4 @@ pub mod PairBits
 pub mod PairSums
 pub mod PairCuts
 pub mod Keeping
-pub mod Between
+pub mod Narrowing

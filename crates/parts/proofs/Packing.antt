@@ -26,9 +26,9 @@ unfolding cellsIn rank
 rank-cells n t h l = digits-div (cells n t) (whole n t h l)
 
 -- the table's bits are the lowest of its rank
-pub table-bit : (r q : ℕ) → q < maxPatterns → bit (tableIn r) q ≡ bit r q
+pub packed-bit : (r q : ℕ) → q < maxPatterns → bit (tableIn r) q ≡ bit r q
 unfolding tableIn
-table-bit r q l = bit-mod r {j = q} {k = maxPatterns} l
+packed-bit r q l = bit-mod r {j = q} {k = maxPatterns} l
 
 pub tables-at : (ranks : List ℕ) (j : ℕ) → j < maxWires → getD (tablesIn ranks) j 0 ≡ tableIn (getD ranks j 0)
 unfolding tablesIn

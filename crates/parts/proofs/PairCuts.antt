@@ -59,9 +59,9 @@ module _ (x p : ℕ) (d : Bool) (lx : x < 2 ^ maxPatterns) (lp : p < maxPatterns
   cut-bit : (q : ℕ) → q < maxPatterns → bit (cut x p d) q ≡ left q
   cut-bit q l = ap (λ y. bit y q) cut-left ∙ bit-ofBits left maxPatterns (λ i _. left-lt i) q l
 
--- what is shifted to a seat stays within the number
-pub shifted : (x s : ℕ) → x ≤ bothSides → s + blockPatterns < pairBits → x * 2 ^ s % 2 ^ pairBits ≡ x * 2 ^ s
-shifted x s lx ls =
+-- what is seat-shifted to a seat stays within the number
+pub seat-shifted : (x s : ℕ) → x ≤ bothSides → s + blockPatterns < pairBits → x * 2 ^ s % 2 ^ pairBits ≡ x * 2 ^ s
+seat-shifted x s lx ls =
     let a : x * 2 ^ s ≤ bothSides * 2 ^ s = mul-le-mul-right (2 ^ s) lx in
     let b : 2 ^ s ≤ 2 ^ (pairBits - suc blockPatterns) = pow-mono {i = s} {j = pairBits - suc blockPatterns} (omega arith) in
     mod-eq-of-lt (omega arith)
@@ -72,7 +72,7 @@ pub put-fits : (x k : ℕ) {s t : ℕ} → k ≤ bothSides → s ≡ t → s + b
 put-fits x k {s} {t} lk e ls room =
     let l : k * 2 ^ s ≤ bothSides * 2 ^ s = mul-le-mul-right (2 ^ s) lk in
     let d : bothSides * 2 ^ s ≡ bothSides * 2 ^ t = ap (λ i. bothSides * 2 ^ i) e in
-    omega (arith, shifted k s lk ls)
+    omega (arith, seat-shifted k s lk ls)
 
 -- the bits at a seat that are lost
 complement : (c e : Bool) → bothSides - (isOne c + upperHalf * isOne e) ≡ isOne (not c) + upperHalf * isOne (not e)

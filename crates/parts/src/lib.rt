@@ -15,7 +15,8 @@ ghost use Prim.Native.Nat.{_<_, _≤_};
 ghost use Rattle.sheet.specs.Limits.{maxInputs, maxWires, maxPatterns};
 ghost use Rattle.table.specs.Inner.Blocks.{Blocks};
 ghost use Rattle.parts.specs.Inner.Pairs.{Covers, PairsCover};
-ghost use Rattle.parts.specs.Inner.Parts.{InLimits, PartSets, Carried, rankOf, ranksBetween, rankAgain, ranksAgain};
+ghost use Rattle.sheet.specs.Inner.Sized.{Sized};
+ghost use Rattle.parts.specs.Inner.Parts.{PartSets, Carried, rankOf, ranksBetween, rankAgain, ranksAgain};
 
 pub mod ranks; // a pick as one number
 pub mod pairs; // the two masks of a wire in one number
@@ -28,7 +29,7 @@ pub struct PartPicks {
 
 // The rank of one wire's pick.
 pub fn wire_rank(e: &[u16; ENTRIES], n: u8, m: u8, sets: [u16; Sheet::MAX_PATTERNS], j: u8) -> u32
-    requires { ⌜ Blocks (now e) × InLimits n m × PartSets n m sets × (j < maxWires) ⌝ }
+    requires { ⌜ Blocks (now e) × Sized n m × PartSets n m sets × (j < maxWires) ⌝ }
     ensures { λ r. ⌜ r ≡ rankOf n sets j ⌝ }
 {
     pick(e, n, pair_of(n, sets, j))
@@ -48,7 +49,7 @@ fn ranks_of(e: &[u16; ENTRIES], n: u8, pairs: [u32; Sheet::WIRES]) -> [u32; Shee
 
 // The whole relation as a part.
 pub fn whole_part(e: &[u16; ENTRIES], n: u8, m: u8, sets: [u16; Sheet::MAX_PATTERNS]) -> PartPicks
-    requires { ⌜ Blocks (now e) × InLimits n m × PartSets n m sets ⌝ }
+    requires { ⌜ Blocks (now e) × Sized n m × PartSets n m sets ⌝ }
     ensures { λ r. ⌜ Carried n m sets (r .pairs) (r .ranks) ⌝ }
 {
     let pairs = pairs_of(n, sets);

@@ -9,15 +9,16 @@ use Rattle.relation.specs.Tests.{ofSets}
 use Rattle.branch_bound.specs.Search.{floor, picks}
 use Rattle.branch_bound.specs.TreeBoard.{tree}
 use Rattle.parts.specs.Inner.Ranks.{tablesIn, floorIn}
-use Rattle.parts.specs.Inner.Parts.{InLimits, Carried}
+use Rattle.sheet.specs.Inner.Sized.{Sized}
+use Rattle.parts.specs.Inner.Parts.{Carried}
 use Rattle.parts.proofs.Keeping.{kept-tables, kept-floor}
 
 module _ {n m : ℕ} {S ws rs : List ℕ} (h : Carried n m S ws rs) where
-  pub floor-is : {f : ℕ} → f ≡ floorIn rs → f ≡ floor (tree n m) (ofSets S)
-  floor-is e = e ∙ ap floorIn (h .ranks) ∙ kept-floor n m (h .sized) S (h .sets)
+  pub carried-floor : {f : ℕ} → f ≡ floorIn rs → f ≡ floor (tree n m) (ofSets S)
+  carried-floor e = e ∙ ap floorIn (h .ranks) ∙ kept-floor (h .sized) (h .sets)
 
-  pub tables-are : {t : List ℕ} → t ≡ tablesIn rs → t ≡ picks (tree n m) (ofSets S)
-  tables-are e = e ∙ ap tablesIn (h .ranks) ∙ kept-tables n m (h .sized) S (h .sets)
+  pub carried-tables : {t : List ℕ} → t ≡ tablesIn rs → t ≡ picks (tree n m) (ofSets S)
+  carried-tables e = e ∙ ap tablesIn (h .ranks) ∙ kept-tables (h .sized) (h .sets)
 
-pub pattern-lt : {n m p : ℕ} → InLimits n m → p < 2 ^ n → p < maxPatterns
-pattern-lt {n} sz l = lt-of-lt-of-le l (pow-mono {i = n} {j = maxInputs} (sz .inputs))
+pub pattern-lt : {n m p : ℕ} → Sized n m → p < 2 ^ n → p < maxPatterns
+pattern-lt {n} sz l = lt-of-lt-of-le l (pow-mono {i = n} {j = maxInputs} (sz .n-most))

@@ -17,7 +17,8 @@ use Rattle.branch_bound.specs.declared.State.{State}
 use Rattle.branch_bound.specs.Reply.{bestOutcome, stoppedOutcome, SearchReply, markOf, answerOf, refusedWith, searchTested, searchOf}
 use Rattle.branch_bound.specs.Search.{floor, start, searchPart, run}
 use Rattle.branch_bound.specs.TreeBoard.{tree}
-use Rattle.parts.specs.Inner.Parts.{InLimits, PartSets}
+use Rattle.sheet.specs.Inner.Sized.{Sized}
+use Rattle.parts.specs.Inner.Parts.{PartSets}
 use Rattle.search.specs.Inner.Tally.{stateOf}
 
 -- what the parts of the run make together
@@ -25,18 +26,21 @@ started : (n m : ℕ) (R : Rel) (st : State) → st ≡ start (tree n m) R → s
 unfolding start
 started n m R st e = rw e refl
 
-pub ran : (n m budget : ℕ) (R : Rel) (st s : State) → st ≡ start (tree n m) R → s ≡ searchPart (tree n m) budget R (stateOf (st .tables) (st .cells ∷ 0 ∷ 0 ∷ []))
+pub ran : (n m budget : ℕ) (R : Rel) (st s : State) → st ≡ start (tree n m) R
+    → s ≡ searchPart (tree n m) budget R (stateOf (st .tables) (st .cells ∷ 0 ∷ 0 ∷ []))
     → s ≡ run (tree n m) budget R
 unfolding run
 ran n m budget R st s est e = e ∙ ap (searchPart (tree n m) budget R) (started n m R st est)
 
 pub stopped-answer : (n m : ℕ) (R : Rel) (s t : State) (f : ℕ) → s ≡ t → s .stopped ≡ true → f ≡ floor (tree n m) R
-    → _≡_ {A = SearchReply} (record { tables = s .tables; cells = s .cells; floor = f; visits = s .visits; mark = accepting stoppedOutcome 0 }) (answerOf n m R t)
+    → _≡_ {A = SearchReply} (record { tables = s .tables; cells = s .cells; floor = f; visits = s .visits; mark = accepting stoppedOutcome 0 })
+    (answerOf n m R t)
 unfolding answerOf markOf
 stopped-answer n m R s t f e h ef = rw (← e, h, ef)
 
 pub best-answer : (n m : ℕ) (R : Rel) (s t : State) → s ≡ t → s .stopped ≡ false
-    → _≡_ {A = SearchReply} (record { tables = s .tables; cells = s .cells; floor = s .cells; visits = s .visits; mark = accepting bestOutcome 0 }) (answerOf n m R t)
+    → _≡_ {A = SearchReply} (record { tables = s .tables; cells = s .cells; floor = s .cells; visits = s .visits; mark = accepting bestOutcome 0 })
+    (answerOf n m R t)
 unfolding answerOf markOf
 best-answer n m R s t e h = rw (← e, h)
 
@@ -45,18 +49,15 @@ module _ (r : Relation) (long : length (r .sets) ≡ maxPatterns) (passes : chec
   fit : Fit r
   fit = check-well-formed r passes
 
-  pub inputs : r .n ≤ maxInputs
-  inputs = fit .sizes .n-most
-
-  pub sized : InLimits (r .n) (r .m)
-  sized = record { one = fit .sizes .n-least; inputs = fit .sizes .n-most; wires = fit .sizes .m-most }
+  pub sizes-held : Sized (r .n) (r .m)
+  sizes-held = fit .sizes
 
   pub as-held : ofSets (cleared (r .n) (r .sets)) ≡ relationOf r
   unfolding relationOf
   as-held = cleared-takes (r .n) (r .sets) (fit .sizes .n-most) long
 
-  pub held : PartSets (r .n) (r .m) (cleared (r .n) (r .sets))
-  held =
+  pub sets-held : PartSets (r .n) (r .m) (cleared (r .n) (r .sets))
+  sets-held =
       let w = cleared-narrow (r .n) (r .m) (r .sets) long (fit .sizes .n-most) (fit .small) in
       record { long = w .long; small = w .small; past = w .past; defined = rw as-held (fit .well-defined) }
 

@@ -15,7 +15,7 @@ use lib.Seq.{getD-set-same, getD-set-other}
 use Rattle.sheet.specs.Limits.{maxWires, maxValues}
 use Rattle.base.proofs.Tests.{decide, eq-test, test-ext}
 use Rattle.table.specs.Bits.{sum, tabulate}
-use Rattle.table.specs.Cells.{cells, wires}
+use Rattle.table.specs.Cells.{cells, wires, total}
 use Rattle.table.specs.Inner.Ranks.{pickOf, rank}
 use Rattle.table.proofs.Bits.{tabulate-at, tabulate-length, sum-cong}
 use Rattle.relation.specs.Source.{Tables}
@@ -25,12 +25,13 @@ use Rattle.relation.proofs.Splits.{agree-well-defined}
 use Rattle.relation.proofs.Sets.{agreed-agree, agreed-narrow}
 use Rattle.base.proofs.Tabulate.{filled-tabulate}
 use Rattle.branch_bound.specs.declared.State.{State}
-use Rattle.branch_bound.specs.Search.{replyTables, total, pick, left, quick, start}
+use Rattle.branch_bound.specs.Search.{replyTables, pick, left, quick, start}
 use Rattle.branch_bound.specs.TreeBoard.{tree}
 use Rattle.parts.specs.Inner.Ranks.{tableIn, cellsIn, cellsSpace}
-use Rattle.parts.specs.Inner.Parts.{InLimits, PartSets}
+use Rattle.sheet.specs.Inner.Sized.{Sized}
+use Rattle.parts.specs.Inner.Parts.{PartSets, rankOf}
 use Rattle.branch_bound.proofs.Picks.{wires-tables, pick-fits}
-use Rattle.parts.proofs.Keeping.{narrow, kept-pick, least}
+use Rattle.parts.proofs.Keeping.{narrow, kept-pick, kept-least}
 use Rattle.parts.proofs.Packing.{rank-table, rank-cells}
 
 -- the table chosen for wire i
@@ -66,36 +67,38 @@ more-tables j X tables lj e =
     (λ t.
     let ne : q ≡ j → ⊥ = λ d. T-not (eqb q j) t (eq-test d) in
     getD-set-other tables j q (X j) 0 ne ∙ ap (λ ts. getD ts q 0) e ∙ tabulate-at maxWires f q l
-    ∙ ap (λ b. cond b (X q) 0) (test-ext (ltb q j) (ltb q (j + 1)) (λ h. lt→ltb q (j + 1) (omega (arith, ltb→lt q j h))) (λ h. lt→ltb q j (below q ne (ltb→lt q (j + 1) h)))))
+    ∙ ap (λ b. cond b (X q) 0)
+    (test-ext (ltb q j) (ltb q (j + 1)) (λ h. lt→ltb q (j + 1) (omega (arith, ltb→lt q j h))) (λ h. lt→ltb q j (below q ne (ltb→lt q (j + 1) h)))))
     (decide (eqb q j)))
   where
     below : (q : ℕ) → (q ≡ j → ⊥) → q < j + 1 → q < j
     below q ne h = omega arith
 
 -- the next wire, from the rank of its pick
-module _ (n m : ℕ) (sz : InLimits n m) (sets : List ℕ) (j : ℕ) (rest tables : List ℕ) (sums : ℕ) (tk : ChosenBelow n m sets j rest tables sums) (lj : j < m) (r : ℕ) (er : r ≡ rank n (pickOf n (maskOf rest j 0) (maskOf rest j 1))) where
+module _ {n m : ℕ} (sz : Sized n m) {sets : List ℕ} {j : ℕ} {rest tables : List ℕ} {sums : ℕ} (tk : ChosenBelow n m sets j rest tables sums)
+    (lj : j < m) {r : ℕ} (er : r ≡ rankOf n rest j) where
   is-chosen : pick (tree n m) (ofSets rest) j ≡ chosen n m sets j
   is-chosen = ap (λ R. pick (tree n m) R j) (tk .is-left)
 
   parts : (tableIn r ≡ pick (tree n m) (ofSets rest) j) × (cellsIn r ≡ cells n (pick (tree n m) (ofSets rest) j))
   parts =
-      let k = kept-pick n m sz rest (tk .kept) j in
+      let k = kept-pick sz (tk .kept) j in
       let t = pick (tree n m) (ofSets rest) j in
-      let l = least n m sz rest (tk .kept) j .0 in
+      let l = kept-least sz (tk .kept) j .0 in
       let e = er ∙ ap (rank n) k in
-      (ap tableIn e ∙ rank-table n t (sz .inputs) l, ap cellsIn e ∙ rank-cells n t (sz .inputs) l)
+      (ap tableIn e ∙ rank-table n t (sz .n-most) l, ap cellsIn e ∙ rank-cells n t (sz .n-most) l)
 
   small : (p : ℕ) → getD rest p 0 < 2 ^ maxValues
-  small p = lt-of-lt-of-le (tk .kept .small p) (pow-mono {i = 2 ^ m} {j = maxValues} (pow-mono {i = m} {j = maxWires} (sz .wires)))
+  small p = lt-of-lt-of-le (tk .kept .small p) (pow-mono {i = 2 ^ m} {j = maxValues} (pow-mono {i = m} {j = maxWires} (sz .m-most)))
 
-  pub next-taken : (t s : ℕ) → t ≡ tableIn r → s ≡ cellsIn r → s < cellsSpace → ChosenBelow n m sets (j + 1) (agreed rest j t) (set tables j t) (sums + s)
+  pub next-taken : {t s : ℕ} → t ≡ tableIn r → s ≡ cellsIn r → s < cellsSpace → ChosenBelow n m sets (j + 1) (agreed rest j t) (set tables j t) (sums + s)
   unfolding left tree sum
-  next-taken t s et es ls =
+  next-taken {t} {s} et es ls =
       let R = ofSets rest in
       let p = pick (tree n m) R j in
       let tp : t ≡ p = et ∙ parts .0 in
       let ag = agreed-agree rest j t (tk .kept .long) small in
-      let w = agreed-narrow n m rest j t (narrow n m sz rest (tk .kept)) in
+      let w = agreed-narrow n m rest j t (narrow sz (tk .kept)) in
       record {
         reached = omega arith;
         kept =
@@ -106,19 +109,20 @@ module _ (n m : ℕ) (sz : InLimits n m) (sets : List ℕ) (j : ℕ) (rest table
               defined = rw (ag, tp) (agree-well-defined R j p n m (pick-fits (tree n m) R (tk .kept .defined) j));
             };
         is-left = ag ∙ ap (agree R j) tp ∙ ap (λ Q. agree Q j (pick (tree n m) Q j)) (tk .is-left) ∙ ap (left (tree n m) (ofSets sets)) (sym (add-one j));
-        are-chosen = ap (set tables j) (tp ∙ is-chosen) ∙ more-tables j (chosen n m sets) tables (omega (arith, sz .wires)) (tk .are-chosen);
-        counted = ap₂ (λ x y. x + y) (tk .counted) (es ∙ parts .1 ∙ ap (cells n) is-chosen) ∙ ap (λ k. sum k (λ i. cells n (chosen n m sets i))) (sym (add-one j));
+        are-chosen = ap (set tables j) (tp ∙ is-chosen) ∙ more-tables j (chosen n m sets) tables (omega (arith, sz .m-most)) (tk .are-chosen);
+        counted = ap₂ (λ x y. x + y) (tk .counted) (es ∙ parts .1 ∙ ap (cells n) is-chosen)
+            ∙ ap (λ k. sum k (λ i. cells n (chosen n m sets i))) (sym (add-one j));
         few = omega (arith, tk .few);
       }
 
 -- with all wires chosen it is the start of the search
-pub all-taken : (n m : ℕ) (sz : InLimits n m) (sets rest tables : List ℕ) (sums j : ℕ) → j ≡ m → ChosenBelow n m sets j rest tables sums
+pub all-taken : {n m : ℕ} → Sized n m → {sets rest tables : List ℕ} {sums j : ℕ} → j ≡ m → ChosenBelow n m sets j rest tables sums
     → _≡_ {A = State} (record { tables = tables; cells = sums; visits = 0; stopped = false }) (start (tree n m) (ofSets sets))
 unfolding start quick total tree
-all-taken n m sz sets rest tables sums j e tk =
+all-taken {n} {m} sz {sets} {rest} {tables} {sums} {j} e tk =
     let et : tables ≡ replyTables m (chosen n m sets) = tk .are-chosen ∙ ap (λ k. replyTables k (chosen n m sets)) e in
     let ec : sums ≡ sum m (λ i. cells n (wires (replyTables m (chosen n m sets)) i)) =
     tk .counted ∙ ap (λ k. sum k (λ i. cells n (chosen n m sets i))) e
     ∙ sum-cong m (λ i. cells n (chosen n m sets i)) (λ i. cells n (wires (replyTables m (chosen n m sets)) i))
-    (λ i l. ap (cells n) (sym (wires-tables n m (sz .wires) (chosen n m sets) i l))) in
+    (λ i l. ap (cells n) (sym (wires-tables n m (sz .m-most) (chosen n m sets) i l))) in
     rw (et, ec)

@@ -26,7 +26,8 @@ use Rattle.parts.specs.Inner.Parts.{PartSets, ranksOf, Carried, ranksAgain}
 use Rattle.search.specs.Inner.Conflicts.{Settled}
 use Rattle.search.specs.Inner.Tally.{stateOf}
 use Rattle.parts.proofs.Packing.{tables-at}
-use Rattle.parts.proofs.Keeping.{pairs-cover, with-keep, with-sets, with-pairs, with-ranks}
+use Rattle.parts.proofs.Keeping.{pairs-cover}
+use Rattle.parts.proofs.Narrowing.{with-keep, with-sets, with-pairs, with-ranks}
 use Rattle.search.proofs.Steps.{discards}
 
 -- one part of a split of a part at its open pair p, j: w is what is left of the pattern's set with wire j at b
@@ -48,24 +49,24 @@ module _ {n m : ℕ} {S ws rs : List ℕ} {p j b w : ℕ} (h : Half n m S ws rs 
     is-narrowed = eN ∙ ap (set S p) (h .left)
 
     half-keep : ofSets N ≡ keep (ofSets S) p j b
-    half-keep = ap ofSets is-narrowed ∙ with-keep n m (whole .sized) S (whole .sets) p j b (h .pattern) (h .wire) (h .is-open) (h .side)
+    half-keep = ap ofSets is-narrowed ∙ with-keep (whole .sized) (whole .sets) (h .pattern) (h .wire) (h .is-open) (h .side)
 
     -- a split closes an open pair
     pub half-fewer : openPairs n m (ofSets N) < openPairs n m (ofSets S)
     half-fewer = rw half-keep (keep-closes n m (ofSets S) p j b (h .pattern) (h .wire) (h .is-open))
 
     half-sets : PartSets n m N
-    half-sets = rw is-narrowed (with-sets n m (whole .sized) S (whole .sets) p j b (h .pattern) (h .wire) (h .is-open) (h .side))
+    half-sets = rw is-narrowed (with-sets (whole .sized) (whole .sets) (h .pattern) (h .wire) (h .is-open) (h .side))
 
     module _ {x : List ℕ} (ex : x ≡ cutPairs ws p w) where
       half-pairs : x ≡ pairsOf N
       half-pairs =
           ex ∙ ap₂ (λ y v. cutPairs y p v) (whole .pairs) (h .left)
-          ∙ with-pairs n m (whole .sized) S (whole .sets) p j b (h .pattern) (h .wire) (h .is-open) (h .side)
+          ∙ with-pairs (whole .sized) (whole .sets) (h .pattern) (h .wire) (h .is-open) (h .side)
           ∙ ap pairsOf (sym is-narrowed)
 
       pub half-cover : PairsCover n x
-      half-cover = rw half-pairs (pairs-cover n m (whole .sized) N half-sets)
+      half-cover = rw half-pairs (pairs-cover (whole .sized) half-sets)
 
       again : {r r′ y y′ : List ℕ} {v v′ : ℕ} → r ≡ r′ → v ≡ v′ → y ≡ y′ → ranksAgain n r p v y ≡ ranksAgain n r′ p v′ y′
       again er ev ey = cc
@@ -77,7 +78,7 @@ module _ {n m : ℕ} {S ws rs : List ℕ} {p j b w : ℕ} (h : Half n m S ws rs 
             sets = half-sets;
             pairs = half-pairs;
             ranks = er ∙ again (whole .ranks) (h .left) (half-pairs ∙ ap pairsOf is-narrowed)
-                ∙ with-ranks n m (whole .sized) S (whole .sets) p j b (h .pattern) (h .wire) (h .is-open) (h .side)
+                ∙ with-ranks (whole .sized) (whole .sets) (h .pattern) (h .wire) (h .is-open) (h .side)
                 ∙ ap (ranksOf n) (sym is-narrowed);
           }
 
@@ -91,7 +92,7 @@ module _ {n m : ℕ} {S ws rs : List ℕ} {p j b w : ℕ} (h : Half n m S ws rs 
         let same : value m (wires (tablesIn rs)) q ≡ value m (wires (tablesIn r)) q =
         sum-cong m (λ i. bit (wires (tablesIn rs) i) q * 2 ^ i) (λ i. bit (wires (tablesIn r) i) q * 2 ^ i)
         (λ i li.
-        let l4 : i < maxWires = omega (arith, whole .sized .wires) in
+        let l4 : i < maxWires = omega (arith, whole .sized .m-most) in
         ap (λ b. b * 2 ^ i) (ap (λ x. bit x q) (tables-at rs i l4) ∙ alike i q l4 l ∙ ap (λ x. bit x q) (sym (tables-at r i l4)))) in
         rw (at, ← same) (settled q (omega arith))
 

@@ -24,7 +24,8 @@ use Rattle.search.specs.declared.SplitPlace.{SplitPlace}
 use Rattle.search.specs.declared.SplitPlace.the-variants.{Pair, Nowhere}
 use Rattle.branch_bound.specs.Search.{replyTables, pick, picks}
 use Rattle.branch_bound.specs.TreeBoard.{tree}
-use Rattle.parts.specs.Inner.Parts.{InLimits, PartSets}
+use Rattle.sheet.specs.Inner.Sized.{Sized}
+use Rattle.parts.specs.Inner.Parts.{PartSets}
 use Rattle.search.specs.Inner.Conflicts.{Settled, splitPlace}
 use Rattle.branch_bound.proofs.Picks.{wires-tables, pick-fits}
 
@@ -40,10 +41,10 @@ tables-past m X j l =
     (decide (ltb j maxWires))
 
 -- what a pair found tells
-pub pair-told : (n m : ℕ) (R : Rel) (X : Tables) (p j : ℕ) → splitPlace n m R X ≡ Pair p j
+pub place-told : (n m : ℕ) (R : Rel) (X : Tables) (p j : ℕ) → splitPlace n m R X ≡ Pair p j
     → T (not (compatible n m R X)) × (conflict n m R X ≡ p) × (freeWire m (R p) ≡ j)
 unfolding splitPlace
-pair-told n m R X p j e =
+place-told n m R X p j e =
     ⊎-elim
     (λ t. let z : Nowhere ≡ Pair p j = rw (test-yes (compatible n m R X) t) at e in let y : _≡_ {A = ℕ} 0 1 = cc in absurd (omega arith))
     (λ t.
@@ -64,7 +65,7 @@ found-nowhere n m R X e =
     let y : _≡_ {A = ℕ} 0 1 = cc in absurd (omega arith))
     (decide (compatible n m R X))
 
-module _ {n m : ℕ} (sz : InLimits n m) {sets : List ℕ} (ok : PartSets n m sets) {tables : List ℕ} (are : tables ≡ picks (tree n m) (ofSets sets)) where
+module _ {n m : ℕ} (sz : Sized n m) {sets : List ℕ} (ok : PartSets n m sets) {tables : List ℕ} (are : tables ≡ picks (tree n m) (ofSets sets)) where
   -- the code's tests
   pub allowed-test : ((j : ℕ) → getD tables j 0 < 2 ^ maxPatterns) → (p : ℕ) → p < maxPatterns → {s v : ℕ} → s ≡ sideBySide tables → v ≡ valueIn s p
       → {r : Bool} → r ≡ member (getD sets p 0) v → r ≡ ofSets sets p (value m (wires (picks (tree n m) (ofSets sets))) p)
@@ -75,11 +76,11 @@ module _ {n m : ℕ} (sz : InLimits n m) {sets : List ℕ} (ok : PartSets n m se
       (ev
       ∙ ap (λ x. valueIn x p) es
       ∙ side-value tables p l small
-      ∙ value-four m tables p (sz .wires) (λ j l. ap (λ ts. wires ts j) are ∙ tables-past m (pick (tree n m) (ofSets sets)) j l)
+      ∙ value-four m tables p (sz .m-most) (λ j l. ap (λ ts. wires ts j) are ∙ tables-past m (pick (tree n m) (ofSets sets)) j l)
       ∙ ap (λ ts. value m (wires ts) p) are)
 
-  pub open-test : (p j : ℕ) → free maxWires (member (getD sets p 0)) j ≡ free m (ofSets sets p) j
-  open-test p j = free-four m (getD sets p 0) j (sz .wires) (ok .small p) ∙ ap (λ S. free m S j) (sym (member-sets sets p))
+  pub free-test : (p j : ℕ) → free maxWires (member (getD sets p 0)) j ≡ free m (ofSets sets p) j
+  free-test p j = free-four m (getD sets p 0) j (sz .m-most) (ok .small p) ∙ ap (λ S. free m S j) (sym (member-sets sets p))
 
   -- every pick fits, so a pattern in conflict has an open wire
   pub some-open : (p : ℕ) → p < 2 ^ n → T (not (ofSets sets p (value m (wires tables) p))) → ((j : ℕ) → j < m → T (not (free m (ofSets sets p) j))) → ⊥
@@ -87,7 +88,7 @@ module _ {n m : ℕ} (sz : InLimits n m) {sets : List ℕ} (ok : PartSets n m se
   some-open p lp t h =
       let R = ofSets sets in
       let w = freeWire-is n m R (wires tables) (ok .defined)
-      (λ j l. rw (are, wires-tables n m (sz .wires) (pick (tree n m) R) j l) (pick-fits (tree n m) R (ok .defined) j)) p lp t in
+      (λ j l. rw (are, wires-tables n m (sz .m-most) (pick (tree n m) R) j l) (pick-fits (tree n m) R (ok .defined) j)) p lp t in
       T-not (free m (R p) (freeWire m (R p))) (h (freeWire m (R p)) (w .0)) (w .1)
 
   pub none-open : ((p : ℕ) → p < 2 ^ n → T (ofSets sets p (value m (wires tables) p))) → splitPlace n m (ofSets sets) (wires tables) ≡ Nowhere
@@ -109,14 +110,15 @@ module _ {n m : ℕ} (sz : InLimits n m) {sets : List ℕ} (ok : PartSets n m se
       rw (no, at, wire)
 
   -- what is found is an open pair
-  pub found-open : {f : SplitPlace} → f ≡ splitPlace n m (ofSets sets) (wires tables) → {p j : ℕ} → f ≡ Pair p j → (p < 2 ^ n) × (j < m) × T (free m (ofSets sets p) j)
+  pub found-open : {f : SplitPlace} → f ≡ splitPlace n m (ofSets sets) (wires tables) → {p j : ℕ} → f ≡ Pair p j
+      → (p < 2 ^ n) × (j < m) × T (free m (ofSets sets p) j)
   unfolding picks tree
   found-open ef {p} {j} e =
       let R = ofSets sets in
-      let told = pair-told n m R (wires tables) p j (sym ef ∙ e) in
+      let told = place-told n m R (wires tables) p j (sym ef ∙ e) in
       let at = rw (told .1) at (conflict-is n m R (wires tables) (told .0)) in
       let w = freeWire-is n m R (wires tables) (ok .defined)
-      (λ j l. rw (are, wires-tables n m (sz .wires) (pick (tree n m) R) j l) (pick-fits (tree n m) R (ok .defined) j)) p (at .0) (at .1) in
+      (λ j l. rw (are, wires-tables n m (sz .m-most) (pick (tree n m) R) j l) (pick-fits (tree n m) R (ok .defined) j)) p (at .0) (at .1) in
       let v = rw (told .2) at w in (at .0, v .0, v .1)
 
   -- and below it nothing is in conflict
@@ -124,7 +126,7 @@ module _ {n m : ℕ} (sz : InLimits n m) {sets : List ℕ} (ok : PartSets n m se
   unfolding conflict
   found-below ef {p} {j} e lp q l =
       let R = ofSets sets in
-      let told = pair-told n m R (wires tables) p j (sym ef ∙ e) in
+      let told = place-told n m R (wires tables) p j (sym ef ∙ e) in
       ⊎-elim (λ t. t)
       (λ t. absurd (omega (arith, told .1, lowest-below (2 ^ n) (λ p. not (R p (value m (wires tables) p))) q (omega arith) t)))
       (decide (R q (value m (wires tables) q)))

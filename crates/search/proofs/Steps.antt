@@ -17,8 +17,8 @@ use Rattle.search.specs.declared.SplitPlace.the-variants.{Pair, Nowhere}
 use Rattle.parts.specs.Inner.Ranks.{tablesIn, floorIn}
 use Rattle.parts.specs.Inner.Parts.{Carried}
 use Rattle.search.specs.Inner.Conflicts.{splitPlace}
-use Rattle.search.proofs.Carrying.{floor-is, tables-are}
-use Rattle.search.proofs.Opening.{found-nowhere, pair-told}
+use Rattle.search.proofs.Carrying.{carried-floor, carried-tables}
+use Rattle.search.proofs.Opening.{found-nowhere, place-told}
 
 pub lt→nleb : (x y : ℕ) → y < x → T (not (leb x y))
 lt→nleb x y l = not-T (leb x y) (λ t. omega (arith, leb→le x y t))
@@ -26,21 +26,21 @@ lt→nleb x y l = not-T (leb x y) (λ t. omega (arith, leb→le x y t))
 module _ {n m : ℕ} {S ws rs : List ℕ} (h : Carried n m S ws rs) (budget : ℕ) (s : State) {f : ℕ} (ef : f ≡ floorIn rs) where
   step : searchPart (tree n m) budget (ofSets S) s ≡ treat (tree n m) budget (searchPart (tree n m) budget) (ofSets S) s
   unfolding tree
-  step = search-step (tree n m) (h .sized .wires) budget (ofSets S) s (h .sets .defined)
+  step = search-step (tree n m) (h .sized .m-most) budget (ofSets S) s (h .sets .defined)
 
   pub discards : T (discarded s f) → s ≡ searchPart (tree n m) budget (ofSets S) s
   unfolding treat
-  discards t = sym (step ∙ rw (← floor-is h ef, test-yes (discarded s f) t))
+  discards t = sym (step ∙ rw (← carried-floor h ef, test-yes (discarded s f) t))
 
   module _ (more : T (not (discarded s f))) where
     pub halts : T (usedUp budget s) → {u : State} → u ≡ halted s → u ≡ searchPart (tree n m) budget (ofSets S) s
     unfolding treat charge
-    halts t e = e ∙ sym (step ∙ rw (← floor-is h ef, test-no (discarded s f) more, test-yes (usedUp budget s) t))
+    halts t e = e ∙ sym (step ∙ rw (← carried-floor h ef, test-no (discarded s f) more, test-yes (usedUp budget s) t))
 
     module _ (left : T (not (usedUp budget s))) where
       expands : treat (tree n m) budget (searchPart (tree n m) budget) (ofSets S) s ≡ expand (tree n m) budget (searchPart (tree n m) budget) (ofSets S) s
       unfolding treat charge
-      expands = rw (← floor-is h ef, test-no (discarded s f) more, test-no (usedUp budget s) left)
+      expands = rw (← carried-floor h ef, test-no (discarded s f) more, test-no (usedUp budget s) left)
 
       -- the code's tables and where it splits
       module _ {tables : List ℕ} (et : tables ≡ tablesIn rs) {found : SplitPlace} (ep : found ≡ splitPlace n m (ofSets S) (wires tables)) {u : State} where
@@ -48,13 +48,13 @@ module _ {n m : ℕ} {S ws rs : List ℕ} (h : Carried n m S ws rs) (budget : �
         unfolding expand tree
         improves e eu =
             let t = test-yes (compatible n m (ofSets S) (wires tables)) (found-nowhere n m (ofSets S) (wires tables) (sym ep ∙ e)) in
-            eu ∙ sym (step ∙ expands ∙ rw (← tables-are h et, t, ← floor-is h ef))
+            eu ∙ sym (step ∙ expands ∙ rw (← carried-tables h et, t, ← carried-floor h ef))
 
         pub splits : {p j : ℕ} → found ≡ Pair p j → {v : State} → v ≡ charged s
             → u ≡ split (tree n m) budget (searchPart (tree n m) budget) (ofSets S) p j v → u ≡ searchPart (tree n m) budget (ofSets S) s
         unfolding expand tree
         splits {p} {j} e ev eu =
-            let told = pair-told n m (ofSets S) (wires tables) p j (sym ep ∙ e) in
+            let told = place-told n m (ofSets S) (wires tables) p j (sym ep ∙ e) in
             let t = test-no (compatible n m (ofSets S) (wires tables)) (told .0) in
             eu ∙ ap (split (tree n m) budget (searchPart (tree n m) budget) (ofSets S) p j) ev
-            ∙ sym (step ∙ expands ∙ rw (← tables-are h et, t, told .1, told .2))
+            ∙ sym (step ∙ expands ∙ rw (← carried-tables h et, t, told .1, told .2))

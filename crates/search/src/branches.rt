@@ -39,8 +39,12 @@ pub fn visit(
     from: u8,
     budget: u32,
 )
-    requires { ⌜ Blocks (now e) × Carried n m (now sets) pairs ranks × (floor ≡ floorIn ranks) × (from ≤ 2 ^ n) × Settled m (now sets) (tablesIn ranks) from × (length (now tally) ≡ 3) ⌝ }
-    ensures { λ _. ⌜ (now (sets .exit) ≡ now (sets .entry)) × (stateOf (now (best .exit)) (now (tally .exit)) ≡ searchPart (tree n m) budget (ofSets (now (sets .entry))) (stateOf (now (best .entry)) (now (tally .entry)))) × (length (now (tally .exit)) ≡ 3) ⌝ }
+    requires { ⌜ Blocks (now e) × Carried n m (now sets) pairs ranks × (floor ≡ floorIn ranks) × (from ≤ 2 ^ n) × Settled m (now sets) (tablesIn ranks) from
+        × (length (now tally) ≡ 3) ⌝ }
+    ensures { λ _. ⌜ (now (sets .exit) ≡ now (sets .entry))
+        × (stateOf (now (best .exit)) (now (tally .exit))
+        ≡ searchPart (tree n m) budget (ofSets (now (sets .entry))) (stateOf (now (best .entry)) (now (tally .entry))))
+        × (length (now (tally .exit)) ≡ 3) ⌝ }
 {
     if tally[0] <= floor {
         return;
@@ -78,8 +82,12 @@ fn split(
     j: u8,
     budget: u32,
 )
-    requires { ⌜ Blocks (now e) × Carried n m (now sets) pairs ranks × (p < 2 ^ n) × (j < m) × T (free m (ofSets (now sets) p) j) × Settled m (now sets) (tablesIn ranks) p × (length (now tally) ≡ 3) ⌝ }
-    ensures { λ _. ⌜ (now (sets .exit) ≡ now (sets .entry)) × (stateOf (now (best .exit)) (now (tally .exit)) ≡ splitOf (tree n m) budget (searchPart (tree n m) budget) (ofSets (now (sets .entry))) p j (stateOf (now (best .entry)) (now (tally .entry)))) × (length (now (tally .exit)) ≡ 3) ⌝ }
+    requires { ⌜ Blocks (now e) × Carried n m (now sets) pairs ranks × (p < 2 ^ n) × (j < m) × T (free m (ofSets (now sets) p) j)
+        × Settled m (now sets) (tablesIn ranks) p × (length (now tally) ≡ 3) ⌝ }
+    ensures { λ _. ⌜ (now (sets .exit) ≡ now (sets .entry))
+        × (stateOf (now (best .exit)) (now (tally .exit))
+        ≡ splitOf (tree n m) budget (searchPart (tree n m) budget) (ofSets (now (sets .entry))) p j (stateOf (now (best .entry)) (now (tally .entry))))
+        × (length (now (tally .exit)) ≡ 3) ⌝ }
 {
     let at = p as usize;
     let set = sets[at];

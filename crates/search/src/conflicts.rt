@@ -13,7 +13,8 @@ ghost use Rattle.relation.specs.Tests.{ofSets};
 ghost use Rattle.table.specs.Cells.{wires};
 ghost use Rattle.branch_bound.specs.Search.{picks};
 ghost use Rattle.branch_bound.specs.TreeBoard.{tree};
-ghost use Rattle.parts.specs.Inner.Parts.{InLimits, PartSets};
+ghost use Rattle.sheet.specs.Inner.Sized.{Sized};
+ghost use Rattle.parts.specs.Inner.Parts.{PartSets};
 ghost use Rattle.search.specs.Inner.Conflicts.{Settled, splitPlace};
 
 // The lowest pattern on which the picks' value is not allowed, and the lowest wire open there. A pattern in conflict has an open wire, since every pick
@@ -25,7 +26,8 @@ pub fn first_open(
     sets: &[u16; Sheet::MAX_PATTERNS],
     tables: [u16; Sheet::WIRES],
 ) -> SplitPlace
-    requires { ⌜ InLimits n m × PartSets n m (now sets) × (tables ≡ picks (tree n m) (ofSets (now sets))) × (from ≤ 2 ^ n) × Settled m (now sets) tables from ⌝ }
+    requires { ⌜ Sized n m × PartSets n m (now sets) × (tables ≡ picks (tree n m) (ofSets (now sets))) × (from ≤ 2 ^ n)
+        × Settled m (now sets) tables from ⌝ }
     ensures { λ r. ⌜ r ≡ splitPlace n m (ofSets (now (sets .entry))) (wires tables) ⌝ }
 {
     let count = patterns_of(n);

@@ -13,7 +13,8 @@ ghost use Rattle.branch_bound.specs.Search.{run};
 ghost use Rattle.branch_bound.specs.TreeBoard.{tree};
 ghost use Rattle.search.specs.Cases.{searchReply};
 ghost use Rattle.branch_bound.specs.Reply.{answerOf, searchOf};
-ghost use Rattle.parts.specs.Inner.Parts.{InLimits, PartSets};
+ghost use Rattle.sheet.specs.Inner.Sized.{Sized};
+ghost use Rattle.parts.specs.Inner.Parts.{PartSets};
 
 mod conflicts; // where to split: the first conflict
 mod quick_solver; // the first answer
@@ -43,7 +44,7 @@ pub struct Answer {
 
 // The search of a relation whose sizes and sets were tested, with its sets past the last pattern emptied.
 fn search_sets(n: u8, m: u8, sets: [u16; Sheet::MAX_PATTERNS], budget: u32) -> Answer
-    requires { ⌜ InLimits n m × PartSets n m sets ⌝ }
+    requires { ⌜ Sized n m × PartSets n m sets ⌝ }
     ensures { λ r. ⌜ searchReply r ≡ answerOf n m (ofSets sets) (run (tree n m) budget (ofSets sets)) ⌝ }
 {
     let table = blocks();

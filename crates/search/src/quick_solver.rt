@@ -14,7 +14,8 @@ ghost use Rattle.table.specs.Inner.Blocks.{Blocks};
 ghost use Rattle.relation.specs.Tests.{ofSets};
 ghost use Rattle.branch_bound.specs.Search.{start};
 ghost use Rattle.branch_bound.specs.TreeBoard.{tree};
-ghost use Rattle.parts.specs.Inner.Parts.{InLimits, PartSets, rankOf};
+ghost use Rattle.sheet.specs.Inner.Sized.{Sized};
+ghost use Rattle.parts.specs.Inner.Parts.{PartSets, rankOf};
 
 // The rank of wire j's pick once the wires before it are chosen. Before the first wire nothing is: its pick is the whole relation's, which the caller has.
 fn rank_left(
@@ -25,7 +26,7 @@ fn rank_left(
     j: u8,
     first: u32,
 ) -> u32
-    requires { ⌜ Blocks (now e) × InLimits n m × PartSets n m left × (j < maxWires) × (j ≡ 0 → first ≡ rankOf n left 0) ⌝ }
+    requires { ⌜ Blocks (now e) × Sized n m × PartSets n m left × (j < maxWires) × (j ≡ 0 → first ≡ rankOf n left 0) ⌝ }
     ensures { λ r. ⌜ r ≡ rankOf n left j ⌝ }
 {
     if j == 0 {
@@ -42,7 +43,7 @@ pub fn quick(
     sets: [u16; Sheet::MAX_PATTERNS],
     first: u32,
 ) -> State
-    requires { ⌜ Blocks (now e) × InLimits n m × PartSets n m sets × (first ≡ rankOf n sets 0) ⌝ }
+    requires { ⌜ Blocks (now e) × Sized n m × PartSets n m sets × (first ≡ rankOf n sets 0) ⌝ }
     ensures { λ r. ⌜ r ≡ start (tree n m) (ofSets sets) ⌝ }
 {
     let mut left = sets;

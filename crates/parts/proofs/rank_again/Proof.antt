@@ -26,7 +26,7 @@ pick-requires : tie.Need-pick-requires
 pick-requires c κs =
     let q = c .before .before .before .before .pre in
     let k = q .5 in
-    (q .0, q .1, q .2, k .zeros-lt, k .ones-lt, k .covered)
+    (q .0, q .1, q .2, k .zeros-fit, k .ones-fit, k .covered)
 
 returns : tie.Need-returns
 unfolding rankAgain

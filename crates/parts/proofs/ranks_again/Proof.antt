@@ -46,7 +46,8 @@ returns : tie.Need-returns
 unfolding ranksAgain
 returns c =
     let a = c .before .before .before .before .args in
-    tabulate-four (λ j. rankAgain (a .n) (getD (a .t3) j 0) (a .p) j (a .set) (getD (a .t6) j 0)) (c .before .before .before .rank-again .ensures) (c .before .before .rank-again2 .ensures) (c .before .rank-again3 .ensures) (c .rank-again4 .ensures)
+    tabulate-four (λ j. rankAgain (a .n) (getD (a .t3) j 0) (a .p) j (a .set) (getD (a .t6) j 0))
+    (c .before .before .before .rank-again .ensures) (c .before .before .rank-again2 .ensures) (c .before .rank-again3 .ensures) (c .rank-again4 .ensures)
 
 pub ranks-again-spec : {M : Type 1} → statement M
 ranks-again-spec =

@@ -6,14 +6,14 @@ use Rattle.parts.proofs.wire_rank.Statement.{statement}
 use Rattle.parts.proofs.wire_rank.Tie as tie
 
 pair-of-requires : tie.Need-pair-of-requires
-pair-of-requires c κs = let q = c .pre in (q .1 .inputs, q .3, q .2 .past)
+pair-of-requires c κs = let q = c .pre in (q .1 .n-most, q .3, q .2 .past)
 
 pick-requires : tie.Need-pick-requires
 pick-requires c κs =
     let a = c .before .args in
     let q = c .before .pre in
-    let k : Covers (a .n) (c .pair-of .result) = rw (c .pair-of .ensures) (pair-covers (a .n) (a .m) (q .1) (a .sets) (q .2) (a .j)) in
-    (q .0, q .1 .one, q .1 .inputs, k .zeros-lt, k .ones-lt, k .covered)
+    let k : Covers (a .n) (c .pair-of .result) = rw (c .pair-of .ensures) (pair-covers (q .1) (q .2) (a .j)) in
+    (q .0, q .1 .n-least, q .1 .n-most, k .zeros-fit, k .ones-fit, k .covered)
 
 returns : tie.Need-returns
 returns c =

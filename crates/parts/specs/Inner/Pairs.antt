@@ -34,8 +34,8 @@ cutPairs pairs p w = tabulate maxWires (λ j. cutPair (getD pairs j 0) p w j)
 
 -- the masks of a pair are of n inputs and cover every pattern
 pub record Covers (n pair : ℕ) : Type 0 where
-  pub zeros-lt : zerosIn pair < 2 ^ (2 ^ n)
-  pub ones-lt : onesIn pair < 2 ^ (2 ^ n)
+  pub zeros-fit : zerosIn pair < 2 ^ (2 ^ n)
+  pub ones-fit : onesIn pair < 2 ^ (2 ^ n)
   pub covered : Covered n (zerosIn pair) (onesIn pair)
 
 abbrev pub PairsCover : ℕ → List ℕ → Type 0

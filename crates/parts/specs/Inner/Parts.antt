@@ -1,10 +1,11 @@
 -- What the code carries of a part: its sets, and for each wire the two masks of its projection in one number and the rank of its pick.
-use Prim.Native.Nat.{ℕ, _^_, _<_, _≤_}
+use Prim.Native.Nat.{ℕ, _^_, _<_}
 use mathlib.Core.Path.{_≡_}
 use mathlib.Core.Bool.{cond}
 use mathlib.Core.List.{List}
 use lib.ListN.{length, getD}
-use Rattle.sheet.specs.Limits.{maxInputs, maxWires, maxPatterns}
+use Rattle.sheet.specs.Limits.{maxWires, maxPatterns}
+use Rattle.sheet.specs.Inner.Sized.{Sized}
 use Rattle.table.specs.Bits.{bit, tabulate}
 use Rattle.table.specs.Inner.Ranks.{pickOf, rank}
 use Rattle.table.specs.Inner.Pairs.{zerosIn, onesIn}
@@ -13,12 +14,6 @@ use Rattle.relation.specs.Tests.{ofSets, occurs}
 use Rattle.relation.specs.Inner.Masks.{member, maskOf, NonePast}
 use Rattle.parts.specs.Inner.Pairs.{pairsOf}
 use Rattle.parts.specs.Inner.Ranks.{tableIn}
-
--- as many inputs and wires as a search takes
-pub record InLimits (n m : ℕ) : Type 0 where
-  pub one : 1 ≤ n
-  pub inputs : n ≤ maxInputs
-  pub wires : m ≤ maxWires
 
 -- the sets of a part: as many as there may be patterns, of values there are, empty past the last pattern, none empty before
 pub record PartSets (n m : ℕ) (sets : List ℕ) : Type 0 where
@@ -35,7 +30,7 @@ unfoldable pub ranksOf : ℕ → List ℕ → List ℕ
 ranksOf n sets = tabulate maxWires (rankOf n sets)
 
 pub record Carried (n m : ℕ) (s w r : List ℕ) : Type 0 where
-  pub sized : InLimits n m
+  pub sized : Sized n m
   pub sets : PartSets n m s
   pub pairs : w ≡ pairsOf s
   pub ranks : r ≡ ranksOf n s

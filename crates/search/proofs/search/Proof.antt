@@ -8,7 +8,7 @@ use Rattle.branch_bound.specs.Search.{run}
 use Rattle.branch_bound.specs.TreeBoard.{tree}
 use Rattle.branch_bound.specs.Reply.{answerOf, refusedWith}
 use Rattle.parts.specs.Inner.Parts.{PartSets}
-use Rattle.search.proofs.Entry.{inputs, sized, as-held, held, answered, turned-away}
+use Rattle.search.proofs.Entry.{sizes-held, sets-held, as-held, answered, turned-away}
 use borrow.Author.Needs.{needs}
 use Rattle.search.proofs.search.Statement.{statement}
 use Rattle.search.proofs.search.Tie as tie
@@ -28,14 +28,14 @@ clear-past-requires : tie.Need-clear-past-requires
 clear-past-requires c κs =
     let a = c .before .before .before .before .args in
     let l : length (a .relation .sets) ≡ maxPatterns = search needs in
-    inputs (a .relation) l (sym (c .before .before .check .ensures) ∙ ap verdictCase (c .enum-told .given .1))
+    sizes-held (a .relation) l (sym (c .before .before .check .ensures) ∙ ap verdictCase (c .enum-told .given .1)) .n-most
 
 search-sets-requires : tie.Need-search-sets-requires
 search-sets-requires c κs =
     let a = c .before .before .before .before .before .args in
     let l : length (a .relation .sets) ≡ maxPatterns = search needs in
     let p = sym (c .before .before .before .check .ensures) ∙ ap verdictCase (c .before .enum-told .given .1) in
-    (sized (a .relation) l p, subst (PartSets (a .relation .n) (a .relation .m)) (sym (c .clear-past .ensures)) (held (a .relation) l p))
+    (sizes-held (a .relation) l p, subst (PartSets (a .relation .n) (a .relation .m)) (sym (c .clear-past .ensures)) (sets-held (a .relation) l p))
 
 enum-known-checked : tie.Need-enum-known-checked
 enum-known-checked c = search needs
@@ -54,7 +54,8 @@ returns-2 : tie.Need-returns-2
 unfolding refusedWith tabulate
 returns-2 c =
     let a = c .before .before .before .before .before .args in
-    sym (turned-away (a .relation) (a .budget) (c .before .checked .given .0 .0) (sym (c .before .before .before .check .ensures) ∙ ap verdictCase (c .before .checked .given .1)))
+    let f = c .before .checked .given in
+    sym (turned-away (a .relation) (a .budget) (f .0 .0) (sym (c .before .before .before .check .ensures) ∙ ap verdictCase (f .1)))
 
 pub search-spec : {M : Type 1} → statement M
 search-spec =

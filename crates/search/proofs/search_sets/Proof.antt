@@ -5,8 +5,8 @@ use Rattle.relation.specs.Tests.{ofSets}
 use Rattle.branch_bound.specs.Search.{run}
 use Rattle.branch_bound.specs.TreeBoard.{tree}
 use Rattle.search.specs.Inner.Tally.{stateOf}
-use Rattle.search.proofs.Carrying.{floor-is}
-use Rattle.parts.proofs.Between.{rank-first}
+use Rattle.search.proofs.Carrying.{carried-floor}
+use Rattle.parts.proofs.Keeping.{rank-first}
 use Rattle.search.proofs.Entry.{ran, stopped-answer, best-answer}
 use borrow.Author.Needs.{needs}
 use Rattle.search.proofs.search_sets.Statement.{statement}
@@ -33,8 +33,9 @@ floor-of-requires c κs = search needs
 
 visit-requires : tie.Need-visit-requires
 visit-requires c κs =
-    let w = c .before .before .before .before .before .before .before .before .before .before .whole-part in
-    (c .before .before .before .before .before .before .before .before .before .before .before .before .blocks2 .ensures, w .ensures, c .before .before .before .before .before .floor-of .ensures, omega arith, λ q l. absurd (omega arith), refl)
+    let e = c .before .before .before .before .before .before .before .before .before .before .before .before .blocks2 .ensures in
+    let h = c .before .before .before .before .before .before .before .before .before .before .whole-part .ensures in
+    (e, h, c .before .before .before .before .before .floor-of .ensures, omega arith, λ q l. absurd (omega arith), refl)
 
 array-read-cells : tie.Need-array-read-cells
 array-read-cells c = search needs
@@ -47,29 +48,24 @@ array-read-if1 c = search needs
 
 -- the state that the cycle leaves is the run's
 at-end : (c : tie.After-visit)
-    → stateOf (c .visit .last .1 .1 .0) (c .visit .last .1 .1 .1 .0) ≡ run (tree (c .before .before .before .before .before .before .before .before .before .before .before .before .before .before .args .n) (c .before .before .before .before .before .before .before .before .before .before .before .before .before .before .args .m)) (c .before .before .before .before .before .before .before .before .before .before .before .before .before .before .args .budget) (ofSets (c .before .before .before .before .before .before .before .before .before .before .before .before .before .before .args .sets))
+    → let a = c .before .before .before .before .before .before .before .before .before .before .before .before .before .before .args in
+    stateOf (c .visit .last .1 .1 .0) (c .visit .last .1 .1 .1 .0) ≡ run (tree (a .n) (a .m)) (a .budget) (ofSets (a .sets))
 at-end c =
     let a = c .before .before .before .before .before .before .before .before .before .before .before .before .before .before .args in
     let st = c .before .before .before .before .before .before .before .before .quick in
-    let v = c .visit in
-    ran (a .n) (a .m) (a .budget) (ofSets (a .sets)) (st .result) (stateOf (v .last .1 .1 .0) (v .last .1 .1 .1 .0)) (st .ensures) (v .ensures .1)
+    ran (a .n) (a .m) (a .budget) (ofSets (a .sets)) (st .result) _ (st .ensures) (c .visit .ensures .1)
 
 returns : tie.Need-returns
 returns c =
     let a = c .before .before .before .before .before .before .before .before .before .before .before .before .before .before .before .args in
-    let w = c .before .before .before .before .before .before .before .before .before .before .before .before .whole-part in
-    let v = c .before .visit in
-    let R = ofSets (a .sets) in
+    let h = c .before .before .before .before .before .before .before .before .before .before .before .before .whole-part .ensures in
     let f = c .before .before .before .before .before .before .before .floor-of in
-    stopped-answer (a .n) (a .m) R (stateOf (v .last .1 .1 .0) (v .last .1 .1 .1 .0)) (run (tree (a .n) (a .m)) (a .budget) R) (f .result) (at-end (c .before)) (eq-eqb _ _ (c .if1 .taken))
-    (floor-is (w .ensures) (f .ensures))
+    stopped-answer (a .n) (a .m) (ofSets (a .sets)) _ _ (f .result) (at-end (c .before)) (eq-eqb _ _ (c .if1 .taken)) (carried-floor h (f .ensures))
 
 returns-2 : tie.Need-returns-2
 returns-2 c =
     let a = c .before .before .before .before .before .before .before .before .before .before .before .before .before .before .before .args in
-    let v = c .before .visit in
-    let R = ofSets (a .sets) in
-    best-answer (a .n) (a .m) R (stateOf (v .last .1 .1 .0) (v .last .1 .1 .1 .0)) (run (tree (a .n) (a .m)) (a .budget) R) (at-end (c .before)) (ne-eqb _ _ (c .if1 .left))
+    best-answer (a .n) (a .m) (ofSets (a .sets)) _ _ (at-end (c .before)) (ne-eqb _ _ (c .if1 .left))
 
 pub search-sets-spec : {M : Type 1} → statement M
 search-sets-spec =

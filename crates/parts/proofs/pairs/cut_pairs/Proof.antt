@@ -33,7 +33,8 @@ returns : tie.Need-returns
 unfolding cutPairs
 returns c =
     let a = c .before .before .before .before .args in
-    tabulate-four (λ j. cutPair (getD (a .t1) j 0) (a .p) (a .set) j) (c .before .before .before .cut-pair .ensures) (c .before .before .cut-pair2 .ensures) (c .before .cut-pair3 .ensures) (c .cut-pair4 .ensures)
+    tabulate-four (λ j. cutPair (getD (a .t1) j 0) (a .p) (a .set) j)
+    (c .before .before .before .cut-pair .ensures) (c .before .before .cut-pair2 .ensures) (c .before .cut-pair3 .ensures) (c .cut-pair4 .ensures)
 
 pub cut-pairs-spec : {M : Type 1} → statement M
 cut-pairs-spec =

@@ -1,7 +1,7 @@
 use Prim.Native.Nat.{_+_, _*_, _^_}
 use mathlib.Core.Path.{ap, ap₂, _∙_}
 use native.Mathlib.Omega.{arith}
-use Rattle.parts.proofs.PairCuts.{shifted, put-fits}
+use Rattle.parts.proofs.PairCuts.{seat-shifted, put-fits}
 use borrow.Author.Needs.{needs}
 use Rattle.parts.proofs.pairs.put_pair.Statement.{statement}
 use Rattle.parts.proofs.pairs.put_pair.Tie as tie
@@ -29,7 +29,7 @@ returns c =
     let x = c .before .before .args .x in
     let k = c .before .sides in
     let s = c .seat-of in
-    ap (λ y. x + y) (shifted (k .result) (s .result) (k .ensures .1) (s .ensures .1) ∙ ap₂ (λ y i. y * 2 ^ i) (k .ensures .0) (s .ensures .0))
+    ap (λ y. x + y) (seat-shifted (k .result) (s .result) (k .ensures .1) (s .ensures .1) ∙ ap₂ (λ y i. y * 2 ^ i) (k .ensures .0) (s .ensures .0))
 
 pub put-pair-spec : {M : Type 1} → statement M
 put-pair-spec = tie.close (tie.spec sides-requires seat-of-requires cast-result shl-result add-result returns)

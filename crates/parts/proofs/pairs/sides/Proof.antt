@@ -27,7 +27,8 @@ mul-result c = omega (arith, c .one2 .ensures, isOne-lt-two (c .before .has2 .re
 
 add-result : tie.Need-add-result
 add-result c =
-    omega (arith, c .one2 .ensures, c .before .before .one .ensures, isOne-lt-two (c .before .has2 .result), isOne-lt-two (c .before .before .before .has .result))
+    let l = isOne-lt-two (c .before .has2 .result) in
+    omega (arith, c .one2 .ensures, c .before .before .one .ensures, l, isOne-lt-two (c .before .before .before .has .result))
 
 returns : tie.Need-returns
 unfolding sidesOf

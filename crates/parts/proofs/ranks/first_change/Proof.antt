@@ -32,10 +32,22 @@ cast-result : tie.Need-cast-result
 cast-result c = search needs
 
 returns : tie.Need-returns
-returns c = let a = c .before .args in (change-found (a .t1) (a .t2) (a .p) (c .before .pre) (c .if1 .taken), omega (arith, c .if1 .taken), alike-below (a .t1) (a .t2) _ (omega arith) (omega (arith, c .if1 .taken, c .before .pre)))
+returns c =
+    let a = c .before .args in
+    let l = c .before .pre in (
+      change-found (a .t1) (a .t2) (a .p) l (c .if1 .taken),
+      omega (arith, c .if1 .taken),
+      alike-below (a .t1) (a .t2) _ (omega arith) (omega (arith, c .if1 .taken, l)),
+    )
 
 returns-2 : tie.Need-returns-2
-returns-2 c = let a = c .before .args in (change-none (a .t1) (a .t2) (a .p) (c .before .pre) (c .if1 .left), omega arith, alike-below (a .t1) (a .t2) (a .p) (omega (arith, c .if1 .left)) (omega (arith, c .before .pre)))
+returns-2 c =
+    let a = c .before .args in
+    let l = c .before .pre in (
+      change-none (a .t1) (a .t2) (a .p) l (c .if1 .left),
+      omega arith,
+      alike-below (a .t1) (a .t2) (a .p) (omega (arith, c .if1 .left)) (omega (arith, l)),
+    )
 
 pub first-change-spec : {M : Type 1} → statement M
 first-change-spec =

@@ -49,7 +49,8 @@ add-result-3 c = omega arith
 returns : tie.Need-returns
 unfolding floorIn sum
 returns c =
-    added (c .before .before .before .cells-of .ensures .0) (c .before .before .cells-of2 .ensures .0) (c .before .cells-of3 .ensures .0) (c .cells-of4 .ensures .0)
+    added (c .before .before .before .cells-of .ensures .0) (c .before .before .cells-of2 .ensures .0)
+    (c .before .cells-of3 .ensures .0) (c .cells-of4 .ensures .0)
 
 pub floor-of-spec : {M : Type 1} → statement M
 floor-of-spec =

@@ -34,7 +34,9 @@ table-of-requires-4 c κs = search needs
 
 returns : tie.Need-returns
 unfolding tablesIn
-returns c = tabulate-four (λ j. tableIn (getD (c .before .before .before .before .args .t1) j 0)) (c .before .before .before .table-of .ensures) (c .before .before .table-of2 .ensures) (c .before .table-of3 .ensures) (c .table-of4 .ensures)
+returns c =
+    tabulate-four (λ j. tableIn (getD (c .before .before .before .before .args .t1) j 0))
+    (c .before .before .before .table-of .ensures) (c .before .before .table-of2 .ensures) (c .before .table-of3 .ensures) (c .table-of4 .ensures)
 
 pub tables-of-spec : {M : Type 1} → statement M
 tables-of-spec =

@@ -6,11 +6,12 @@ use borrow.Author.Needs.{needs}
 use lib.Dec.{le→leb}
 use lib.ListN.{getD, set, length-set}
 use lib.Seq.{set-getD}
+use Rattle.sheet.specs.Limits.{maxPatterns}
 use Rattle.relation.specs.Tests.{ofSets, openPairs}
 use Rattle.relation.specs.Inner.Masks.{withBit}
 use Rattle.search.specs.Inner.Conflicts.{Settled}
 use Rattle.search.specs.Inner.Tally.{stateOf}
-use Rattle.search.proofs.Carrying.{tables-are, pattern-lt}
+use Rattle.search.proofs.Carrying.{carried-tables, pattern-lt}
 use Rattle.search.proofs.Opening.{found-open, found-below}
 use Rattle.search.proofs.Steps.{lt→nleb, discards, halts, improves, splits}
 use Rattle.search.proofs.Halves.{Half, half-cover, Reached, none-reached, both-reached, Made, made-fewer, ready, visited, passed-over}
@@ -70,20 +71,25 @@ split-claims t = (
 abbrev visit-claims : ℕ → visit-lts.Claims
 visit-claims t = (tables-of-reads.Asked, tables-of-reads.Learnt, first-open-reads.Asked, first-open-reads.Learnt, split-below t, split.Post)
 
+-- the pattern of the split is one that there may be
+split-pattern : {t : ℕ} (c : split-lts.Start (split-claims t) (split-at t) split.Post) → c .args .p < maxPatterns
+split-pattern c = pattern-lt (c .pre .1 .1 .sized) (c .pre .1 .2)
+
 split-mul-set : (t : ℕ) → split-lts.Need-mul-set (split-claims t) (split-at t) split.Post
 split-mul-set t c = omega arith
 
 split-element-copy-out-set : (t : ℕ) → split-lts.Need-element-copy-out-set (split-claims t) (split-at t) split.Post
-split-element-copy-out-set t c = let q = c .pre .1 in pattern-lt (q .1 .sized) (q .2)
+split-element-copy-out-set t c = split-pattern c
 
 split-with-bit-requires : (t : ℕ) → split-lts.Need-with-bit-requires (split-claims t) (split-at t) split.Post
-split-with-bit-requires t c κs = let q = c .before .pre .1 in (omega (arith, q .3, q .1 .sized .wires), omega arith)
+split-with-bit-requires t c κs = let q = c .before .pre .1 in (omega (arith, q .3, q .1 .sized .m-most), omega arith)
 
 split-with-bit-requires-2 : (t : ℕ) → split-lts.Need-with-bit-requires-2 (split-claims t) (split-at t) split.Post
-split-with-bit-requires-2 t c κs = let q = c .before .before .pre .1 in (omega (arith, q .3, q .1 .sized .wires), omega arith)
+split-with-bit-requires-2 t c κs = let q = c .before .before .pre .1 in (omega (arith, q .3, q .1 .sized .m-most), omega arith)
 
 -- the two parts
-split-half : {t : ℕ} (c : split-lts.Start (split-claims t) (split-at t) split.Post) (b : ℕ) → b < 2 → {w : ℕ} → w ≡ withBit (getD (c .args .sets .now) (c .args .p) 0) (c .args .j) b
+split-half : {t : ℕ} (c : split-lts.Start (split-claims t) (split-at t) split.Post) (b : ℕ) → b < 2 → {w : ℕ}
+    → w ≡ withBit (getD (c .args .sets .now) (c .args .p) 0) (c .args .j) b
     → Half (c .args .n) (c .args .m) (c .args .sets .now) (c .args .pairs) (c .args .ranks) (c .args .p) (c .args .j) b w
 split-half c b lb e =
     let q = c .pre .1 in
@@ -95,7 +101,8 @@ split-zero : {t : ℕ} (c : split-lts.After-floor-of2 (split-claims t) (split-at
     (c .before .before .before .before .before .cut-pairs .result) (c .before .before .before .ranks-again .result) (c .before .floor-of .result)
 split-zero c =
     record {
-      half = split-half (c .before .before .before .before .before .before .before .before .before) 0 (omega arith) (c .before .before .before .before .before .before .before .with-bit .ensures);
+      half = split-half (c .before .before .before .before .before .before .before .before .before) 0 (omega arith)
+          (c .before .before .before .before .before .before .before .with-bit .ensures);
       pairs = c .before .before .before .before .before .cut-pairs .ensures;
       ranks = c .before .before .before .ranks-again .ensures;
       floor = c .before .floor-of .ensures;
@@ -107,29 +114,32 @@ split-one : {t : ℕ} (c : split-lts.After-floor-of2 (split-claims t) (split-at 
     (c .before .before .before .before .cut-pairs2 .result) (c .before .before .ranks-again2 .result) (c .floor-of2 .result)
 split-one c =
     record {
-      half = split-half (c .before .before .before .before .before .before .before .before .before) 1 (omega arith) (c .before .before .before .before .before .before .with-bit2 .ensures);
+      half = split-half (c .before .before .before .before .before .before .before .before .before) 1 (omega arith)
+          (c .before .before .before .before .before .before .with-bit2 .ensures);
       pairs = c .before .before .before .before .cut-pairs2 .ensures;
       ranks = c .before .before .ranks-again2 .ensures;
       floor = c .floor-of2 .ensures;
     }
 
 split-cut-pairs-requires : (t : ℕ) → split-lts.Need-cut-pairs-requires (split-claims t) (split-at t) split.Post
-split-cut-pairs-requires t c κs = let q = c .before .before .before .pre .1 in pattern-lt (q .1 .sized) (q .2)
+split-cut-pairs-requires t c κs = split-pattern (c .before .before .before)
 
 split-cut-pairs-requires-2 : (t : ℕ) → split-lts.Need-cut-pairs-requires-2 (split-claims t) (split-at t) split.Post
-split-cut-pairs-requires-2 t c κs = let q = c .before .before .before .before .pre .1 in pattern-lt (q .1 .sized) (q .2)
+split-cut-pairs-requires-2 t c κs = split-pattern (c .before .before .before .before)
 
 split-ranks-again-requires : (t : ℕ) → split-lts.Need-ranks-again-requires (split-claims t) (split-at t) split.Post
 split-ranks-again-requires t c κs =
     let i = c .before .before .before .before .before in
     let q = i .pre .1 in
-    (q .0, q .1 .sized .one, q .1 .sized .inputs, pattern-lt (q .1 .sized) (q .2), half-cover (split-half i 0 (omega arith) (c .before .before .before .with-bit .ensures)) refl (c .before .cut-pairs .ensures))
+    let cover = half-cover (split-half i 0 (omega arith) (c .before .before .before .with-bit .ensures)) refl (c .before .cut-pairs .ensures) in
+    (q .0, q .1 .sized .n-least, q .1 .sized .n-most, split-pattern i, cover)
 
 split-ranks-again-requires-2 : (t : ℕ) → split-lts.Need-ranks-again-requires-2 (split-claims t) (split-at t) split.Post
 split-ranks-again-requires-2 t c κs =
     let i = c .before .before .before .before .before .before in
     let q = i .pre .1 in
-    (q .0, q .1 .sized .one, q .1 .sized .inputs, pattern-lt (q .1 .sized) (q .2), half-cover (split-half i 1 (omega arith) (c .before .before .before .with-bit2 .ensures)) refl (c .before .cut-pairs2 .ensures))
+    let cover = half-cover (split-half i 1 (omega arith) (c .before .before .before .with-bit2 .ensures)) refl (c .before .cut-pairs2 .ensures) in
+    (q .0, q .1 .sized .n-least, q .1 .sized .n-most, split-pattern i, cover)
 
 split-floor-of-requires : (t : ℕ) → split-lts.Need-floor-of-requires (split-claims t) (split-at t) split.Post
 split-floor-of-requires t c κs = search needs
@@ -144,10 +154,10 @@ split-mul-sets : (t : ℕ) → split-lts.Need-mul-sets (split-claims t) (split-a
 split-mul-sets t c = omega arith
 
 split-element-write-sets : (t : ℕ) → split-lts.Need-element-write-sets (split-claims t) (split-at t) split.Post
-split-element-write-sets t c = let q = c .before .before .before .before .before .before .before .before .before .before .before .pre .1 in pattern-lt (q .1 .sized) (q .2)
+split-element-write-sets t c = split-pattern (c .before .before .before .before .before .before .before .before .before .before .before)
 
 split-first-change-requires : (t : ℕ) → split-lts.Need-first-change-requires (split-claims t) (split-at t) split.Post
-split-first-change-requires t c κs = let q = c .before .before .before .before .before .before .before .before .before .before .before .pre .1 in pattern-lt (q .1 .sized) (q .2)
+split-first-change-requires t c κs = split-pattern (c .before .before .before .before .before .before .before .before .before .before .before)
 
 -- no part is treated yet
 split-none : {t : ℕ} (c : split-lts.Start (split-claims t) (split-at t) split.Post)
@@ -180,10 +190,10 @@ split-mul-sets-2 : (t : ℕ) → split-lts.Need-mul-sets-2 (split-claims t) (spl
 split-mul-sets-2 t c = omega arith
 
 split-element-write-sets-2 : (t : ℕ) → split-lts.Need-element-write-sets-2 (split-claims t) (split-at t) split.Post
-split-element-write-sets-2 t c = let q = c .before .before .before .before .before .before .before .before .before .before .before .before .before .pre .1 in pattern-lt (q .1 .sized) (q .2)
+split-element-write-sets-2 t c = split-pattern (c .before .before .before .before .before .before .before .before .before .before .before .before .before)
 
 split-first-change-requires-2 : (t : ℕ) → split-lts.Need-first-change-requires-2 (split-claims t) (split-at t) split.Post
-split-first-change-requires-2 t c κs = let q = c .before .before .before .before .before .before .before .before .before .before .before .before .before .pre .1 in pattern-lt (q .1 .sized) (q .2)
+split-first-change-requires-2 t c κs = split-pattern (c .before .before .before .before .before .before .before .before .before .before .before .before .before)
 
 split-visit-requires-2 : (t : ℕ) → split-lts.Need-visit-requires-2 (split-claims t) (split-at t) split.Post
 split-visit-requires-2 t c κs =
@@ -207,7 +217,7 @@ split-mul-sets-3 : (t : ℕ) → split-lts.Need-mul-sets-3 (split-claims t) (spl
 split-mul-sets-3 t c = omega arith
 
 split-element-write-sets-3 : (t : ℕ) → split-lts.Need-element-write-sets-3 (split-claims t) (split-at t) split.Post
-split-element-write-sets-3 t c = let q = c .before .before .before .before .before .before .before .before .before .before .before .before .before .pre .1 in pattern-lt (q .1 .sized) (q .2)
+split-element-write-sets-3 t c = split-pattern (c .before .before .before .before .before .before .before .before .before .before .before .before .before)
 
 split-returns : (t : ℕ) → split-lts.Need-returns (split-claims t) (split-at t) split.Post
 split-returns t c =
@@ -238,7 +248,8 @@ visit-returns-2 t c =
     let q = i .pre .1 in
     let s = stateOf (a .best .now) (a .tally .now) in (
       refl,
-      halts (q .1) (a .budget) s (q .2) (lt→nleb _ _ (c .before .before .if1 .left)) (le→leb _ _ (c .if2 .taken)) (halted-tally (a .best .now) (a .tally .now) (q .5)),
+      halts (q .1) (a .budget) s (q .2) (lt→nleb _ _ (c .before .before .if1 .left)) (le→leb _ _ (c .if2 .taken))
+          (halted-tally (a .best .now) (a .tally .now) (q .5)),
       length-set (a .tally .now) 2 1 ∙ q .5,
     )
 
@@ -259,7 +270,7 @@ visit-first-open-requires t c κs =
     let q = c .before .before .before .before .before .before .before .pre .1 in
     let h = q .1 in
     let et = c .before .tables-of .ensures in
-    (h .sized, h .sets, tables-are h et, q .3, rw et (q .4))
+    (h .sized, h .sets, carried-tables h et, q .3, rw et (q .4))
 
 visit-enum-told : (t : ℕ) → visit-lts.Need-enum-told (visit-claims t) (visit-at t) visit.Post
 visit-enum-told t c = c .match .keys1
@@ -277,7 +288,7 @@ visit-split-requires t c κs =
     let q = i .pre .1 in
     let h = q .1 in
     let et = c .before .before .before .before .before .before .before .before .tables-of .ensures in
-    let are = tables-are h et in
+    let are = carried-tables h et in
     let found = c .before .before .before .before .found .given in
     let ef = c .before .before .before .before .before .before .first-open .ensures in
     let o = found-open (h .sized) (h .sets) are ef (found .1) in
@@ -294,7 +305,8 @@ visit-returns-3 t c =
     let left = lt→nleb _ _ (c .before .before .before .before .before .before .if2 .left) in
     let tally = improved-tally (a .best .now) _ (a .floor) (a .tally .now) (q .5) in (
       refl,
-      improves (q .1) (a .budget) s (q .2) more left (c .before .before .before .before .tables-of .ensures) (c .before .before .first-open .ensures) (c .enum-told .given .1) tally,
+      improves (q .1) (a .budget) s (q .2) more left (c .before .before .before .before .tables-of .ensures) (c .before .before .first-open .ensures)
+          (c .enum-told .given .1) tally,
       length-set (set (a .tally .now) 1 _) 0 _ ∙ length-set (a .tally .now) 1 _ ∙ q .5,
     )
 
@@ -306,10 +318,11 @@ visit-returns-4 t c =
     let s = stateOf (a .best .now) (a .tally .now) in
     let more = lt→nleb _ _ (c .before .before .before .before .before .before .before .before .before .before .before .before .before .if1 .left) in
     let left = lt→nleb _ _ (c .before .before .before .before .before .before .before .before .before .before .before .if2 .left) in
+    let et = c .before .before .before .before .before .before .before .before .before .tables-of .ensures in
     let ef = c .before .before .before .before .before .before .before .first-open .ensures in
     let tally = charged-tally (a .best .now) (a .tally .now) (q .5) in (
       c .split .ensures .0,
-      splits (q .1) (a .budget) s (q .2) more left (c .before .before .before .before .before .before .before .before .before .tables-of .ensures) ef (c .before .before .before .before .before .found .given .1) tally (c .split .ensures .1),
+      splits (q .1) (a .budget) s (q .2) more left et ef (c .before .before .before .before .before .found .given .1) tally (c .split .ensures .1),
       c .split .ensures .2,
     )
 

@@ -17,7 +17,7 @@ use lib.ListN.{getD}
 use Rattle.sheet.specs.Limits.{maxPatterns}
 use Rattle.relation.specs.Tests.{ofSets, free}
 use Rattle.table.specs.Cells.{wires}
-use Rattle.search.proofs.Opening.{allowed-test, open-test, some-open, none-open, pair-open}
+use Rattle.search.proofs.Opening.{allowed-test, free-test, some-open, none-open, pair-open}
 use Rattle.search.proofs.conflicts.first_open.Statement.{statement}
 use Rattle.search.proofs.conflicts.first_open.Tie as tie
 
@@ -44,7 +44,7 @@ patterns-holds : tie.Need-patterns-holds Inv-loop μ-loop Inv-patterns μ-patter
 patterns-holds c =
     let a = c .before .before .args in
     let q = c .before .before .pre in
-    (omega (arith, q .3, c .before .patterns-of .ensures .2 (q .0 .inputs)), subst (λ ts. Settled (a .m) (a .sets .now) ts (a .from)) (q .2) (q .4))
+    (omega (arith, q .3, c .before .patterns-of .ensures .2 (q .0 .n-most)), subst (λ ts. Settled (a .m) (a .sets .now) ts (a .from)) (q .2) (q .4))
 
 cast-set : tie.Need-cast-set Inv-loop μ-loop Inv-patterns μ-patterns
 cast-set c = omega arith
@@ -65,7 +65,7 @@ loop-holds : tie.Need-loop-holds Inv-loop μ-loop Inv-patterns μ-patterns
 loop-holds c = (omega arith, λ q l. absurd (omega arith))
 
 is-open-requires : tie.Need-is-open-requires Inv-loop μ-loop Inv-patterns μ-patterns
-is-open-requires c κs = omega (arith, c .before .before .before .before .before .before .before .before .before .before .pre .0 .wires)
+is-open-requires c κs = omega (arith, c .before .before .before .before .before .before .before .before .before .before .pre .0 .m-most)
 
 add-j : tie.Need-add-j Inv-loop μ-loop Inv-patterns μ-patterns
 add-j c = omega arith
@@ -80,7 +80,7 @@ loop-again c =
     let p = c .before .before .before .before .before .before .before .before .before .patterns .p in
     let j = c .before .before .before .loop .j in (
       omega arith,
-      below-more _ _ (c .before .before .before .loop .inv .1) (told-no (c .before .is-open .ensures ∙ open-test (q .0) (q .1) (q .2) p j) (c .if2 .left)),
+      below-more _ _ (c .before .before .before .loop .inv .1) (told-no (c .before .is-open .ensures ∙ free-test (q .0) (q .1) (q .2) p j) (c .if2 .left)),
     )
 
 add-p : tie.Need-add-p Inv-loop μ-loop Inv-patterns μ-patterns
@@ -95,7 +95,7 @@ patterns-again c =
     let q = c .before .before .before .before .before .before .before .before .pre in
     let p = c .before .before .before .before .before .patterns .p in
     let small : (j : ℕ) → Fits w16 (getD (a .tables) j 0) = λ j. search needs in
-    let lp : p < 2 ^ a .n = omega (arith, c .before .before .before .before .before .before .before .patterns-of .ensures .2 (q .0 .inputs)) in
+    let lp : p < 2 ^ a .n = omega (arith, c .before .before .before .before .before .before .before .patterns-of .ensures .2 (q .0 .n-most)) in
     let v = c .before .before .value-in in
     let side = c .before .before .before .before .before .before .side-by-side .ensures in
     let here = allowed-test (q .0) (q .1) (q .2) (λ j. small j .fits) p (omega arith) side (v .ensures .0) (c .before .contains .ensures) in (
@@ -114,17 +114,18 @@ returns c =
     let p = c .before .before .patterns .p in
     let small : (j : ℕ) → Fits w16 (getD (a .tables) j 0) = λ j. search needs in
     let few = c .before .before .before .before .patterns-of .ensures in
-    let lp : p < 2 ^ a .n = omega (arith, c .if3 .taken, few .2 (q .0 .inputs)) in
+    let lp : p < 2 ^ a .n = omega (arith, c .if3 .taken, few .2 (q .0 .n-most)) in
     ⊎-elim
     (λ w. absurd (omega (arith, w .0 .left, c .if3 .taken)))
     (λ w.
     let lt : p < maxPatterns = omega (arith, few .1, c .if3 .taken) in
-    let here = allowed-test (q .0) (q .1) (q .2) (λ j. small j .fits) p lt (c .before .before .before .side-by-side .ensures) (w .2 .ensures .0) (w .3 .ensures) in
+    let side = c .before .before .before .side-by-side .ensures in
+    let here = allowed-test (q .0) (q .1) (q .2) (λ j. small j .fits) p lt side (w .2 .ensures .0) (w .3 .ensures) in
     let j = w .5 .j in
     ap (Pair p) (w .9)
     ∙ sym
     (pair-open (q .0) (q .1) refl p j lp (omega (arith, w .6 .taken)) (c .before .before .patterns .inv .1) (denied here (w .4 .taken)) (w .5 .inv .1)
-    (told-yes (w .7 .ensures ∙ open-test (q .0) (q .1) (q .2) p j) (w .8 .taken)))
+    (told-yes (w .7 .ensures ∙ free-test (q .0) (q .1) (q .2) p j) (w .8 .taken)))
     ∙ ap (λ ts. splitPlace (a .n) (a .m) (ofSets (a .sets .now)) (wires ts)) (sym (q .2)))
     (c .before .patterns-test .came)
 
@@ -134,7 +135,7 @@ returns-2 c =
     let q = c .before .before .before .before .before .pre in
     ⊎-elim
     (λ w. sym (none-open (q .0) (q .1) refl
-    (λ p l. c .before .before .patterns .inv .1 p (omega (arith, w .0 .left, c .before .before .before .before .patterns-of .ensures .2 (q .0 .inputs)))))
+    (λ p l. c .before .before .patterns .inv .1 p (omega (arith, w .0 .left, c .before .before .before .before .patterns-of .ensures .2 (q .0 .n-most)))))
     ∙ ap (λ ts. splitPlace (a .n) (a .m) (ofSets (a .sets .now)) (wires ts)) (sym (q .2)))
     (λ w. absurd (omega (arith, w .0 .taken, c .if3 .left)))
     (c .before .patterns-test .came)

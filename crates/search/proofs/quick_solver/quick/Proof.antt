@@ -21,28 +21,30 @@ rank-left-requires c κs =
     let a = c .before .before .args in
     let q = c .before .before .pre in
     let l = c .before .loop in
-    (q .0, q .1, l .inv .0 .kept, omega (arith, q .1 .wires), λ e. q .3 ∙ ap (λ s. rankOf (a .n) s 0) (sym (l .inv .1 e)))
+    (q .0, q .1, l .inv .0 .kept, omega (arith, q .1 .m-most), λ e. q .3 ∙ ap (λ s. rankOf (a .n) s 0) (sym (l .inv .1 e)))
 
 table-of-requires : tie.Need-table-of-requires Inv-loop μ-loop
 table-of-requires c κs = search needs
 
 agreeing-requires : tie.Need-agreeing-requires Inv-loop μ-loop
-agreeing-requires c κs = omega (arith, c .before .before .before .before .pre .1 .wires)
+agreeing-requires c κs = omega (arith, c .before .before .before .before .pre .1 .m-most)
 
 cast-tables : tie.Need-cast-tables Inv-loop μ-loop
 cast-tables c = omega arith
 
 mul-tables : tie.Need-mul-tables Inv-loop μ-loop
-mul-tables c = omega (arith, c .before .before .before .before .before .pre .1 .wires)
+mul-tables c = omega (arith, c .before .before .before .before .before .pre .1 .m-most)
 
 array-write-tables : tie.Need-array-write-tables Inv-loop μ-loop
-array-write-tables c = omega (arith, c .before .before .before .before .before .pre .1 .wires)
+array-write-tables c = omega (arith, c .before .before .before .before .before .pre .1 .m-most)
 
 cells-of-requires : tie.Need-cells-of-requires Inv-loop μ-loop
 cells-of-requires c κs = search needs
 
 add-cells : tie.Need-add-cells Inv-loop μ-loop
-add-cells c = omega (arith, c .before .before .before .before .before .before .pre .1 .wires, c .before .before .before .before .before .loop .inv .0 .few, c .before .before .before .before .before .loop .inv .0 .reached)
+add-cells c =
+    let l = c .before .before .before .before .before .loop .inv .0 in
+    omega (arith, c .before .before .before .before .before .before .pre .1 .m-most, l .few, l .reached)
 
 add-j : tie.Need-add-j Inv-loop μ-loop
 add-j c = omega arith
@@ -57,8 +59,8 @@ loop-again c =
     let l = c .before .before .before .before .before .loop in
     let r = c .before .before .before .rank-left in (
       rw (c .before .agreeing .ensures)
-          (next-taken (a .n) (a .m) (q .1) (a .sets) (l .j) (l .left) (l .tables) (l .cells) (l .inv .0) (c .before .before .before .before .loop-test .taken) (r .result) (r .ensures)
-          (c .before .before .table-of .result) (c .cells-of .result) (c .before .before .table-of .ensures) (c .cells-of .ensures .0) (c .cells-of .ensures .1)),
+          (next-taken (q .1) (l .inv .0) (c .before .before .before .before .loop-test .taken) (r .ensures) (c .before .before .table-of .ensures)
+          (c .cells-of .ensures .0) (c .cells-of .ensures .1)),
       λ e. absurd (omega arith),
     )
 
@@ -66,7 +68,7 @@ returns : tie.Need-returns Inv-loop μ-loop
 returns c =
     let a = c .before .before .args in
     let l = c .before .loop in
-    all-taken (a .n) (a .m) (c .before .before .pre .1) (a .sets) (l .left) (l .tables) (l .cells) (l .j) (omega (arith, l .inv .0 .reached, c .loop-test .left)) (l .inv .0)
+    all-taken (c .before .before .pre .1) (omega (arith, l .inv .0 .reached, c .loop-test .left)) (l .inv .0)
 
 pub quick-spec : {M : Type 1} → statement M
 quick-spec =
