@@ -9,7 +9,7 @@ mod messages; // what is said on standard error
 mod words; // what each word does
 
 // Does what a word says, with so many arguments after it.
-fn run(word: &[u8], count: usize) {
+fn do_word(word: &[u8], count: usize) {
     if same(word, b"audit") {
         words::audit(count);
     } else {
@@ -29,5 +29,5 @@ fn main() {
         return;
     }
     let length = word.length;
-    run(&buffer[..length], count - 2);
+    do_word(&buffer[..length], count - 2);
 }

@@ -21,7 +21,7 @@ fn visible(b: u8) -> u8 {
 
 // Adds a text to a line at a place, and hands back the place after it. What finds no room is dropped.
 // `begin` and `advise` call it with places that it handed back.
-fn add(line: &mut [u8], at: usize, text: &[u8]) -> usize
+fn put_visible(line: &mut [u8], at: usize, text: &[u8]) -> usize
     requires { ⌜ at ≤ length (now line) ⌝ }
     ensures { λ r. ⌜ Counts r (now (line .exit)) ⌝ }
 {
@@ -42,12 +42,12 @@ fn add(line: &mut [u8], at: usize, text: &[u8]) -> usize
 fn begin(line: &mut [u8], what: &[u8], name: &[u8]) -> usize
     ensures { λ r. ⌜ Counts r (now (line .exit)) ⌝ }
 {
-    let start = add(line, 0, b"dagmetzi: ");
-    let middle = add(line, start, what);
+    let start = put_visible(line, 0, b"dagmetzi: ");
+    let middle = put_visible(line, start, what);
     if name.len() == 0 {
-        return add(line, middle, b"(empty)");
+        return put_visible(line, middle, b"(empty)");
     }
-    add(line, middle, name)
+    put_visible(line, middle, name)
 }
 
 // Says what could not be done with a name, and the system's reason: "dagmetzi: cannot open NAME: No such file or directory".
@@ -61,7 +61,7 @@ pub fn fail(what: &[u8], name: &[u8]) {
 pub fn advise(what: &[u8], word: &[u8], advice: &[u8]) {
     let mut line = [0u8; LONGEST_LINE];
     let length = begin(&mut line, what, word);
-    let end = add(&mut line, length, advice);
+    let end = put_visible(&mut line, length, advice);
     io::write_all(STDERR_FILENO, &line[..end]);
     io::write_all(STDERR_FILENO, b"\n");
 }

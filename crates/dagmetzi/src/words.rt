@@ -40,7 +40,7 @@ pub fn quote() {
 }
 
 // Reads the stage that the third argument names, and prints how it fares against a sheet that is read already.
-fn judge(sheet: &[u8]) {
+fn print_audit(sheet: &[u8]) {
     let mut stage = [0u8; STAGE_ROOM];
     let input = read_named(3, &mut stage);
     if !input.is_read {
@@ -66,6 +66,6 @@ pub fn audit(count: usize) {
     let input = read_named(2, &mut sheet);
     if input.is_read {
         let length = input.length;
-        judge(&sheet[..length]);
+        print_audit(&sheet[..length]);
     }
 }

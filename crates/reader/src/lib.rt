@@ -69,7 +69,7 @@ fn done(reply: Reply) -> Turn
 }
 
 // A command was judged: on with the next one, unless it was refused or was the end.
-fn follow(reply: Reply, c: Command, next: Reader, len: usize) -> Turn
+fn lead_on(reply: Reply, c: Command, next: Reader, len: usize) -> Turn
     ensures { λ r. ⌜ Follows reply c next len r ⌝ }
 {
     let sheet = reply.sheet;
@@ -100,7 +100,7 @@ fn take_turn(sheet: Sheet, reader: Reader, s: &[u8]) -> Turn
     let at = reader.at;
     let step = reader.next(s);
     match step {
-        Step::Read(c, next) => follow(sheet.add(c, at), c, next, s.len()),
+        Step::Read(c, next) => lead_on(sheet.add(c, at), c, next, s.len()),
         Step::Refused(f) => done(Reply::refusal(f)),
     }
 }

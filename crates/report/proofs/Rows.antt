@@ -7,7 +7,8 @@ use Rattle.base.specs.Refusals.{refusalAt, empty, sizesDiffer, tooLong}
 use Rattle.branch_bound.specs.Reply.{stoppedOutcome}
 use Rattle.quote.specs.Cases.{fitsOutcome, differsOutcome}
 use Rattle.text.specs.Text.{digits, decimal, hexDigit, hexPair, furtherPairs, hexPairs, named}
-use Rattle.report.specs.Lines.{newline, cellsText, fitsText, differsText, sheetText, stageText, refusedText, atText, countsOf, stagePairs, resultLines, refusalText, refusalLine, linesOf, judgedLine, auditLine}
+use Rattle.report.specs.Lines.{newline, cellsText, fitsText, differsText, sheetText, stageText, refusedText, atText, countsOf, stagePairs}
+use Rattle.report.specs.Lines.{resultLines, refusalText, refusalLine, linesOf, judgedLine, auditLine}
 
 -- all meanings open: those of text, and with them those of the lines
 unfoldable pub texts : ℕ

@@ -14,7 +14,8 @@ use Rattle.sheet.specs.Limits.{maxInputs, maxPatterns, countOut, sizesOut}
 use Rattle.base.proofs.Tests.{decide, cond-has₂, test-no}
 use Rattle.table.specs.Tree.{Tree, Ordered}
 use Rattle.stage.specs.Bytes.{treeBytes, wiresBytes, stageBytes, longestStage}
-use Rattle.stage.specs.Read.{Read, taken, fault, andThen, dueNumber, due, operand, branchesAt, selectorAt, treeFrom, treeAt, wireAt, wiresAt, nothingAfter, endAt, closed, readStage}
+use Rattle.stage.specs.Read.{Read, taken, fault, andThen, dueNumber, due, operand, branchesAt, selectorAt, treeFrom, treeAt, wireAt, wiresAt}
+use Rattle.stage.specs.Read.{nothingAfter, endAt, closed, readStage}
 use Rattle.table.specs.Drawing.{StageSheet, got, noStage}
 use Rattle.stage.proofs.Lengths.{tree-length}
 use Rattle.sheet.proofs.Sizes.{count-in, sizes-in}

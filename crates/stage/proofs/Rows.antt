@@ -12,7 +12,8 @@ use Rattle.table.specs.Tree.{con, sel, follow, selectors, reduced}
 use Rattle.stage.specs.Bytes.{treeBytes, wiresBytes, stageBytes}
 use Rattle.stage.specs.Trees.{size}
 use Rattle.stage.specs.Written.{stageTrees, stageOf, firstOut, writtenOf}
-use Rattle.stage.specs.Read.{andThen, misplaced, dueNumber, due, operand, branchesAt, selectorAt, treeFrom, treeWithin, treeAt, wireAt, wiresAt, nothingAfter, endAt, closed, readStage}
+use Rattle.stage.specs.Read.{andThen, misplaced, dueNumber, due, operand, branchesAt, selectorAt, treeFrom, treeWithin, treeAt, wireAt, wiresAt}
+use Rattle.stage.specs.Read.{nothingAfter, endAt, closed, readStage}
 use Rattle.stage.specs.Reply.{tableOf, stageTables}
 
 -- all meanings of reading, and of writing, open

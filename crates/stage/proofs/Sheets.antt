@@ -18,7 +18,8 @@ use Rattle.table.specs.Tree.{Tree, Ordered, reduced}
 use Rattle.table.proofs.Trees.{reduced-ordered}
 use Rattle.stage.specs.Bytes.{treeBytes, wiresBytes, stageBytes}
 use Rattle.stage.specs.Written.{stageTrees, stageOf}
-use Rattle.stage.specs.Read.{Read, taken, fault, andThen, known, misplaced, dueNumber, due, operand, treeAt, wireAt, wiresAt, nothingAfter, endAt, closed, readStage}
+use Rattle.stage.specs.Read.{Read, taken, fault, andThen, known, misplaced, dueNumber, due, operand, treeAt, wireAt, wiresAt, nothingAfter, endAt}
+use Rattle.stage.specs.Read.{closed, readStage}
 use Rattle.table.specs.Drawing.{StageSheet, got, noStage}
 use Rattle.stage.proofs.Lengths.{trees-length}
 use Rattle.sheet.specs.Inner.Sized.{Sized}

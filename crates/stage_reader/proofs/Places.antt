@@ -15,7 +15,8 @@ use Rattle.base.specs.Refusals.{refusalAt, cutShort, outOfRange, outOfTurn, not
 use Rattle.base.proofs.Tests.{decide}
 use Rattle.sheet.specs.Limits.{countOut, sizesOut}
 use Rattle.table.specs.Tree.{con}
-use Rattle.stage.specs.Read.{taken, fault, misplaced, dueNumber, due, operand, branchesAt, selectorAt, treeFrom, treeAt, wireAt, wiresAt, closed, readStage}
+use Rattle.stage.specs.Read.{taken, fault, misplaced, dueNumber, due, operand, branchesAt, selectorAt, treeFrom, treeAt, wireAt, wiresAt, closed}
+use Rattle.stage.specs.Read.{readStage}
 use Rattle.table.specs.Drawing.{noStage}
 use Rattle.stage.proofs.Reading.{tree-is}
 

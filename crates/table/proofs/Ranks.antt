@@ -11,7 +11,8 @@ use Rattle.table.specs.Cells.{cells}
 use Rattle.table.specs.Pick.{Proj, leastOf}
 use Rattle.table.specs.Inner.Blocks.{noTable, Shown}
 use Rattle.table.proofs.Cells.{cells-lt, cells-same, cells-differ}
-use Rattle.table.proofs.Halving.{upper, common, join, joins, closer, closest, Best, IsBest, least-best, least-halves, join-low, join-high, join-lt, suits-common, common-suits}
+use Rattle.table.proofs.Halving.{upper, common, join, joins, closer, closest, Best, IsBest, least-best, least-halves, join-low, join-high, join-lt}
+use Rattle.table.proofs.Halving.{suits-common, common-suits}
 
 -- of two ranks the lesser is that of the better pick
 pub closer-rank : (key : ℕ → ℕ) (w s t : ℕ) → s < w → t < w → min (key s * w + s) (key t * w + t) ≡ key (closer key s t) * w + closer key s t

@@ -56,7 +56,7 @@ fn put_refused(out: &mut [u8], at: usize, refusal: Refusal, buffer: &[u8]) -> us
 }
 
 // Both lines of a quote with a stage.
-fn put_result(out: &mut [u8], at: usize, q: Quoted, word: &[u8], buffer: &[u8]) -> usize
+fn put_quote_line(out: &mut [u8], at: usize, q: Quoted, word: &[u8], buffer: &[u8]) -> usize
     requires { ⌜ (at + longestReply ≤ lastPlace) × (length (now word) ≤ longestWord) ⌝ }
     ensures { λ r. ⌜ r ≤ at + longestReply ⌝ }
 {
@@ -72,8 +72,8 @@ fn put_quoted(out: &mut [u8], at: usize, q: Quoted, buffer: &[u8]) -> usize
 {
     let mark = q.mark;
     match mark {
-        Mark::Best => put_result(out, at, q, b" best\n", buffer),
-        Mark::Stopped => put_result(out, at, q, b" stopped\n", buffer),
+        Mark::Best => put_quote_line(out, at, q, b" best\n", buffer),
+        Mark::Stopped => put_quote_line(out, at, q, b" stopped\n", buffer),
         Mark::Refused(refusal) => put_refused(out, at, refusal, buffer),
     }
 }
@@ -100,7 +100,7 @@ fn put_quote(out: &mut [u8], at: usize, s: &[u8], from: usize) -> usize
 }
 
 // The line of a stage that was judged: the word of the judgement, and the stage's cells.
-fn put_judged(out: &mut [u8], at: usize, word: &[u8], cells: u32) -> usize
+fn put_audit_line(out: &mut [u8], at: usize, word: &[u8], cells: u32) -> usize
     requires { ⌜ (at + longestNumberLine ≤ lastPlace) × (length (now word) ≤ longestWord) ⌝ }
     ensures { λ r. ⌜ r ≤ at + longestNumberLine ⌝ }
 {
@@ -114,8 +114,8 @@ fn put_audited(out: &mut [u8], at: usize, audited: Audited) -> usize
     ensures { λ r. ⌜ r ≤ at + longestReply ⌝ }
 {
     match audited {
-        Audited::Fits(cells) => put_judged(out, at, b"fits ", cells),
-        Audited::Differs(cells) => put_judged(out, at, b"differs ", cells),
+        Audited::Fits(cells) => put_audit_line(out, at, b"fits ", cells),
+        Audited::Differs(cells) => put_audit_line(out, at, b"differs ", cells),
         Audited::SheetRefused(refusal) => put_refusal_line(out, at, b"sheet ", refusal),
         Audited::StageRefused(refusal) => put_refusal_line(out, at, b"stage ", refusal),
     }
@@ -217,7 +217,7 @@ fn put_stage_read(out: &mut [u8], at: usize, read: StageRead) -> usize
     let inputs = put_spaced(out, at, read.n as u64);
     let wires = put_spaced(out, inputs, read.m as u64);
     let line = put_tables(out, wires, tables);
-    put_judged(out, line, b"cells ", read.cells as u32)
+    put_audit_line(out, line, b"cells ", read.cells as u32)
 }
 
 // Read a stage: length (2), stage.

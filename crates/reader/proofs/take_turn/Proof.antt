@@ -18,8 +18,8 @@ add-requires c κs =
     pattern-fits (a .reader .n) (a .reader .m) (c .before .step .given .0 .0) (c .before .before .before .before .before .pre)
     (handed-back (a .s .now) (a .reader) _ _ (sym (c .before .before .before .next .ensures) ∙ c .before .step .given .1) .in-range)
 
-follow-requires : tie.Need-follow-requires
-follow-requires c κs = search needs
+lead-on-requires : tie.Need-lead-on-requires
+lead-on-requires c κs = search needs
 
 enum-known-step-2 : tie.Need-enum-known-step-2
 enum-known-step-2 c = search needs
@@ -35,7 +35,7 @@ returns c before e f =
     let a = c .before .before .before .before .before .before .before .args in
     let read = sym (c .before .before .before .before .before .next .ensures) ∙ c .before .before .before .step .given .1 in
     let b = handed-back _ (a .reader) _ _ read in
-    c .follow .ensures before _ _ (c .before .add .ensures before e (sizes-first _ before (a .reader) f _ _ b))
+    c .lead-on .ensures before _ _ (c .before .add .ensures before e (sizes-first _ before (a .reader) f _ _ b))
     (reader-past _ before (a .reader) f _ _ b) (reader-small _ before (a .reader) f _ _ b (c .before .before .before .before .before .before .before .pre)) refl
     ∙ ap turnOf (one-read _ before (a .reader) f _ _ read)
 
@@ -52,7 +52,7 @@ take-turn-spec =
     next-requires
     enum-known-step
     add-requires
-    follow-requires
+    lead-on-requires
     enum-known-step-2
     refusal-requires
     done-requires

@@ -16,7 +16,8 @@ use Rattle.sheet.proofs.limits.all_ones.Reads as all-ones-reads
 use Rattle.table.specs.Tree.{selectors}
 use Rattle.stage.specs.Read.{fault, branchesAt, selectorAt, treeAt}
 use Rattle.stage_reader.specs.Inner.Trees.{treeReply, stepOf}
-use Rattle.stage_reader.proofs.Places.{tree-cut, tree-selects, tree-zero, tree-one, tree-misplaced, selector-cut, selector-none, selector-past, selector-input}
+use Rattle.stage_reader.proofs.Places.{tree-cut, tree-selects, tree-zero, tree-one, tree-misplaced, selector-cut, selector-none, selector-past}
+use Rattle.stage_reader.proofs.Places.{selector-input}
 use Rattle.stage_reader.proofs.Selecting.{table-zero, table-one}
 use Rattle.stage_reader.proofs.Taken.{handed, step-refused, tree-bounds, first-fault, second-fault, both-taken}
 use Rattle.stage_reader.proofs.due.misplaced_number.Reads as misplaced-number-reads

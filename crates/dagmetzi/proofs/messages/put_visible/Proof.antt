@@ -1,11 +1,11 @@
--- `add` meets its contract. The loop's invariant: the line keeps its length, and the place stays within it.
+-- `put_visible` meets its contract. The loop's invariant: the line keeps its length, and the place stays within it.
 use Prim.Native.Nat.{_-_, _≤_}
 use mathlib.Core.Path.{_≡_, refl, _∙_}
 use native.Mathlib.Omega.{arith}
 use lib.ListN.{length, length-set}
 use Rattle.dagmetzi.proofs.Counting.{counts}
-use Rattle.dagmetzi.proofs.messages.add.Statement.{statement}
-use Rattle.dagmetzi.proofs.messages.add.Tie as tie
+use Rattle.dagmetzi.proofs.messages.put_visible.Statement.{statement}
+use Rattle.dagmetzi.proofs.messages.put_visible.Tie as tie
 
 abbrev Inv-loop : tie.InvT-loop
 Inv-loop line₀ at text next₀ i₀ line next i = (length line ≡ length line₀) × (next ≤ length line)
@@ -52,8 +52,8 @@ same-length-2 c = c .before .loop .inv .0
 returns-2 : tie.Need-returns-2 Inv-loop μ-loop
 returns-2 c = counts _ _ (c .before .loop .inv .1)
 
-pub add-spec : {M : Type 1} → statement M
-add-spec =
+pub put-visible-spec : {M : Type 1} → statement M
+put-visible-spec =
     tie.close
     (tie.spec
     Inv-loop

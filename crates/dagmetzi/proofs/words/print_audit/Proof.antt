@@ -1,9 +1,9 @@
--- `judge` meets its contract: what is printed is so many bytes of the buffer.
+-- `print_audit` meets its contract: what is printed is so many bytes of the buffer.
 use native.Mathlib.Omega.{arith}
 use Rattle.dagmetzi.proofs.Counting.{counts}
 use borrow.Author.Needs.{needs}
-use Rattle.dagmetzi.proofs.words.judge.Statement.{statement}
-use Rattle.dagmetzi.proofs.words.judge.Tie as tie
+use Rattle.dagmetzi.proofs.words.print_audit.Statement.{statement}
+use Rattle.dagmetzi.proofs.words.print_audit.Tie as tie
 
 slice-aggregate-read-named : tie.Need-slice-aggregate-read-named
 slice-aggregate-read-named c = search needs
@@ -38,8 +38,8 @@ print-requires c κs = search needs
 returns-2 : tie.Need-returns-2
 returns-2 c = search needs
 
-pub judge-spec : {M : Type 1} → statement M
-judge-spec =
+pub print-audit-spec : {M : Type 1} → statement M
+print-audit-spec =
     tie.close
     (tie.spec
     slice-aggregate-read-named

@@ -6,8 +6,8 @@ use Rattle.reader.specs.declared.Reader.{Reader}
 use Rattle.reader.specs.Inner.Turns.{doneWith}
 use Rattle.reader.proofs.Turns.{accepted-sheet, follow-end, follow-on, follow-refused}
 use borrow.Author.Needs.{needs}
-use Rattle.reader.proofs.follow.Statement.{statement}
-use Rattle.reader.proofs.follow.Tie as tie
+use Rattle.reader.proofs.lead_on.Statement.{statement}
+use Rattle.reader.proofs.lead_on.Tie as tie
 
 enum-told : tie.Need-enum-told
 enum-told c = search needs
@@ -43,8 +43,8 @@ returns-3 c before s at e f g l =
     let a = c .before .before .before .before .args in
     follow-refused before (a .c) at (a .reply) e s (a .next .at) _ (c .before .answer .given .1)
 
-pub follow-spec : {M : Type 1} → statement M
-follow-spec =
+pub lead-on-spec : {M : Type 1} → statement M
+lead-on-spec =
     tie.close
     (tie.spec
     enum-told
