@@ -1,10 +1,14 @@
--- What `count` returns, from the entries of the table of three-input functions.
+-- What `count` returns at each number of inputs, from the entries of the table of three-input functions.
 use mathlib.Core.Path.{_≡_, refl, _∙_, ap, sym}
 use Prim.Native.Nat.{ℕ, suc, _+_, _*_, _^_, _/_, _%_, _<_}
+use native.Mathlib.Nat.{mod-eq-of-lt}
 use native.Mathlib.Omega.{arith}
 use lib.Arith.{digits-div, digits-mod}
-use borrow.Author.Tests.{eq-eqb, ne-eqb}
+use borrow.Author.Tests.{eq-eqb}
 use Rattle.table.specs.Cells.{cells, low, high}
+use Rattle.table.specs.Inner.Blocks.{oneSpace, threeSpace}
+use Rattle.table.specs.Inner.Pairs.{blockSpace}
+use Rattle.table.proofs.Cells.{cells-lt, cells-same, cells-differ}
 
 -- a table repeated has no more cells
 pub repeated : (n t : ℕ) → t < 2 ^ (2 ^ n) → cells (suc n) (t * 2 ^ (2 ^ n) + t) ≡ cells n t
@@ -16,31 +20,41 @@ repeated n t h =
 pub fits-at : {n k : ℕ} (t : ℕ) → n ≡ k → t < 2 ^ (2 ^ n) → t < 2 ^ (2 ^ k)
 fits-at t e h = rw e at h
 
--- what `count` returns, from what the table's entries say, where it tells n
-pub of-one : (t : ℕ) → t < 4 → cells 3 (t * 85 % 256) ≡ cells 1 t
-of-one t h =
-    let e : t * 85 % 256 ≡ (t * 4 + t) * 16 + (t * 4 + t) = omega arith in
-    ap (cells 3) e ∙ repeated 2 (t * 4 + t) (omega arith) ∙ repeated 1 t h
+-- the cells at k inputs are those at n, where n is k
+pub cells-at : {n k x : ℕ} (t : ℕ) → n ≡ k → t < 2 ^ (2 ^ n) → (t < 2 ^ (2 ^ k) → x ≡ cells k t) → x ≡ cells n t
+cells-at t e h f = rw e (f (fits-at t e h))
 
-pub of-two : (t : ℕ) → t < 16 → cells 3 (t * 17 % 256) ≡ cells 2 t
+-- an entry has room for more
+pub entry-small : {x : ℕ} (t : ℕ) → x ≡ cells 3 t → x < 2 ^ 3
+entry-small t e = rw e (cells-lt 3 t)
+
+-- what `count` returns, from what the table's entries say, where it tells n: one input stands four times in three, two inputs twice
+pub of-one : (t : ℕ) → t < oneSpace → cells 3 (t * 0x55 % threeSpace) ≡ cells 1 t
+of-one t h =
+    let u = t * oneSpace + t in
+    let e : t * 0x55 % threeSpace ≡ u * blockSpace + u = omega arith in
+    ap (cells 3) e ∙ repeated 2 u (omega arith) ∙ repeated 1 t h
+
+pub of-two : (t : ℕ) → t < blockSpace → cells 3 (t * 0x11 % threeSpace) ≡ cells 2 t
 of-two t h =
-    let e : t * 17 % 256 ≡ t * 16 + t = omega arith in
+    let e : t * 0x11 % threeSpace ≡ t * blockSpace + t = omega arith in
     ap (cells 3) e ∙ repeated 2 t h
 
-pub of-three : (t : ℕ) → t < 256 → cells 3 (t % 256) ≡ cells 3 t
-of-three t h =
-    let e : t % 256 ≡ t = omega arith in
-    ap (cells 3) e
+pub of-three : (t : ℕ) → t < threeSpace → cells 3 (t % threeSpace) ≡ cells 3 t
+of-three t h = ap (cells 3) (mod-eq-of-lt h)
 
-pub of-four-alike : (t : ℕ) → t < 65536 → t % 256 ≡ t / 256 % 256 → cells 3 (t % 256) ≡ cells 4 t
-unfolding cells low high
-of-four-alike t h e =
-    let m : t / 256 % 256 ≡ t / 256 = omega arith in
-    rw (eq-eqb (t % 256) (t / 256) (e ∙ m))
+-- four inputs, by halves of three
+module _ (t : ℕ) (h : t < 2 ^ (2 ^ 4)) where
+  upper : t / threeSpace % threeSpace ≡ t / threeSpace
+  upper = mod-eq-of-lt (omega arith)
 
-pub of-four : (t : ℕ) → t < 65536 → (t % 256 ≡ t / 256 % 256 → ⊥) → 1 + cells 3 (t % 256) + cells 3 (t / 256 % 256) ≡ cells 4 t
-unfolding cells low high
-of-four t h ne =
-    let m : t / 256 % 256 ≡ t / 256 = omega arith in
-    let e : suc (cells 3 (t % 256) + cells 3 (t / 256)) ≡ 1 + cells 3 (t % 256) + cells 3 (t / 256) = omega arith in
-    rw (m, ne-eqb (t % 256) (t / 256) (λ e. ne (e ∙ sym m))) (sym e)
+  pub of-four-alike : t % threeSpace ≡ t / threeSpace % threeSpace → cells 3 (t % threeSpace) ≡ cells 4 t
+  unfolding low high
+  of-four-alike e = sym (cells-same 3 t (e ∙ upper))
+
+  pub of-four : {x y : ℕ} → (t % threeSpace ≡ t / threeSpace % threeSpace → ⊥) → x ≡ cells 3 (t % threeSpace) → y ≡ cells 3 (t / threeSpace % threeSpace)
+      → 1 + x + y ≡ cells 4 t
+  unfolding low high
+  of-four ne ex ey =
+      let d = cells-differ 3 t (λ e. ne (e ∙ sym upper)) in
+      omega (arith, d, ex, ey ∙ ap (cells 3) upper)

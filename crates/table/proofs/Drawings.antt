@@ -1,6 +1,6 @@
 -- Laws of stages drawn: their tables, values and cells, and the stage of the least drawings of given tables.
 use Prim.Native.Nat.{ℕ, zero, suc, _+_, _*_, _^_, _<_, _≤_}
-use mathlib.Core.Path.{_≡_, refl, sym, ap, ap₂, subst, _∙_}
+use mathlib.Core.Path.{_≡_, refl, sym, ap, ap₂, _∙_}
 use mathlib.Core.List.{List, [], _∷_, map}
 use native.Mathlib.Omega.{arith}
 use native.Mathlib.Nat.{not-suc-le-zero, le-of-suc-le-suc}
@@ -8,9 +8,9 @@ use lib.ListN.{length, getD, length-map}
 use Rattle.base.specs.Each.{Each}
 use Rattle.table.specs.Bits.{bit, sum, ofBits}
 use Rattle.table.specs.Cells.{wires, total}
-use Rattle.table.specs.Drawing.{Drawing, Drawn, drawnValue, drawnCells}
+use Rattle.table.specs.Drawing.{Drawing, drawnValue, drawnCells}
 use Rattle.table.specs.Inner.Drawing.{drawnTable, FairCount}
-use Rattle.table.proofs.Bits.{sum-cong, sum-le, ofBits-lt, bit-ofBits}
+use Rattle.table.proofs.Bits.{sum-cong, ofBits-lt, bit-ofBits}
 
 -- the first of a sum apart
 pub sum-first : (k : ℕ) (f : ℕ → ℕ) → sum (suc k) f ≡ f 0 + sum k (λ i. f (suc i))

@@ -52,14 +52,21 @@ lex-refl key s = record { fewer = le-refl (key s); smaller = λ _. le-refl s }
 
 lex-trans : (key : ℕ → ℕ) (s t u : ℕ) → Lex key s t → Lex key t u → Lex key s u
 lex-trans key s t u a b =
-    record { fewer = omega (arith, a .fewer, b .fewer); smaller = λ h. omega (arith, a .smaller (omega (arith, b .fewer)), b .smaller (omega (arith, a .fewer))) }
+    record {
+      fewer = omega (arith, a .fewer, b .fewer);
+      smaller = λ h. omega (arith, a .smaller (omega (arith, b .fewer)), b .smaller (omega (arith, a .fewer)));
+    }
+
+-- fewer cells alone
+lex-fewer : (key : ℕ → ℕ) (s t : ℕ) → T (ltb (key s) (key t)) → Lex key s t
+lex-fewer key s t b = let l = ltb→lt (key s) (key t) b in record { fewer = omega arith; smaller = λ h. absurd (omega arith) }
 
 pub closer-left : (key : ℕ → ℕ) (s t : ℕ) → Lex key (closer key s t) s
 unfolding closer
 closer-left key s t =
     cond-has (λ x. Lex key x s) (ltb (key s) (key t)) (λ _. lex-refl key s)
     (λ a. let a′ = nltb→le (key s) (key t) a in
-    cond-has (λ x. Lex key x s) (ltb (key t) (key s)) (λ b. let b′ = ltb→lt (key t) (key s) b in record { fewer = omega arith; smaller = λ h. absurd (omega arith) })
+    cond-has (λ x. Lex key x s) (ltb (key t) (key s)) (λ b. lex-fewer key t s b)
     (λ b. let b′ = nltb→le (key t) (key s) b in least (decide (ltb s t)) a′ b′))
   where
     least : T (ltb s t) ⊎ T (not (ltb s t)) → key t ≤ key s → key s ≤ key t → Lex key (min s t) s
@@ -69,7 +76,7 @@ closer-left key s t =
 pub closer-right : (key : ℕ → ℕ) (s t : ℕ) → Lex key (closer key s t) t
 unfolding closer
 closer-right key s t =
-    cond-has (λ x. Lex key x t) (ltb (key s) (key t)) (λ b. let b′ = ltb→lt (key s) (key t) b in record { fewer = omega arith; smaller = λ h. absurd (omega arith) })
+    cond-has (λ x. Lex key x t) (ltb (key s) (key t)) (λ b. lex-fewer key s t b)
     (λ a. let a′ = nltb→le (key s) (key t) a in
     cond-has (λ x. Lex key x t) (ltb (key t) (key s)) (λ _. lex-refl key t)
     (λ b. let b′ = nltb→le (key t) (key s) b in least (decide (ltb s t)) a′ b′))
@@ -153,7 +160,8 @@ suits-common r P t a b =
 pub common-suits : (r : ℕ) (P : Proj) (t : ℕ) → T (suits r (common r P) t) → T (suits r P t) × T (suits r (upper r P) t)
 unfolding suits upper common
 common-suits r P t s =
-    let f : (p : ℕ) → p < 2 ^ r → T (P p (bit t p) && P (p + 1 * 2 ^ r) (bit t p)) = all-at (2 ^ r) (λ p. P p (bit t p) && P (p + 1 * 2 ^ r) (bit t p)) s in (
+    let f : (p : ℕ) → p < 2 ^ r → T (P p (bit t p) && P (p + 1 * 2 ^ r) (bit t p)) =
+    all-at (2 ^ r) (λ p. P p (bit t p) && P (p + 1 * 2 ^ r) (bit t p)) s in (
       all-intro (2 ^ r) (λ p. P p (bit t p)) (λ p l. and-left (P p (bit t p)) (P (p + 1 * 2 ^ r) (bit t p)) (f p l)),
       all-intro (2 ^ r) (λ p. P (p + 1 * 2 ^ r) (bit t p)) (λ p l. and-right (P p (bit t p)) (P (p + 1 * 2 ^ r) (bit t p)) (f p l)),
     )
@@ -163,7 +171,8 @@ module _ (r : ℕ) (P : Proj) where
   join-suits h l lh ll a b = suits-both r P (join r h l) (rw (join-low r h l lh ll) b) (rw (join-high r h l lh ll) a)
 
   -- the common half against tables of equal halves
-  pub same-first : (c : ℕ) → Best r (common r P) c → (s : ℕ) → s < 2 ^ (2 ^ suc r) → T (suits (suc r) P s) → low r s ≡ high r s → Lex (cells (suc r)) (join r c c) s
+  pub same-first : (c : ℕ) → Best r (common r P) c → (s : ℕ) → s < 2 ^ (2 ^ suc r) → T (suits (suc r) P s) → low r s ≡ high r s
+      → Lex (cells (suc r)) (join r c c) s
   same-first c b s ls ss e =
       let lc = b .inside in
       let d = b .first (low r s) (low-lt r s) (suits-common r P (low r s) (suits-low r P s ss) (rw e (suits-high r P s ss))) in
@@ -202,14 +211,17 @@ module _ (r : ℕ) (P : Proj) where
       let sc = common-suits r P c (bc .suited) in
       record {
         inside = ⊎-elim (λ e. rw e (join-lt r c c (bc .inside) (bc .inside))) (λ e. rw e (join-lt r h l (bh .inside) (bl .inside))) (closer-one key a b);
-        suited = ⊎-elim (λ e. rw e (join-suits c c (bc .inside) (bc .inside) (sc .1) (sc .0))) (λ e. rw e (join-suits h l (bh .inside) (bl .inside) (bh .suited) (bl .suited))) (closer-one key a b);
+        suited = ⊎-elim (λ e. rw e (join-suits c c (bc .inside) (bc .inside) (sc .1) (sc .0)))
+            (λ e. rw e (join-suits h l (bh .inside) (bl .inside) (bh .suited) (bl .suited))) (closer-one key a b);
         first = λ s ls ss.
             ⊎-elim (λ e. lex-trans key (closer key a b) a s (closer-left key a b) (same-first c bc s ls ss (eqb→eq (low r s) (high r s) e)))
-            (λ e. lex-trans key (closer key a b) b s (closer-right key a b) (apart-first h l bh bl s ls ss (λ d. T-not (eqb (low r s) (high r s)) e (eq-test d))))
+            (λ e. lex-trans key (closer key a b) b s (closer-right key a b)
+            (apart-first h l bh bl s ls ss (λ d. T-not (eqb (low r s) (high r s)) e (eq-test d))))
             (decide (eqb (low r s) (high r s)));
       }
 
-  pub step : (c h l : Option ℕ) → IsBest r (common r P) c → IsBest r (upper r P) h → IsBest r P l → IsBest (suc r) P (closest (cells (suc r)) (joins r c c) (joins r h l))
+  pub step : (c h l : Option ℕ) → IsBest r (common r P) c → IsBest r (upper r P) h → IsBest r P l
+      → IsBest (suc r) P (closest (cells (suc r)) (joins r c c) (joins r h l))
   unfolding closest joins
   step none none l bc bh bl = λ s ls ss. bh (high r s) (high-lt r s ls) (suits-high r P s ss)
   step none (some h) none bc bh bl = λ s ls ss. bl (low r s) (low-lt r s) (suits-low r P s ss)
@@ -217,7 +229,8 @@ module _ (r : ℕ) (P : Proj) where
       record {
         inside = join-lt r h l (bh .inside) (bl .inside);
         suited = join-suits h l (bh .inside) (bl .inside) (bh .suited) (bl .suited);
-        first = λ s ls ss. apart-first h l bh bl s ls ss (λ e. bc (low r s) (low-lt r s) (suits-common r P (low r s) (suits-low r P s ss) (rw e (suits-high r P s ss))));
+        first = λ s ls ss. apart-first h l bh bl s ls ss
+            (λ e. bc (low r s) (low-lt r s) (suits-common r P (low r s) (suits-low r P s ss) (rw e (suits-high r P s ss))));
       }
   step (some c) none l bc bh bl = absurd (bh c (bc .inside) (common-suits r P c (bc .suited) .1))
   step (some c) (some h) none bc bh bl = absurd (bl c (bc .inside) (common-suits r P c (bc .suited) .0))
@@ -241,7 +254,12 @@ single : (P : Proj) → IsBest 0 P (cond (P 0 0) (some 0) (cond (P 0 1) (some 1)
 unfolding cells
 single P =
     cond-has (IsBest 0 P) (P 0 0)
-    (λ t. record { inside = omega arith; suited = zero-suits P 0 (omega arith) t; first = λ s ls ss. record { fewer = omega arith; smaller = λ _. omega arith } })
+    (λ t.
+    record {
+      inside = omega arith;
+      suited = zero-suits P 0 (omega arith) t;
+      first = λ s ls ss. record { fewer = omega arith; smaller = λ _. omega arith };
+    })
     (λ f.
     let no : (s : ℕ) → s < 2 → T (suits 0 P s) → s ≡ 0 → ⊥ = λ s l ss e. T-not (P 0 0) f (rw e at (suits-zero P s l ss)) in
     cond-has (IsBest 0 P) (P 0 1)
@@ -282,8 +300,8 @@ least-halves r P =
     (closest (cells (suc r)) (joins r (leastOf (cells r) r (common r P)) (leastOf (cells r) r (common r P)))
     (joins r (leastOf (cells r) r (upper r P)) (leastOf (cells r) r P)))
     (least-best (suc r) P)
-    (step r P (leastOf (cells r) r (common r P)) (leastOf (cells r) r (upper r P)) (leastOf (cells r) r P) (least-best r (common r P)) (least-best r (upper r P))
-    (least-best r P))
+    (step r P (leastOf (cells r) r (common r P)) (leastOf (cells r) r (upper r P)) (leastOf (cells r) r P)
+    (least-best r (common r P)) (least-best r (upper r P)) (least-best r P))
 
 -- the pick by halving
 unfoldable pub halved : ℕ → Proj → Option ℕ

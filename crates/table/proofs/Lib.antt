@@ -9,5 +9,6 @@ pub mod Masks
 pub mod Entries
 pub mod Pairs
 pub mod Places
+pub mod Widths
 pub mod BitColumns
 pub mod Drawings

@@ -114,7 +114,8 @@ module _ (r zeros ones : ℕ) where
   pub least-common : leastOf (cells r) r (masked (bitAnd (low r zeros) (high r zeros)) (bitAnd (low r ones) (high r ones)))
       ≡ leastOf (cells r) r (common r (masked zeros ones))
   least-common =
-      least-cong (cells r) r (masked (bitAnd (low r zeros) (high r zeros)) (bitAnd (low r ones) (high r ones))) (common r (masked zeros ones)) (λ p b l _. masked-common p b l)
+      least-cong (cells r) r (masked (bitAnd (low r zeros) (high r zeros)) (bitAnd (low r ones) (high r ones))) (common r (masked zeros ones))
+      (λ p b l _. masked-common p b l)
 
 -- masks repeated over one input more have the pick repeated
 pub least-repeated : (r zeros ones t : ℕ) → zeros < 2 ^ (2 ^ r) → ones < 2 ^ (2 ^ r) → leastOf (cells r) r (masked zeros ones) ≡ some t
@@ -127,8 +128,9 @@ least-repeated r zeros ones t lz lo e =
     let lowo = join-low r ones ones lo lo in
     let highz = join-high r zeros zeros lz lz in
     let higho = join-high r ones ones lo lo in
-    let l : leastOf (cells r) r (masked Z O) ≡ some t = sym (least-low r Z O) ∙ ap₂ (λ a b. leastOf (cells r) r (masked a b)) lowz lowo ∙ e in
-    let h : leastOf (cells r) r (upper r (masked Z O)) ≡ some t = sym (least-high r Z O) ∙ ap₂ (λ a b. leastOf (cells r) r (masked a b)) highz higho ∙ e in
+    let best : ℕ → ℕ → Option ℕ = λ a b. leastOf (cells r) r (masked a b) in
+    let l : leastOf (cells r) r (masked Z O) ≡ some t = sym (least-low r Z O) ∙ ap₂ best lowz lowo ∙ e in
+    let h : leastOf (cells r) r (upper r (masked Z O)) ≡ some t = sym (least-high r Z O) ∙ ap₂ best highz higho ∙ e in
     let c : leastOf (cells r) r (common r (masked Z O)) ≡ some t =
-    sym (least-common r Z O) ∙ ap₂ (λ a b. leastOf (cells r) r (masked a b)) (ap₂ bitAnd lowz highz ∙ and-self zeros) (ap₂ bitAnd lowo higho ∙ and-self ones) ∙ e in
+    sym (least-common r Z O) ∙ ap₂ best (ap₂ bitAnd lowz highz ∙ and-self zeros) (ap₂ bitAnd lowo higho ∙ and-self ones) ∙ e in
     least-halves r (masked Z O) ∙ rw (c, h, l) (ap {B = Option ℕ} some (closer-self (cells (suc r)) (join r t t)))

@@ -11,8 +11,8 @@ use Rattle.table.specs.Cells.{cells}
 use Rattle.table.specs.Pick.{Proj, leastOf}
 use Rattle.table.specs.Inner.Blocks.{noTable, Shown}
 use Rattle.table.proofs.Cells.{cells-lt, cells-same, cells-differ}
-use Rattle.table.proofs.Halving.{upper, common, join, joins, closer, closest, Best, IsBest, least-best, least-halves, join-low, join-high, join-lt}
-use Rattle.table.proofs.Halving.{suits-common, common-suits}
+use Rattle.table.proofs.Halving.{upper, common, suits-common, common-suits, join, joins, join-low, join-high, join-lt}
+use Rattle.table.proofs.Halving.{closer, closest, Best, IsBest, least-best, least-halves}
 
 -- of two ranks the lesser is that of the better pick
 pub closer-rank : (key : ℕ → ℕ) (w s t : ℕ) → s < w → t < w → min (key s * w + s) (key t * w + t) ≡ key (closer key s t) * w + closer key s t
@@ -25,7 +25,8 @@ closer-rank key w s t ls lt =
     (λ h. omega (arith, mul-le-mul-right w (ltb→lt (key t) (key s) h)))
     (λ h.
     let e : key s ≡ key t = le-antisymm (nltb→le (key t) (key s) h) (nltb→le (key s) (key t) g) in
-    ⊎-elim (λ a. let b = ltb→lt s t a in smaller e (omega arith) (omega arith)) (λ a. let b = nltb→le s t a in larger e (omega arith) b) (decide (ltb s t))))
+    ⊎-elim (λ a. let b = ltb→lt s t a in smaller e (omega arith) (omega arith)) (λ a. let b = nltb→le s t a in larger e (omega arith) b)
+    (decide (ltb s t))))
   where
     smaller : key s ≡ key t → min s t ≡ s → s ≤ t → min (key s * w + s) (key t * w + t) ≡ key (min s t) * w + min s t
     smaller e m l = rw (m, ← e) (omega arith)
@@ -112,9 +113,9 @@ module _ (r w : ℕ) (P : Proj) (few : 2 ^ suc r ≤ noTable) (wide : 2 ^ (2 ^ s
   go (some c) (some h) (some l) x y bc bh bl sx sy = both c h l x y bc bh bl sx sy
 
   -- the lesser of the two numbers shows the least table of one input more
-  pub lesser-shows : (x y : ℕ) → ShownTwice r w (leastOf (cells r) r (common r P)) x → ShownPair r w (leastOf (cells r) r (upper r P)) (leastOf (cells r) r P) y
-      → Shown (suc r) w (leastOf (cells (suc r)) (suc r) P) (min x y)
+  pub lesser-shows : (x y : ℕ) → ShownTwice r w (leastOf (cells r) r (common r P)) x
+      → ShownPair r w (leastOf (cells r) r (upper r P)) (leastOf (cells r) r P) y → Shown (suc r) w (leastOf (cells (suc r)) (suc r) P) (min x y)
   lesser-shows x y sx sy =
       rw (least-halves r P)
-      (go (leastOf (cells r) r (common r P)) (leastOf (cells r) r (upper r P)) (leastOf (cells r) r P) x y (least-best r (common r P)) (least-best r (upper r P))
-      (least-best r P) sx sy)
+      (go (leastOf (cells r) r (common r P)) (leastOf (cells r) r (upper r P)) (leastOf (cells r) r P) x y
+      (least-best r (common r P)) (least-best r (upper r P)) (least-best r P) sx sy)

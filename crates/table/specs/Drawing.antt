@@ -1,6 +1,6 @@
--- What drives one wire is a drawing: on the board of document 01 a tree of selectors. Stages, rivals and promises are told over what a drawing is, so that a
--- board whose wires are drawn otherwise needs no more than another `Drawing`.
-use Prim.Native.Nat.{ℕ, zero, _+_, _^_, _<_, _≤_}
+-- What drives one wire is a drawing: on the board of document 01 a tree of selectors. Stages, rivals and promises are told over what a drawing is,
+-- so that a board whose wires are drawn otherwise needs no more than another `Drawing`.
+use Prim.Native.Nat.{ℕ, zero, _+_}
 use mathlib.Core.Path.{_≡_}
 use mathlib.Core.List.{List, [], _∷_, map}
 use lib.ListN.{length, getD}

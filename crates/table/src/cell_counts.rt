@@ -1,10 +1,20 @@
 // Cells of a table: the size of the reduced ordered decision tree of its function.
+use crate::picks::THREE_SPACE;
 ghost use mathlib.Core.Path.{_≡_};
 ghost use Prim.Native.Nat.{_<_, _≤_, _^_};
+ghost use Rattle.sheet.specs.Limits.{maxInputs};
 ghost use Rattle.table.specs.Cells.{cells};
 
+// The tables of three inputs are the numbers below this.
+const SPACE: u16 = THREE_SPACE as u16;
+
+// Times this a table of two inputs stands twice in one of three, and one of one input four times.
+const TWICE: u16 = 0x11;
+
+const FOUR_TIMES: u16 = 0x55;
+
 // The cells of every three-input function, at the function's table.
-const CELLS: [u8; 256] = [
+const CELLS: [u8; THREE_SPACE as usize] = [
     0,
     3,
     3,
@@ -270,23 +280,23 @@ pub fn count8(t: u8) -> u8
     CELLS[t as usize]
 }
 
-// The cells of a table of one to four inputs. Four inputs take two look-ups, one for each half;
+// The cells of a table of one to four inputs, and no more. Four inputs take two look-ups, one for each half;
 // a smaller table is repeated up to three inputs, which adds no cell. The writer of stages calls it with sizes and tables that it has tested.
 pub fn count(n: u8, t: u16) -> u8
-    requires { ⌜ (1 ≤ n) × (n ≤ 4) × (t < 2 ^ (2 ^ n)) ⌝ }
+    requires { ⌜ (1 ≤ n) × (n ≤ maxInputs) × (t < 2 ^ (2 ^ n)) ⌝ }
     ensures { λ r. ⌜ r ≡ cells n t ⌝ }
 {
     if n == 1 {
-        return count8((t * 85 % 256) as u8);
+        return count8((t * FOUR_TIMES % SPACE) as u8);
     }
     if n == 2 {
-        return count8((t * 17 % 256) as u8);
+        return count8((t * TWICE % SPACE) as u8);
     }
-    let low = (t % 256) as u8;
+    let low = (t % SPACE) as u8;
     if n == 3 {
         return count8(low);
     }
-    let high = (t / 256 % 256) as u8;
+    let high = (t / SPACE % SPACE) as u8;
     if low == high {
         count8(low)
     } else {

@@ -4,17 +4,33 @@
 // copied by every function that names it. Each byte of the pair is the place of a block in that table, so no place has to be made.
 use sheet::Sheet;
 ghost use mathlib.Core.Path.{_≡_};
-ghost use Prim.Native.Nat.{_<_, _≤_, _^_, _+_, _*_, _/_, _%_, min};
-ghost use Rattle.table.specs.Cells.{cells};
-ghost use Rattle.table.specs.Pick.{leastOf};
-ghost use Rattle.table.specs.Inner.Ranks.{masked, pickOf, rank};
-ghost use Rattle.table.specs.Inner.Blocks.{blockOf, Blocks, Shown, Covered};
+ghost use Prim.Native.Nat.{_<_, _≤_, _^_, min};
+ghost use Rattle.sheet.specs.Limits.{maxInputs};
+ghost use Rattle.table.specs.Inner.Ranks.{pickOf, rank, tableSpace};
+ghost use Rattle.table.specs.Inner.Blocks.{entries, threeSpace, noEntry, blockAt, zerosAt, onesAt, Blocks, PickShown, Covered};
 ghost use Rattle.table.specs.Inner.Pairs.{zerosIn, onesIn};
 
-// The entries of that table: one for each pair of masks of two inputs, which is each byte.
-pub const ENTRIES: usize = 256;
+// The tables of one input, of a block of two and of three inputs are the numbers below these: a table has a bit for each pattern.
+const ONE_SPACE: u32 = 4;
 
-// The pick of each pair of masks of two inputs, at zeros * 16 + ones: cells * 256 + table * 17, the table twice side by side.
+const BLOCK_SPACE: u32 = 16;
+
+pub const THREE_SPACE: u32 = 256;
+
+// Above every table: tables have at most so many bits as there are patterns.
+pub const TABLE_SPACE: u32 = 1 << Sheet::MAX_PATTERNS;
+
+// A pair of masks of a block is a byte, the place of its entry: so many places.
+const PLACES: u32 = BLOCK_SPACE * BLOCK_SPACE;
+
+pub const ENTRIES: usize = PLACES as usize;
+
+// What the lowest bits of the third and of the fourth byte of a pair count for.
+const THIRD_BYTE: u32 = PLACES * PLACES;
+
+const FOURTH_BYTE: u32 = THIRD_BYTE * PLACES;
+
+// The pick of each pair of masks of two inputs, at zeros * BLOCK_SPACE + ones: cells * THREE_SPACE + table * 17, the table twice side by side.
 // Where some pattern is in no mask there is none: 64 cells.
 const BLOCKS: [u16; ENTRIES] = [
     0x4000,
@@ -275,9 +291,6 @@ const BLOCKS: [u16; ENTRIES] = [
     0x0000,
 ];
 
-// Above every table: tables have at most so many bits as there are patterns.
-pub const TABLE_SPACE: u32 = 1 << Sheet::MAX_PATTERNS;
-
 // The table of blocks, to be lent to the functions below.
 pub fn blocks() -> [u16; ENTRIES]
     ensures { λ r. ⌜ Blocks r ⌝ }
@@ -293,57 +306,66 @@ fn lesser(a: u32, b: u32) -> u32
 
 // Two inputs: an entry of the table.
 fn block(e: &[u16; ENTRIES], at: u32) -> u32
-    requires { ⌜ Blocks (now e) × (at < 256) ⌝ }
-    ensures { λ r. ⌜ (r ≡ blockOf (at / 16) (at % 16)) × (r ≤ 16384) ⌝ }
+    requires { ⌜ Blocks (now e) × (at < entries) ⌝ }
+    ensures { λ r. ⌜ (r ≡ blockAt at) × (r ≤ noEntry) ⌝ }
 {
     e[at as usize] as u32
 }
 
-// Three inputs, from the places of the lower and the upper half: cells * 256 + table. Two places, bit by bit together, are the place of what both
-// blocks have.
+// Three inputs, from the places of the lower and the upper half: cells * THREE_SPACE + table. Two places, bit by bit together, are the place of what
+// both blocks have.
 fn pick3(e: &[u16; ENTRIES], low: u32, high: u32) -> u32
-    requires { ⌜ Blocks (now e) × (low < 256) × (high < 256) ⌝ }
-    ensures { λ r. ⌜ Shown 3 256 (leastOf (cells 3) 3 (masked (high / 16 * 16 + low / 16) (high % 16 * 16 + low % 16))) r × (r ≤ 16384) ⌝ }
+    requires { ⌜ Blocks (now e) × (low < entries) × (high < entries) ⌝ }
+    ensures { λ r. ⌜ PickShown 3 threeSpace (zerosAt low high) (onesAt low high) r × (r ≤ noEntry) ⌝ }
 {
     let a = block(e, low);
     let b = block(e, high);
     let c = block(e, low & high);
-    lesser(c, (a / 256 + 1) * 256 + a % 16 + b / 16 * 16)
+    lesser(
+        c,
+        (a / THREE_SPACE + 1) * THREE_SPACE + a % BLOCK_SPACE + b / BLOCK_SPACE * BLOCK_SPACE,
+    )
 }
 
-// Four inputs: the rank.
+// Four inputs, and no more: the rank. The four bytes of the pair are the places of its blocks, and two tables of three inputs side by side fill
+// TABLE_SPACE.
 fn pick4(e: &[u16; ENTRIES], pair: u32) -> u32
     requires { ⌜ Blocks (now e) ⌝ }
-    ensures { λ r. ⌜ Shown 4 65536 (leastOf (cells 4) 4 (masked (zerosIn pair) (onesIn pair))) r ⌝ }
+    ensures { λ r. ⌜ PickShown 4 tableSpace (zerosIn pair) (onesIn pair) r ⌝ }
 {
-    let a0 = pair % 256;
-    let a1 = pair / 256 % 256;
-    let b0 = pair / 65536 % 256;
-    let b1 = pair / 16777216;
+    let a0 = pair % PLACES;
+    let a1 = pair / PLACES % PLACES;
+    let b0 = pair / THIRD_BYTE % PLACES;
+    let b1 = pair / FOURTH_BYTE;
     let a = pick3(e, a0, a1);
     let b = pick3(e, b0, b1);
     let c = pick3(e, a0 & b0, a1 & b1);
-    lesser(c * 256 + c % 256, (a / 256 + 1) * 65536 + a % 256 + b * 256)
+    lesser(
+        c * THREE_SPACE + c % THREE_SPACE,
+        (a / THREE_SPACE + 1) * TABLE_SPACE + a % THREE_SPACE + b * THREE_SPACE,
+    )
 }
 
-// The rank of the pick between the two masks of a pair, among the tables of n inputs. The search calls it with the masks of a wire, which cover every pattern.
+// The rank of the pick between the two masks of a pair, among the tables of n inputs. The search calls it with the masks of a wire, which cover every
+// pattern. There is an arm for each number of inputs up to four.
 // One input is looked up as two: times 5, the two patterns of each mask stand there twice.
 pub fn pick(e: &[u16; ENTRIES], n: u8, pair: u32) -> u32
-    requires { ⌜ Blocks (now e) × (1 ≤ n) × (n ≤ 4) × (zerosIn pair < 2 ^ (2 ^ n)) × (onesIn pair < 2 ^ (2 ^ n)) × Covered n (zerosIn pair) (onesIn pair) ⌝ }
+    requires { ⌜ Blocks (now e) × (1 ≤ n) × (n ≤ maxInputs) × (zerosIn pair < 2 ^ (2 ^ n)) × (onesIn pair < 2 ^ (2 ^ n))
+        × Covered n (zerosIn pair) (onesIn pair) ⌝ }
     ensures { λ r. ⌜ r ≡ rank n (pickOf n (zerosIn pair) (onesIn pair)) ⌝ }
 {
     match n {
         1 => {
             let x = block(e, pair * 5);
-            x / 256 * 65536 + x % 4
+            x / THREE_SPACE * TABLE_SPACE + x % ONE_SPACE
         }
         2 => {
             let x = block(e, pair);
-            x / 256 * 65536 + x % 16
+            x / THREE_SPACE * TABLE_SPACE + x % BLOCK_SPACE
         }
         3 => {
-            let x = pick3(e, pair % 256, pair / 256);
-            x / 256 * 65536 + x % 256
+            let x = pick3(e, pair % PLACES, pair / PLACES);
+            x / THREE_SPACE * TABLE_SPACE + x % THREE_SPACE
         }
         _ => pick4(e, pair),
     }

@@ -8,16 +8,16 @@ use native.Mathlib.Omega.{arith}
 use lib.Dec.{T, not-T, eqb, leb, leb→le, ltb, nltb→le}
 use lib.ListN.{getD}
 use lib.Pow.{pow-mono}
-use borrow.Author.Tests.{lt-ltb, le-ltb, ne-eqb}
+use borrow.Author.Tests.{lt-ltb, le-ltb}
 use Rattle.base.specs.Refusals.{refusalAt, empty}
 use Rattle.base.specs.Cases.{acceptedCase, refusedCase}
 use Rattle.sheet.specs.Limits.{sizesOut, maxInputs, maxWires, maxPatterns, maxValues}
 use Rattle.base.proofs.Lowest.{lowest-none, lowest-cong}
 use Rattle.base.proofs.Tests.{decide, cond-has, test-yes, test-no}
-use Rattle.table.specs.Bits.{bit, any, ofBits}
+use Rattle.table.specs.Bits.{bit, any}
 use Rattle.table.specs.Drawing.{Drawing, drawnValue}
 use Rattle.table.specs.Inner.Drawing.{FairCount}
-use Rattle.table.proofs.Bits.{any-cong, ofBits-lt, zero-bit}
+use Rattle.table.proofs.Bits.{any-cong, zero-bit}
 use Rattle.relation.proofs.Families.{value-below}
 use Rattle.relation.specs.Source.{WellDefined}
 use Rattle.relation.specs.Tests.{ofSets, emptyPattern}

@@ -1,4 +1,5 @@
--- The two masks of a wire in one number: a byte for each block of four patterns, the patterns that can be 0 in its upper half, those that can be 1 in its lower.
+-- The two masks of a wire in one number: a byte for each block of four patterns, the patterns that can be 0 in its upper half,
+-- those that can be 1 in its lower.
 -- Each byte is so the place of a block, and a pick starts with no work on the masks.
 use Prim.Native.Nat.{ℕ, _+_, _*_, _/_, _%_, _^_}
 use Rattle.sheet.specs.Limits.{maxPatterns}
@@ -8,9 +9,17 @@ use Rattle.table.specs.Bits.{bit, sum, ofBits}
 abbrev pub blockPatterns : ℕ
 blockPatterns = 4
 
+-- the masks of a block, and its tables, are the numbers below this
+abbrev pub blockSpace : ℕ
+blockSpace = 2 ^ blockPatterns
+
 -- what the lowest bit of the upper half counts for
 abbrev pub upperHalf : ℕ
-upperHalf = 2 ^ blockPatterns
+upperHalf = blockSpace
+
+-- the bits of a byte: both masks of a block
+abbrev pub byteBits : ℕ
+byteBits = 2 * blockPatterns
 
 -- the bits of the number: two for each pattern
 abbrev pub pairBits : ℕ
@@ -18,7 +27,7 @@ pairBits = 2 * maxPatterns
 
 -- the bit of pattern p among those that can be 1; half a byte above it stands the pattern among those that can be 0
 unfoldable pub seat : ℕ → ℕ
-seat p = p / blockPatterns * (2 * blockPatterns) + p % blockPatterns
+seat p = p / blockPatterns * byteBits + p % blockPatterns
 
 -- the mask of the patterns that can be 0, and of those that can be 1
 unfoldable pub zerosIn : ℕ → ℕ

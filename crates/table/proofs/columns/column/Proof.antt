@@ -1,22 +1,41 @@
--- `column` meets its contract: each arm is the column at its place, computed.
-use mathlib.Core.Path.{_≡_, sym}
-use Prim.Native.Nat.{_+_, _*_, ℕ, _<_, _≤_, zero-le, suc}
+-- `column` meets its contract: each arm is the column at its place among the eight.
+use mathlib.Core.Path.{_≡_, sym, _∙_}
+use mathlib.Core.Bool.{Bool}
+use mathlib.Core.List.{List, [], _∷_}
+use Prim.Native.Nat.{_+_, _*_, _/_, _%_, ℕ, _<_, _≤_, zero-le, suc}
 use native.Mathlib.Omega.{arith}
-use native.Mathlib.Nat.{le-antisymm}
+use lib.Dec.{eqb, eqb→eq}
+use lib.ListN.{length, getD}
 use borrow.Author.Needs.{needs}
-use Rattle.table.specs.Bits.{bit, ofBits, sum, isOne}
+use Rattle.base.proofs.Table.{at}
 use Rattle.sheet.specs.Limits.{maxWires}
+use Rattle.table.specs.Bits.{bit, ofBits, sum, isOne}
 use Rattle.table.specs.Inner.Columns.{columnOf}
 use Rattle.table.proofs.BitColumns.{column-placed}
 use Rattle.table.proofs.columns.column.Statement.{statement}
 use Rattle.table.proofs.columns.column.Tie as tie
 
+-- the columns of bit 0 at 0 and at 1, of bit 1 at 0 and at 1, and so on; all of them are tested by one computation
+abbrev columns : List ℕ
+columns = 0x5555 ∷ 0xaaaa ∷ 0x3333 ∷ 0xcccc ∷ 0x0f0f ∷ 0xf0f0 ∷ 0x00ff ∷ 0xff00 ∷ []
+
+right : ℕ → ℕ → Bool
+right k x = eqb x (columnOf (k / 2) (k % 2))
+
+tested : (k : ℕ) → k < length columns → getD columns k 0 ≡ columnOf (k / 2) (k % 2)
+unfolding right columnOf ofBits sum bit isOne
+tested k l = eqb→eq (getD columns k 0) (columnOf (k / 2) (k % 2)) (at right columns tt k l)
+
+-- the column at place k
+placed : (k : ℕ) {j b : ℕ} → 2 * j + b ≡ k → (j < maxWires) × (b < 2) → getD columns k 0 ≡ columnOf j b
+placed k {j} {b} e h = tested k (omega arith) ∙ sym (column-placed k j b e (h .1))
+
 -- passing the keys of the match one by one
 past : {a k : ℕ} → a ≤ k → (k ≡ a → ⊥) → suc a ≤ k
 past h ne = omega arith
 
-below : (j b : ℕ) → j < maxWires → b < 2 → 2 * j + b ≤ 7
-below j b h l = omega arith
+last : (j b : ℕ) → 7 ≤ 2 * j + b → (j < maxWires) × (b < 2) → 2 * j + b ≡ 7
+last j b l h = omega arith
 
 mul-at : tie.Need-mul-at
 mul-at c = search needs
@@ -25,43 +44,34 @@ add-at : tie.Need-add-at
 add-at c = search needs
 
 returns : tie.Need-returns
-unfolding columnOf ofBits sum bit isOne
-returns c = let a = c .before .args in sym (column-placed 0 (a .j) (a .b) (c .match .keys1) (c .before .pre .1))
+returns c = placed 0 (c .match .keys1) (c .before .pre)
 
 returns-2 : tie.Need-returns-2
-unfolding columnOf ofBits sum bit isOne
-returns-2 c = let a = c .before .args in sym (column-placed 1 (a .j) (a .b) (c .match .keys2) (c .before .pre .1))
+returns-2 c = placed 1 (c .match .keys2) (c .before .pre)
 
 returns-3 : tie.Need-returns-3
-unfolding columnOf ofBits sum bit isOne
-returns-3 c = let a = c .before .args in sym (column-placed 2 (a .j) (a .b) (c .match .keys3) (c .before .pre .1))
+returns-3 c = placed 2 (c .match .keys3) (c .before .pre)
 
 returns-4 : tie.Need-returns-4
-unfolding columnOf ofBits sum bit isOne
-returns-4 c = let a = c .before .args in sym (column-placed 3 (a .j) (a .b) (c .match .keys4) (c .before .pre .1))
+returns-4 c = placed 3 (c .match .keys4) (c .before .pre)
 
 returns-5 : tie.Need-returns-5
-unfolding columnOf ofBits sum bit isOne
-returns-5 c = let a = c .before .args in sym (column-placed 4 (a .j) (a .b) (c .match .keys5) (c .before .pre .1))
+returns-5 c = placed 4 (c .match .keys5) (c .before .pre)
 
 returns-6 : tie.Need-returns-6
-unfolding columnOf ofBits sum bit isOne
-returns-6 c = let a = c .before .args in sym (column-placed 5 (a .j) (a .b) (c .match .keys6) (c .before .pre .1))
+returns-6 c = placed 5 (c .match .keys6) (c .before .pre)
 
 returns-7 : tie.Need-returns-7
-unfolding columnOf ofBits sum bit isOne
-returns-7 c = let a = c .before .args in sym (column-placed 6 (a .j) (a .b) (c .match .keys7) (c .before .pre .1))
+returns-7 c = placed 6 (c .match .keys7) (c .before .pre)
 
 returns-8 : tie.Need-returns-8
-unfolding columnOf ofBits sum bit isOne
 returns-8 c =
     let a = c .before .args in
-    let h = c .before .pre in
     let r = c .match .rest in
     let four : 4 ≤ 2 * a .j + a .b =
     past (past (past (past zero-le (r .0 .0 .0 .0 .0 .0 .1)) (r .0 .0 .0 .0 .0 .1)) (r .0 .0 .0 .0 .1)) (r .0 .0 .0 .1) in
     let seven : 7 ≤ 2 * a .j + a .b = past (past (past four (r .0 .0 .1)) (r .0 .1)) (r .1) in
-    sym (column-placed 7 (a .j) (a .b) (le-antisymm (below (a .j) (a .b) (h .0) (h .1)) seven) (h .1))
+    placed 7 (last (a .j) (a .b) seven (c .before .pre)) (c .before .pre)
 
 pub column-spec : {M : Type 1} → statement M
 column-spec =

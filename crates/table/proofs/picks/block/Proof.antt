@@ -1,3 +1,4 @@
+-- `block` meets its contract: the entry at its place.
 use native.Mathlib.Omega.{arith}
 use Rattle.table.proofs.Places.{entry-at}
 use borrow.Author.Needs.{needs}

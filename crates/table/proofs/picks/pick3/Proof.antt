@@ -1,3 +1,4 @@
+-- `pick3` meets its contract: the blocks at two places and at both together.
 use native.Mathlib.Omega.{arith}
 use lib.Bits.{and-le-l}
 use Rattle.table.proofs.Places.{three-places}

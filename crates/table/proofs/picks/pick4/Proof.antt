@@ -1,13 +1,15 @@
+-- `pick4` meets its contract: the bytes of the pair are places, and so are two of them bit by bit together.
 use Prim.Native.Nat.{ℕ, _/_, _%_, _<_}
 use native.Mathlib.Omega.{arith}
 use lib.Bits.{bitAnd, and-le-l}
+use Rattle.table.specs.Inner.Blocks.{entries}
 use Rattle.table.proofs.Places.{four-places}
 use borrow.Author.Needs.{needs}
 use Rattle.table.proofs.picks.pick4.Statement.{statement}
 use Rattle.table.proofs.picks.pick4.Tie as tie
 
 -- what two places have in common is a place
-and-below : (a b : ℕ) → a < 256 → bitAnd a b < 256
+and-below : (a b : ℕ) → a < entries → bitAnd a b < entries
 and-below a b h = omega (arith, and-le-l a b)
 
 pick3-requires : tie.Need-pick3-requires
@@ -19,7 +21,7 @@ pick3-requires-2 c κs = search needs
 pick3-requires-3 : tie.Need-pick3-requires-3
 pick3-requires-3 c κs =
     let i = c .before .before in
-    (i .pre, and-below (i .args .pair % 256) _ (omega arith), and-below (i .args .pair / 256 % 256) _ (omega arith))
+    (i .pre, and-below (i .args .pair % entries) _ (omega arith), and-below (i .args .pair / entries % entries) _ (omega arith))
 
 mul-lesser : tie.Need-mul-lesser
 mul-lesser c = search needs

@@ -1,0 +1,102 @@
+-- What `pick` returns at each number of inputs up to four, from the table of blocks: where the pair's blocks stand, and the rank.
+use Prim.Native.Nat.{ℕ, _+_, _*_, _^_, _/_, _%_, _<_, _≤_}
+use mathlib.Core.Path.{_≡_, ap, ap₂, subst, _∙_}
+use mathlib.Core.List.{List}
+use native.Mathlib.Omega.{arith}
+use lib.Arith.{digits-mod}
+use Rattle.sheet.specs.Limits.{maxInputs}
+use Rattle.table.specs.Cells.{cells}
+use Rattle.table.specs.Pick.{leastOf}
+use Rattle.table.specs.Inner.Ranks.{masked, pickOf, rank, tableSpace}
+use Rattle.table.specs.Inner.Pairs.{blockSpace, pairBits, zerosIn, onesIn}
+use Rattle.table.specs.Inner.Blocks.{oneSpace, threeSpace, entries, entryOf, blockOf, blockAt, zerosAt, onesAt, Blocks, Shown, PickShown, Covered}
+use Rattle.table.proofs.Count.{repeated}
+use Rattle.table.proofs.Halving.{join, IsBest, least-best}
+use Rattle.table.proofs.Masks.{least-repeated, pick-some}
+use Rattle.table.proofs.Entries.{digits}
+use Rattle.table.proofs.Pairs.{one-byte, two-bytes}
+use Rattle.table.proofs.Places.{pair-told}
+
+-- what `pick` asks of its table and of a pair, at n inputs
+abbrev pub Asked : (e : List ℕ) (n w : ℕ) → Type 0
+Asked e n w =
+    Blocks e × (1 ≤ n) × (n ≤ maxInputs) × (zerosIn w < 2 ^ (2 ^ n)) × (onesIn w < 2 ^ (2 ^ n)) × Covered n (zerosIn w) (onesIn w)
+
+-- the pair's masks are of k inputs and cover every pattern
+abbrev Fit : (k w : ℕ) → Type 0
+Fit k w = (zerosIn w < 2 ^ (2 ^ k)) × (onesIn w < 2 ^ (2 ^ k)) × Covered k (zerosIn w) (onesIn w)
+
+pub fit : {t : List ℕ} {n k : ℕ} (w : ℕ) → n ≡ k → Asked t n w → Fit k w
+fit w e h = subst (λ m. Fit m w) e (h .3, h .4, h .5)
+
+-- the rank of the pick between the pair's masks
+abbrev rankIn : (n w : ℕ) → ℕ
+rankIn n w = rank n (pickOf n (zerosIn w) (onesIn w))
+
+-- the rank at n inputs is that at k, where n is k
+pub rank-at : {t : List ℕ} {n k x : ℕ} (w : ℕ) → n ≡ k → Asked t n w → (Fit k w → x ≡ rankIn k w) → x ≡ rankIn n w
+rank-at w e h f = rw e (f (fit w e h))
+
+inside : (n zeros ones : ℕ) → Covered n zeros ones → pickOf n zeros ones < 2 ^ (2 ^ n)
+inside n zeros ones h = subst (λ o. IsBest n (masked zeros ones) o) (pick-some n zeros ones h) (least-best n (masked zeros ones)) .inside
+
+-- one input, looked up as two: each mask stands twice in its half of the place
+pub one-place : (w : ℕ) → w < 2 ^ pairBits → Fit 1 w → w * (oneSpace + 1) < entries
+one-place w l f = omega (arith, one-byte w l (omega (arith, f .0)) (omega (arith, f .1)), f .0, f .1)
+
+rank-one : (zeros ones x : ℕ) → zeros < oneSpace → ones < oneSpace → Covered 1 zeros ones → x ≡ blockOf (zeros * (oneSpace + 1)) (ones * (oneSpace + 1))
+    → x / threeSpace * tableSpace + x % oneSpace ≡ rank 1 (pickOf 1 zeros ones)
+unfolding blockOf entryOf rank join
+rank-one zeros ones x lz lo h e =
+    let t = pickOf 1 zeros ones in
+    let u = t * oneSpace + t in
+    let lt : t < oneSpace = inside 1 zeros ones h in
+    let ez : zeros * (oneSpace + 1) ≡ zeros * oneSpace + zeros = omega arith in
+    let eo : ones * (oneSpace + 1) ≡ ones * oneSpace + ones = omega arith in
+    let k : x ≡ cells 2 u * threeSpace + u * (blockSpace + 1) =
+    e ∙ ap₂ (λ a b. entryOf (leastOf (cells 2) 2 (masked a b))) ez eo ∙ ap entryOf (least-repeated 1 zeros ones t lz lo (pick-some 1 zeros ones h)) in
+    let m : x ≡ cells 1 t * threeSpace + u * (blockSpace + 1) = k ∙ ap (λ y. y * threeSpace + u * (blockSpace + 1)) (repeated 1 t lt) in
+    let d = digits (cells 1 t) u x (omega arith) m in
+    let f : x ≡ (cells 1 t * 64 + t * 21) * oneSpace + t = omega arith in
+    rw (d .0, ap (λ y. y % oneSpace) f ∙ digits-mod (cells 1 t * 64 + t * 21) lt)
+
+pub one-input : (w x : ℕ) → w < 2 ^ pairBits → x ≡ blockAt (w * (oneSpace + 1)) → Fit 1 w → x / threeSpace * tableSpace + x % oneSpace ≡ rankIn 1 w
+one-input w x l e f =
+    let b = one-byte w l (omega (arith, f .0)) (omega (arith, f .1)) in
+    let z : w * (oneSpace + 1) / blockSpace ≡ zerosIn w * (oneSpace + 1) = omega (arith, b, f .0, f .1) in
+    let o : w * (oneSpace + 1) % blockSpace ≡ onesIn w * (oneSpace + 1) = omega (arith, b, f .0, f .1) in
+    rank-one (zerosIn w) (onesIn w) x (f .0) (f .1) (f .2) (e ∙ ap₂ blockOf z o)
+
+-- two inputs: the pair is a place
+pub two-place : (w : ℕ) → w < 2 ^ pairBits → Fit 2 w → w < entries
+two-place w l f = omega (arith, one-byte w l (f .0) (f .1), f .0, f .1)
+
+pub two-inputs : (w x : ℕ) → w < 2 ^ pairBits → x ≡ blockAt w → Fit 2 w → x / threeSpace * tableSpace + x % blockSpace ≡ rankIn 2 w
+unfolding blockOf entryOf rank
+two-inputs w x l e f =
+    let b = one-byte w l (f .0) (f .1) in
+    let z : w / blockSpace ≡ zerosIn w = omega (arith, b, f .0, f .1) in
+    let o : w % blockSpace ≡ onesIn w = omega (arith, b, f .0, f .1) in
+    let t = pickOf 2 (zerosIn w) (onesIn w) in
+    let k : x ≡ cells 2 t * threeSpace + t * (blockSpace + 1) = e ∙ ap₂ blockOf z o ∙ ap entryOf (pick-some 2 (zerosIn w) (onesIn w) (f .2)) in
+    let d = digits (cells 2 t) t x (inside 2 (zerosIn w) (onesIn w) (f .2)) k in
+    rw (d .0, d .1)
+
+-- three inputs: the pair is two places
+pub three-place : (w : ℕ) → w < 2 ^ pairBits → Fit 3 w → w / entries < entries
+three-place w l f = omega (arith, two-bytes w l (f .0) (f .1))
+
+pub three-inputs : (w x : ℕ) → w < 2 ^ pairBits → PickShown 3 threeSpace (zerosAt (w % entries) (w / entries)) (onesAt (w % entries) (w / entries)) x
+    → Fit 3 w → x / threeSpace * tableSpace + x % threeSpace ≡ rankIn 3 w
+unfolding rank
+three-inputs w x l s f =
+    let t = pickOf 3 (zerosIn w) (onesIn w) in
+    let lt : t < threeSpace = inside 3 (zerosIn w) (onesIn w) (f .2) in
+    let k : x ≡ cells 3 t * threeSpace + t =
+    subst (λ o. Shown 3 threeSpace o x) (pick-some 3 (zerosIn w) (onesIn w) (f .2)) (pair-told w x (two-bytes w l (f .0) (f .1)) (f .0) (f .1) s) in
+    omega arith
+
+-- four inputs: the number that shows the pick is its rank
+pub four-inputs : (w x : ℕ) → PickShown 4 tableSpace (zerosIn w) (onesIn w) x → Fit 4 w → x ≡ rankIn 4 w
+unfolding rank
+four-inputs w x s f = subst (λ o. Shown 4 tableSpace o x) (pick-some 4 (zerosIn w) (onesIn w) (f .2)) s
