@@ -53,9 +53,8 @@ pub fn quote_relation(relation: Relation, budget: u32, buffer: &mut [u8]) -> Quo
     let m = relation.m;
     let answer = search::search(relation, budget);
     let mark = answer.mark;
-    match mark {
-        Mark::Best => quote_answer(n, m, answer, buffer),
-        Mark::Stopped => quote_answer(n, m, answer, buffer),
-        Mark::Refused(refusal) => refused_quote(refusal),
+    if let Mark::Refused(refusal) = mark {
+        return refused_quote(refusal);
     }
+    quote_answer(n, m, answer, buffer)
 }
