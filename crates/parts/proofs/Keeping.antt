@@ -29,7 +29,10 @@ use Rattle.relation.specs.Inner.Source.{fits}
 use Rattle.relation.specs.Inner.Masks.{member, withBit, maskOf, narrowed}
 use Rattle.relation.proofs.Decide.{free-both, occurs-intro}
 use Rattle.relation.proofs.Splits.{keep-part, keep-well-defined, occurs-part}
-use Rattle.relation.proofs.Sets.{Narrow, member-sets, narrow-keep, narrowed-narrow, occurs-four, mask-lt, mask-projection, mask-covers}
+use Rattle.relation.proofs.Narrowing.{Narrow, narrow-keep, narrowed-narrow}
+use Rattle.relation.proofs.Members.{member-sets}
+use Rattle.relation.proofs.AllWires.{occurs-all-wires}
+use Rattle.relation.proofs.Masks.{mask-lt, mask-projection, mask-covers}
 use Rattle.branch_bound.specs.Search.{replyTables, total, pick, picks, floor}
 use Rattle.branch_bound.specs.TreeBoard.{tree}
 use Rattle.parts.specs.Inner.Ranks.{tableIn, cellsIn, tablesIn, floorIn}
@@ -181,7 +184,7 @@ module _ (n m : ℕ) (sz : InLimits n m) (sets : List ℕ) (ok : PartSets n m se
         let d = eqb→eq q p e in
         let w = withBit (getD sets p 0) j b in
         let lw : w < 2 ^ (2 ^ m) = subst (λ x. x < 2 ^ (2 ^ m)) set-there (with-sets .small p) in
-        let f : T (occurs m (member w) i (bit t p)) = subst T (occurs-four m w i (bit t p) (sz .wires) lw) still in
+        let f : T (occurs m (member w) i (bit t p)) = subst T (occurs-all-wires m w i (bit t p) (sz .wires) lw) still in
         rw (d, member-sets (narrowed sets p j b) p, set-there) f)
         (λ e.
         let ne : q ≡ p → ⊥ = λ d. T-not (eqb q p) e (eq-test d) in

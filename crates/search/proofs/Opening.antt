@@ -18,7 +18,8 @@ use Rattle.relation.specs.Tests.{ofSets, free, freeWire, compatible, conflict}
 use Rattle.table.specs.Cells.{wires}
 use Rattle.relation.specs.Inner.Masks.{member, sideBySide, valueIn}
 use Rattle.relation.proofs.Decide.{compatible-at, compatible-test, conflict-is, freeWire-is}
-use Rattle.relation.proofs.Sets.{member-sets, free-four, value-four}
+use Rattle.relation.proofs.Members.{member-sets}
+use Rattle.relation.proofs.AllWires.{free-all-wires, value-all-wires}
 use Rattle.relation.proofs.Side.{side-value}
 use Rattle.search.specs.declared.SplitPlace.{SplitPlace}
 use Rattle.search.specs.declared.SplitPlace.the-variants.{Pair, Nowhere}
@@ -75,11 +76,11 @@ module _ {n m : ℕ} (sz : InLimits n m) {sets : List ℕ} (ok : PartSets n m se
       (ev
       ∙ ap (λ x. valueIn x p) es
       ∙ side-value tables p l small
-      ∙ value-four m tables p (sz .wires) (λ j l. ap (λ ts. wires ts j) are ∙ tables-past m (pick (tree n m) (ofSets sets)) j l)
+      ∙ value-all-wires m tables p (sz .wires) (λ j l. ap (λ ts. wires ts j) are ∙ tables-past m (pick (tree n m) (ofSets sets)) j l)
       ∙ ap (λ ts. value m (wires ts) p) are)
 
   pub open-test : (p j : ℕ) → free maxWires (member (getD sets p 0)) j ≡ free m (ofSets sets p) j
-  open-test p j = free-four m (getD sets p 0) j (sz .wires) (ok .small p) ∙ ap (λ S. free m S j) (sym (member-sets sets p))
+  open-test p j = free-all-wires m (getD sets p 0) j (sz .wires) (ok .small p) ∙ ap (λ S. free m S j) (sym (member-sets sets p))
 
   -- every pick fits, so a pattern in conflict has an open wire
   pub some-open : (p : ℕ) → p < 2 ^ n → T (not (ofSets sets p (value m (wires tables) p))) → ((j : ℕ) → j < m → T (not (free m (ofSets sets p) j))) → ⊥

@@ -9,7 +9,8 @@ use lib.Bits.{bitAnd}
 use Rattle.sheet.specs.declared.Command.{Command}
 use Rattle.sheet.specs.declared.Command.the-variants.{End, Row, DontCare, Gate, Output, Limit}
 use Rattle.sheet.specs.declared.Sheet.{Sheet}
-use Rattle.sheet.specs.Commands.{isEmpty, about, wiresOf, isMarked, isDontCare, hasRow, LogicGate, noGate, rowsOn, dontCaresOn, gatesOf, outputsOf, limitsOn}
+use Rattle.sheet.specs.Commands.{isEmpty, about, wiresOf, isMarked, isDontCare, hasRow, rowsOn, dontCaresOn}
+use Rattle.sheet.specs.Commands.{LogicGate, noGate, gatesOf, outputsOf, limitsOn}
 use Rattle.sheet.specs.Limits.{maxPatterns, maxGates, maxOutputs, allOnes}
 use Rattle.sheet.specs.Gathered.{tabulate, meet, gathered, limitOn, gateAt, outputAt, noMark, rowMark, dontCareMark}
 use Rattle.base.proofs.Tabulate.{tabulate-at, tabulate-set}
@@ -110,7 +111,8 @@ module _ (cs : List Command) where
       let none : rowsOn p cs ≡ [] = unmarked-row p cs e in
       simp (collect-snoc, append-nil)
       (rw (
-        about-set (λ q vs. cond (isDontCare q cs) dontCareMark (cond (not (isEmpty vs)) rowMark noMark)) (λ q. rowsOn q cs) p v rowMark h (rw (none, unmarked-care p cs e)),
+        about-set (λ q vs. cond (isDontCare q cs) dontCareMark (cond (not (isEmpty vs)) rowMark noMark))
+            (λ q. rowsOn q cs) p v rowMark h (rw (none, unmarked-care p cs e)),
         about-set (λ q vs. getD vs 0 0) (λ q. rowsOn q cs) p v v h (rw none),
       ))
 
@@ -139,4 +141,6 @@ module _ (cs : List Command) where
   unfolding gathered
   output-adds s h =
       simp (collect-snoc, append-nil, length-append)
-      (rw (tabulate-set maxOutputs (λ i. outputAt i cs) (λ i. getD (outputsOf cs ++ s ∷ []) i 0) (length (outputsOf cs)) s h (sym (getD-append-seam (outputsOf cs) s [] 0)) (getD-snoc-other (outputsOf cs) s 0)))
+      (rw (tabulate-set maxOutputs (λ i. outputAt i cs) (λ i. getD (outputsOf cs ++ s ∷ []) i 0)
+      (length (outputsOf cs)) s h (sym (getD-append-seam (outputsOf cs) s [] 0))
+      (getD-snoc-other (outputsOf cs) s 0)))

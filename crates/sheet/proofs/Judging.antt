@@ -3,11 +3,9 @@ use Prim.Native.Nat.{ℕ, _+_, _<_, _≤_, _^_, min}
 use mathlib.Core.Path.{_≡_, refl, sym, ap, _∙_}
 use mathlib.Core.Bool.{Bool, true, false, cond, not, _||_}
 use mathlib.Core.List.{List, [], _∷_, _++_}
-use native.Mathlib.Nat.{lt-of-lt-of-le}
 use native.Mathlib.Omega.{arith}
 use lib.Dec.{leb, eqb}
 use lib.ListN.{length, getD}
-use lib.Pow.{pow-mono}
 use borrow.Author.Tests.{leb-false, lt-ltb, le-ltb}
 use Rattle.base.specs.Refusals.{refusalAt, noSignal, repeated, tooMany, trailing, missingRow}
 use Rattle.sheet.specs.Limits.{maxInputs, maxPatterns, maxGates, maxOutputs}
@@ -22,6 +20,7 @@ use Rattle.sheet.specs.Inner.Gathering.{faultOf, gatheredReply, accepted
 use Rattle.base.proofs.Lowest.{lowest-cong}
 use Rattle.sheet.proofs.Lists.{isEmpty-nil}
 use Rattle.sheet.proofs.Powers.{uncapped}
+use Rattle.sheet.proofs.Sizes.{pattern-place}
 use Rattle.sheet.proofs.Fields.{mark-field, mark-none, mark-some, mark-test}
 use Rattle.sheet.proofs.Growing.{limited, rowed, freed, gated, led, end-adds, limit-adds, row-adds, dont-care-adds, gate-adds, output-adds}
 
@@ -53,7 +52,8 @@ module _ (before : List Command) (at : ℕ) where
     for-fault d = rw (once, f-is) (by-fault (isNotMade before c) (isTooMany before c) (λ z. d (f-is ∙ z)))
       where
         by-fault : (u t : Bool) → (faultOf u t ≡ 0 → ⊥)
-            → cond u (refused (refusalAt noSignal at)) (cond t (refused (refusalAt tooMany at)) (holds (before ++ c ∷ []))) ≡ refused (refusalAt (faultOf u t) at)
+            → cond u (refused (refusalAt noSignal at)) (cond t (refused (refusalAt tooMany at)) (holds (before ++ c ∷ [])))
+            ≡ refused (refusalAt (faultOf u t) at)
         by-fault true t d = refl
         by-fault false true d = refl
         by-fault false false d = absurd (d refl)
@@ -77,7 +77,8 @@ module _ (before : List Command) (at : ℕ) where
       none : getD (h .marks) p 0 ≡ noMark → isMarked p before ≡ false
       none f = mark-none p before (sym (mark-field before p l) ∙ ap (λ (x : Sheet). getD (x .marks) p 0) (sym e) ∙ f)
 
-      pub row-repeated : (v : ℕ) → (getD (h .marks) p 0 ≡ noMark → ⊥) → gatheredReply (refused (refusalAt repeated at)) ≡ gatheredReply (judged before (Row p v) at)
+      pub row-repeated : (v : ℕ) → (getD (h .marks) p 0 ≡ noMark → ⊥)
+          → gatheredReply (refused (refusalAt repeated at)) ≡ gatheredReply (judged before (Row p v) at)
       unfolding judged
       row-repeated v f = simp (some f)
 
@@ -85,7 +86,8 @@ module _ (before : List Command) (at : ℕ) where
       unfolding judged gatheredReply
       row-taken v f = simp (none f) (ap acceptedReply (rw e (row-adds before p v l (none f))))
 
-      pub dont-care-repeated : (getD (h .marks) p 0 ≡ noMark → ⊥) → gatheredReply (refused (refusalAt repeated at)) ≡ gatheredReply (judged before (DontCare p) at)
+      pub dont-care-repeated : (getD (h .marks) p 0 ≡ noMark → ⊥)
+          → gatheredReply (refused (refusalAt repeated at)) ≡ gatheredReply (judged before (DontCare p) at)
       unfolding judged
       dont-care-repeated f = simp (some f)
 
@@ -137,8 +139,7 @@ module _ (cs : List Command) (h : Sheet) (e : h ≡ gathered cs) (small : inputs
     missing-is =
         r ∙ ap (λ k. lowest k (λ i. eqb (getD (h .marks) i 0) noMark)) count-is
         ∙ lowest-cong (2 ^ inputsOf cs) (λ i. eqb (getD (h .marks) i 0) noMark) (λ i. not (isMarked i cs)) λ i l.
-        let b : i < maxPatterns = lt-of-lt-of-le l (pow-mono {i = inputsOf cs} {j = maxInputs} small) in
-        ap (λ x. eqb x noMark) (ap (λ (x : Sheet). getD (x .marks) i 0) e ∙ mark-field cs i b) ∙ mark-test i cs
+        ap (λ x. eqb x noMark) (ap (λ (x : Sheet). getD (x .marks) i 0) e ∙ mark-field cs i (pattern-place (inputsOf cs) i small l)) ∙ mark-test i cs
 
     pub end-missing : p < count → gatheredReply (refused (refusalAt missingRow p)) ≡ gatheredReply (ending s to cs)
     unfolding ending

@@ -32,7 +32,8 @@ returns-2 : tie.Need-returns-2
 returns-2 c =
     let a = c .before .before .before .before .before .before .before .before .args in
     let f = c .before .before .before .before .before .form in
-    turned-quote (a .sheet .now) (a .budget) (a .buffer .now) (f .result) (f .ensures) (c .before .before .answer .given .0 .0) (c .before .before .answer .given .1) (c .refused-quote .ensures)
+    turned-quote (a .sheet .now) (a .budget) (a .buffer .now) (f .result) (f .ensures)
+    (c .before .before .answer .given .0 .0) (c .before .before .answer .given .1) (c .refused-quote .ensures)
 
 pub quote-spec : {M : Type 1} → statement M
 quote-spec =

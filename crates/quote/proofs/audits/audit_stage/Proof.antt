@@ -52,7 +52,8 @@ returns-2 c =
     let b = c .before in
     let a = b .before .before .before .before .before .before .before .args in
     let d = b .before .before .before .before .before .read-stage in
-    ap (λ f. auditedCase (StageRefused f)) (c .at .ensures) ∙ inputs-differ (a .relation) (a .s .now) (d .result) (d .ensures) (b .before .before .before .enum-told .given .1) (b .if1 .taken)
+    ap (λ f. auditedCase (StageRefused f)) (c .at .ensures)
+    ∙ inputs-differ (a .relation) (a .s .now) (d .result) (d .ensures) (b .before .before .before .enum-told .given .1) (b .if1 .taken)
 
 at-requires-2 : tie.Need-at-requires-2
 at-requires-2 c κs = search needs
@@ -62,7 +63,9 @@ returns-3 c =
     let b = c .before .before .before .before in
     let a = b .before .before .before .before .before .before .before .args in
     let d = b .before .before .before .before .before .read-stage in
-    ap (λ f. auditedCase (StageRefused f)) (c .at2 .ensures) ∙ wires-differ (a .relation) (a .s .now) (d .result) (d .ensures) (b .before .before .before .enum-told .given .1) (b .if1 .left) (c .before .if2 .taken)
+    ap (λ f. auditedCase (StageRefused f)) (c .at2 .ensures)
+    ∙ wires-differ (a .relation) (a .s .now) (d .result) (d .ensures) (b .before .before .before .enum-told .given .1)
+    (b .if1 .left) (c .before .if2 .taken)
 
 allowed-everywhere-requires : tie.Need-allowed-everywhere-requires
 allowed-everywhere-requires c κs =

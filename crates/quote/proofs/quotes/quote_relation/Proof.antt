@@ -47,7 +47,8 @@ returns-2 c =
     let k = c .before .before .before .before in
     let s = k .before in
     let a = s .before .before .args in
-    with-stage (a .relation) (a .budget) (a .buffer .now) (s .search .result) (s .search .ensures) (has-stage (s .search .result .mark) (k .match .keys2)) (q .0) (q .1)
+    with-stage (a .relation) (a .budget) (a .buffer .now) (s .search .result) (s .search .ensures)
+    (has-stage (s .search .result .mark) (k .match .keys2)) (q .0) (q .1)
 
 pub quote-relation-spec : {M : Type 1} → statement M
 quote-relation-spec =

@@ -27,7 +27,8 @@ at-turn : (c : tie.After-out-of-turn)
     let s = a .s .now in
     let at = a .self .at in
     let w = c .before .before .width .result in
-    nextOf s (a .self) ≡ cond (c .out-of-turn .result) (stepRefused outOfTurn at) (cond (ltb (length s - at) w) (stepRefused cutShort at) (ranged s (a .self) w))
+    nextOf s (a .self)
+    ≡ cond (c .out-of-turn .result) (stepRefused outOfTurn at) (cond (ltb (length s - at) w) (stepRefused cutShort at) (ranged s (a .self) w))
 unfolding nextOf
 at-turn c =
     let t2 = c .before in
