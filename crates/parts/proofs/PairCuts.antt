@@ -18,7 +18,7 @@ use Rattle.table.proofs.Bits.{sum-cong, sum-but-one, bit-lt, bit-ofBits, ofBits
 use Rattle.table.proofs.BitColumns.{isOne-lt-two}
 use Rattle.relation.specs.Tests.{occurs}
 use Rattle.relation.specs.Inner.Masks.{member, withBit, narrowed, cut}
-use Rattle.relation.proofs.Sets.{mask-narrowed}
+use Rattle.relation.proofs.Masks.{mask-narrowed}
 use Rattle.parts.specs.Inner.Pairs.{bothSides, pairOf, sidesOf, cutPair}
 use Rattle.parts.proofs.PairBits.{paired-back}
 use Rattle.parts.proofs.PairSums.{pair-zeros, pair-ones}

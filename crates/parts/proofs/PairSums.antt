@@ -16,8 +16,8 @@ use Rattle.table.proofs.Bits.{sum-cong, sum-le, sum-short, tabulate-at, tabulat
 use Rattle.table.proofs.BitColumns.{isOne-lt-two}
 use Rattle.relation.specs.Tests.{occurs}
 use Rattle.relation.specs.Inner.Masks.{member, maskOf, NonePast}
-use Rattle.relation.proofs.Columns.{found-lt}
-use Rattle.relation.proofs.Sets.{member-sets, none-occurs, mask-bit}
+use Rattle.relation.proofs.Masks.{found-lt, none-occurs, mask-bit}
+use Rattle.relation.proofs.Members.{member-sets}
 use Rattle.parts.specs.Inner.Pairs.{bothSides, pairOf, pairsOf, sidesOf}
 use Rattle.parts.proofs.PairBits.{paired-ones, paired-zeros}
 

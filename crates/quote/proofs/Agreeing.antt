@@ -1,6 +1,6 @@
 -- The audit says yes exactly where the stage is a rival, with its cells; so it says yes to a quote's own stage, with the cells quoted.
 use Prim.Native.Nat.{ℕ, _^_}
-use mathlib.Core.Path.{_≡_, refl, sym, ap, ap₂, subst, _∙_}
+use mathlib.Core.Path.{_≡_, refl, sym, ap, ap₂, _∙_}
 use mathlib.Core.Logic.{⊎-elim, _↔_}
 use mathlib.Core.Bool.{_&&_}
 use mathlib.Core.List.{List}
@@ -96,7 +96,9 @@ module _ (sheet stage : List ℕ) (c : ℕ) where
           counted = ap (λ (x : Case). x .value) counted;
         })
         (λ k.
-        let z : accepting differsOutcome (size trees) ≡ accepting fitsOutcome c = rw (test-yes (eqb n (inputsOf cs) && eqb m (wiresOf cs)) t, test-no (keepsTo (relationIn cs) trees) k) at h in never z (λ o. omega arith))
+        let z : accepting differsOutcome (size trees) ≡ accepting fitsOutcome c =
+        rw (test-yes (eqb n (inputsOf cs) && eqb m (wiresOf cs)) t, test-no (keepsTo (relationIn cs) trees) k) at h in
+        never z (λ o. omega arith))
         (decide (keepsTo (relationIn cs) trees)))
         (λ t. let z : sizesApart ≡ accepting fitsOutcome c = rw (test-no (eqb n (inputsOf cs) && eqb m (wiresOf cs)) t) at h in never z (λ o. omega arith))
         (decide (eqb n (inputsOf cs) && eqb m (wiresOf cs)))
@@ -140,7 +142,8 @@ module _ (sheet stage : List ℕ) (c : ℕ) where
 
 -- auditing a quote's own stage says yes with the cells quoted
 pub own-audit : (sheet : List ℕ) (budget : ℕ) (buffer : List ℕ) → Quotes (quotedOf sheet budget (length buffer))
-    → auditedOf sheet (take (quotedOf sheet budget (length buffer) .length) (bufferQuoted sheet budget buffer)) ≡ accepting fitsOutcome (quotedOf sheet budget (length buffer) .cells)
+    → auditedOf sheet (take (quotedOf sheet budget (length buffer) .length) (bufferQuoted sheet budget buffer))
+    ≡ accepting fitsOutcome (quotedOf sheet budget (length buffer) .cells)
 own-audit sheet budget buffer a =
     audit-yes sheet (take (quotedOf sheet budget (length buffer) .length) (bufferQuoted sheet budget buffer)) (quotedOf sheet budget (length buffer) .cells) .1
     (promised sheet budget buffer .own a)

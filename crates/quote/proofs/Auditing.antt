@@ -2,7 +2,7 @@
 use Prim.Native.Nat.{ℕ, _^_, _<_, _≤_}
 use mathlib.Core.Path.{_≡_, refl, sym, ap, ap₂, _∙_}
 use mathlib.Core.Bool.{Bool, true, false, cond}
-use mathlib.Core.List.{List, [], _∷_, map}
+use mathlib.Core.List.{List, map}
 use native.Mathlib.Omega.{arith}
 use borrow.Author.Tests.{eq-eqb, ne-eqb}
 use lib.Dec.{eqb, ltb}
@@ -12,7 +12,7 @@ use Rattle.base.specs.declared.Refusal.{Refusal}
 use Rattle.base.specs.Cases.{accepting, refusing, refusedOutcome, secondRefusedOutcome}
 use Rattle.sheet.specs.Limits.{maxInputs, maxWires}
 use Rattle.base.proofs.Tabulate.{tabulate-at, tabulate-entry}
-use Rattle.table.specs.Bits.{bit, all, ofBits, tabulate}
+use Rattle.table.specs.Bits.{bit, all, tabulate}
 use Rattle.table.specs.Tree.{Tree, Ordered}
 use Rattle.table.proofs.Bits.{all-cong}
 use Rattle.relation.specs.declared.Relation.{Relation}
@@ -20,7 +20,7 @@ use Rattle.relation.specs.Source.{value}
 use Rattle.relation.specs.Tests.{ofSets}
 use Rattle.table.specs.Cells.{cells, wires}
 use Rattle.relation.specs.Handed.{relationOf}
-use Rattle.relation.proofs.Sets.{value-four}
+use Rattle.relation.proofs.AllWires.{value-all-wires}
 use Rattle.stage_reader.specs.declared.StageRead.{StageRead}
 use Rattle.stage_reader.specs.Cases.{stageReply}
 use Rattle.base.specs.Each.{Each}
@@ -50,7 +50,7 @@ pub value-trees : (n : ℕ) (trees : List Tree) → length trees ≤ maxWires �
 unfolding stageTables value tableOf drawnTable
 value-trees n trees few o p lp =
     let f : ℕ → ℕ = λ j. getD (map (tableOf n) trees) j 0 in
-    value-four (length trees) (tabulate maxWires f) p few
+    value-all-wires (length trees) (tabulate maxWires f) p few
     (λ j l. tabulate-entry maxWires f j ∙ past j (ltb j maxWires) (map-past (tableOf n) trees j l))
     ∙ value-cong (length trees) (wires (tabulate maxWires f)) (wires (map (tableOf n) trees)) p (λ j l. tabulate-at maxWires f j (omega arith))
     ∙ value-tables treeDrawing n (cells n) (tree-counts n) trees o p lp
@@ -65,7 +65,8 @@ keeps-is : (r : Relation) (bytes : List ℕ) (m : ℕ) (trees : List Tree) → r
 unfolding keepsTo relationOf ofSets
 keeps-is r bytes m trees e =
     let st = accepted bytes (r .n) m trees e in
-    all-cong (2 ^ r .n) (λ p. ofSets (r .sets) p (value maxWires (wires (stageTables (r .n) trees)) p)) (λ p. relationOf r p (drawnValue treeDrawing (r .n) trees p))
+    all-cong (2 ^ r .n) (λ p. ofSets (r .sets) p (value maxWires (wires (stageTables (r .n) trees)) p))
+    (λ p. relationOf r p (drawnValue treeDrawing (r .n) trees p))
     (λ p l.
     ap₂ (λ w v. eqb (bit w v) 1) (sym (getD-take (2 ^ r .n) (r .sets) p 0 l))
     (value-trees (r .n) trees (omega (arith, st .one-each, st .sizes .m-most)) (st .ordered) p l))

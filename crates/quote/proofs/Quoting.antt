@@ -28,7 +28,8 @@ use Rattle.quote.proofs.Demand.{promised}
 -- the writer's answer taken over
 module _ (a : Answer) (w : Written) {x : Case} (e : writtenCase w ≡ x) where
   pub with-length : (k : ℕ) → w ≡ Length k
-      → _≡_ {A = QuoteReply} (record { cells = a .cells; floor = a .floor; visits = a .visits; length = k; mark = markCase (a .mark) }) (withStage (searchReply a) x)
+      → _≡_ {A = QuoteReply} (record { cells = a .cells; floor = a .floor; visits = a .visits; length = k; mark = markCase (a .mark) })
+      (withStage (searchReply a) x)
   unfolding withStage
   with-length k d = rw (← (ap writtenCase (sym d) ∙ e))
 
@@ -38,13 +39,15 @@ module _ (a : Answer) (w : Written) {x : Case} (e : writtenCase w ≡ x) where
 
 module _ (r : Relation) (budget : ℕ) (buffer : List ℕ) (a : Answer) (ea : searchReply a ≡ searchOf r budget) where
   -- the search has a stage
-  pub with-stage : {q : QuoteReply} {b : List ℕ} → isRefused (markCase (a .mark)) ≡ false → q ≡ withStage (searchReply a) (writtenOf (r .n) (r .m) (a .tables) (length buffer))
+  pub with-stage : {q : QuoteReply} {b : List ℕ} → isRefused (markCase (a .mark)) ≡ false
+      → q ≡ withStage (searchReply a) (writtenOf (r .n) (r .m) (a .tables) (length buffer))
       → b ≡ bufferAfter (r .n) (r .m) (a .tables) buffer → (q ≡ searched r budget (length buffer)) × (b ≡ bufferSearched r budget buffer)
   unfolding searched bufferSearched
   with-stage h eq eb = (eq ∙ rw (← ea, h), eb ∙ rw (← ea, h))
 
   -- the search refuses the relation
-  pub no-stage : {q : QuoteReply} (f : Refusal) → a .mark ≡ Refused f → q ≡ refusedQuote f → (q ≡ searched r budget (length buffer)) × (buffer ≡ bufferSearched r budget buffer)
+  pub no-stage : {q : QuoteReply} (f : Refusal) → a .mark ≡ Refused f → q ≡ refusedQuote f
+      → (q ≡ searched r budget (length buffer)) × (buffer ≡ bufferSearched r budget buffer)
   unfolding searched bufferSearched
   no-stage f e eq = (eq ∙ rw (← ea, e), rw (← ea, e))
 

@@ -131,8 +131,10 @@ module _ (sheet : List ℕ) (cs : List Command) (held : readingOf sheet ≡ hold
   either b e buffer w ew =
       ⊎-elim
       (λ t.
-      let ew′ : w ≡ refusedCase (refusalAt shortBuffer (length stage)) = ew ∙ rw (lt-ltb (length buffer) (length stage) (ltb→lt (length buffer) (length stage) t)) in
-      rw ew′ (refused-promise sheet budget buffer (refusalAt shortBuffer (length stage)) (other-number sheet (refusalAt shortBuffer (length stage)) (trees r passes budget) own-rival (λ h. omega arith))))
+      let ew′ : w ≡ refusedCase (refusalAt shortBuffer (length stage)) =
+      ew ∙ rw (lt-ltb (length buffer) (length stage) (ltb→lt (length buffer) (length stage) t)) in
+      rw ew′ (refused-promise sheet budget buffer (refusalAt shortBuffer (length stage))
+      (other-number sheet (refusalAt shortBuffer (length stage)) (trees r passes budget) own-rival (λ h. omega arith))))
       (λ t.
       let ew′ : w ≡ accepting acceptedOutcome (length stage) = ew ∙ rw (le-ltb (length buffer) (length stage) (nltb→le (length buffer) (length stage) t)) in
       rw ew′ (written-promise b e buffer))
@@ -141,7 +143,8 @@ module _ (sheet : List ℕ) (cs : List Command) (held : readingOf sheet ≡ hold
   -- the whole search and its stage
   marked : (b : Bool) → found r passes budget .stopped ≡ b → (buffer : List ℕ) (w : Case)
       → w ≡ cond (ltb (length buffer) (length stage)) (refusedCase (refusalAt shortBuffer (length stage))) (accepting acceptedOutcome (length stage))
-      → Promised treeDrawing sheet budget (cond (isRefused (markOf b)) (noQuote (markOf b)) (withStage (answer b) w)) (cond (isRefused (markOf b)) buffer (bufferWith stage buffer w))
+      → Promised treeDrawing sheet budget (cond (isRefused (markOf b)) (noQuote (markOf b)) (withStage (answer b) w))
+      (cond (isRefused (markOf b)) buffer (bufferWith stage buffer w))
   unfolding markOf
   marked true e buffer w ew = either true e buffer w ew
   marked false e buffer w ew = either false e buffer w ew
@@ -150,4 +153,6 @@ module _ (sheet : List ℕ) (cs : List Command) (held : readingOf sheet ≡ hold
   unfolding searched bufferSearched bufferAfter answerOf
   searched-promise buffer =
       rw (answered r long passes budget)
-      (marked (found r passes budget .stopped) refl buffer (writtenOf (r .n) (r .m) (found r passes budget .tables) (length buffer)) (written r passes budget (length buffer)))
+      (marked (found r passes budget .stopped) refl buffer
+      (writtenOf (r .n) (r .m) (found r passes budget .tables) (length buffer))
+      (written r passes budget (length buffer)))

@@ -47,15 +47,15 @@ fn quote_answer(n: u8, m: u8, answer: Answer, buffer: &mut [u8]) -> Quoted
 
 // The relation searched, and the stage found written.
 pub fn quote_relation(relation: Relation, budget: u32, buffer: &mut [u8]) -> Quoted
-    ensures { λ r. ⌜ (quoteReply r ≡ searched relation budget (length (now (buffer .entry)))) × (now (buffer .exit) ≡ bufferSearched relation budget (now (buffer .entry))) ⌝ }
+    ensures { λ r. ⌜ (quoteReply r ≡ searched relation budget (length (now (buffer .entry))))
+        × (now (buffer .exit) ≡ bufferSearched relation budget (now (buffer .entry))) ⌝ }
 {
     let n = relation.n;
     let m = relation.m;
     let answer = search::search(relation, budget);
     let mark = answer.mark;
-    match mark {
-        Mark::Best => quote_answer(n, m, answer, buffer),
-        Mark::Stopped => quote_answer(n, m, answer, buffer),
-        Mark::Refused(refusal) => refused_quote(refusal),
+    if let Mark::Refused(refusal) = mark {
+        return refused_quote(refusal);
     }
+    quote_answer(n, m, answer, buffer)
 }

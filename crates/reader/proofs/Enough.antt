@@ -17,7 +17,8 @@ spent : (k : ℕ) (s : List ℕ) (at : ℕ) (before : List Command) → length s
 unfolding readingFrom oneCommand nextOf
 spent k s at before l = simp (le-leb (length s) at l)
 
-pub enough : (j k : ℕ) (s : List ℕ) (at : ℕ) (before : List Command) → length s ≤ j + at → length s ≤ k + at → readingFrom j s at before ≡ readingFrom k s at before
+pub enough : (j k : ℕ) (s : List ℕ) (at : ℕ) (before : List Command)
+    → length s ≤ j + at → length s ≤ k + at → readingFrom j s at before ≡ readingFrom k s at before
 unfolding readingFrom
 enough zero zero s at before p q = refl
 enough zero (suc k) s at before p q = sym (spent k s at before (omega arith))

@@ -1,5 +1,6 @@
 -- Laws of reading unit sheets.
 pub mod Replies
+pub mod InRange
 pub mod Steps
 pub mod Passages
 pub mod Turns

@@ -33,11 +33,12 @@ next-early : (s : List ℕ) (r : Reader) → EarlyStep (nextOf s r)
 unfolding nextOf
 next-early s r =
     let b = getD s (r .at) 0 in
+    let c = commandOf b (getD s (r .at + 1) 0) (getD s (r .at + 2) 0) (getD s (r .at + 3) 0) in
     cond-has EarlyStep (leb (length s) (r .at)) (λ _. omega arith)
     (λ _. cond-has EarlyStep (eqb (widthOf b) 0) (λ _. omega arith)
     (λ _. cond-has EarlyStep (isOutOfTurn (r .started) b) (λ _. omega arith)
     (λ _. cond-has EarlyStep (ltb (length s - r .at) (widthOf b)) (λ _. omega arith)
-    (λ _. cond-has EarlyStep (isOutOfRange (r .n) (r .m) (commandOf b (getD s (r .at + 1) 0) (getD s (r .at + 2) 0) (getD s (r .at + 3) 0))) (λ _. omega arith) (λ _. tt)))))
+    (λ _. cond-has EarlyStep (isOutOfRange (r .n) (r .m) c) (λ _. omega arith) (λ _. tt)))))
 
 judged-early : (before : List Command) (c : Command) (at : ℕ) → Early (judged before c at)
 unfolding judged
@@ -62,7 +63,8 @@ one-early : (s : List ℕ) (at : ℕ) (before : List Command) → EarlyPassage (
 unfolding oneCommand
 one-early s at before = step-early s at before (nextOf s (readerAt at before)) (next-early s (readerAt at before))
 
-continued-early : (go : ℕ → List Command → Reading) → ((to : ℕ) (cs : List Command) → Early (go to cs)) → (x : Passage) → EarlyPassage x → Early (continued go x)
+continued-early : (go : ℕ → List Command → Reading) → ((to : ℕ) (cs : List Command) → Early (go to cs))
+    → (x : Passage) → EarlyPassage x → Early (continued go x)
 continued-early go h (over x) e = e
 continued-early go h (on cs to) e = h to cs
 

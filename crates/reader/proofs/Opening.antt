@@ -18,7 +18,8 @@ use Rattle.reader.proofs.Passages.{InOrder}
 -- 01 comes first; after it n and m stay
 pub data Opening (before : List Command) : Command → Type 0 where
   opens : (n m : ℕ) → before ≡ [] → Opening before (Sizes n m)
-  stays : {c : Command} → isSizes c ≡ false → isEmpty before ≡ false → inputsOf (before ++ c ∷ []) ≡ inputsOf before → wiresOf (before ++ c ∷ []) ≡ wiresOf before → Opening before c
+  stays : {c : Command} → isSizes c ≡ false → isEmpty before ≡ false
+      → inputsOf (before ++ c ∷ []) ≡ inputsOf before → wiresOf (before ++ c ∷ []) ≡ wiresOf before → Opening before c
 
 later : (before : List Command) (c : Command) → isEmpty before ≡ false → inputsIn c ≡ [] → wiresIn c ≡ [] → Opening before c
 later before c f i w =

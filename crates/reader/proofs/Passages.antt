@@ -89,7 +89,8 @@ some [] cs (grown c o) = refl
 some (x ∷ before) cs (grown c o) = refl
 
 -- what holds of no commands, and of one more in order where it holds of those before, holds of the commands of every sheet
-module _ (P : List Command → Type 0) (none : P []) (more : (before : List Command) (c : Command) → P before → InOrder before c → P (before ++ c ∷ [])) (s : List ℕ) where
+module _ (P : List Command → Type 0) (none : P [])
+    (more : (before : List Command) (c : Command) → P before → InOrder before c → P (before ++ c ∷ [])) (s : List ℕ) where
   kept : (before cs : List Command) → P before → Grown before cs → P cs
   kept before cs p (grown c o) = more before c p o
 
@@ -102,7 +103,9 @@ module _ (P : List Command → Type 0) (none : P []) (more : (before : List Comm
       go : (x : Passage) → PassageTells s at before x → continued (readingFrom k s) x ≡ holds cs
           → ((to : ℕ) (x : List Command) → P x → readingFrom k s to x ≡ holds cs → P cs × Complete cs × (isEmpty cs ≡ false))
           → P cs × Complete cs × (isEmpty cs ≡ false)
-      go (over (holds x)) t e ih = let z : x ≡ cs = cc in subst (λ y. P y × Complete y × (isEmpty y ≡ false)) z (kept before x p (t .0), t .1, some before x (t .0))
+      go (over (holds x)) t e ih =
+          let z : x ≡ cs = cc in
+          subst (λ y. P y × Complete y × (isEmpty y ≡ false)) z (kept before x p (t .0), t .1, some before x (t .0))
       go (over (refused f)) t e ih = let z : _≡_ {A = ℕ} 0 1 = cc in absurd (omega arith)
       go (on x to) t e ih = ih to x (kept before x p (t .0)) e
 

@@ -1,5 +1,5 @@
 -- What is known of the commands that a sheet holds.
-use Prim.Native.Nat.{ℕ, _<_, _≤_, _^_}
+use Prim.Native.Nat.{ℕ, _<_, _^_}
 use mathlib.Core.Path.{_≡_, sym}
 use mathlib.Core.List.{List}
 use native.Mathlib.Nat.{not-suc-le-zero}

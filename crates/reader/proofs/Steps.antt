@@ -1,17 +1,13 @@
 -- What the reader tells where it hands back a command.
-use Prim.Native.Nat.{ℕ, _+_, _-_, _<_, _≤_, _^_}
+use Prim.Native.Nat.{ℕ, _+_, _-_, _<_, _≤_}
 use mathlib.Core.Path.{_≡_, refl, sym, subst, _∙_}
-use mathlib.Core.Bool.{Bool, true, false, cond, not, _||_}
+use mathlib.Core.Bool.{Bool, true, false, cond, not}
 use mathlib.Core.List.{List, [], _∷_, _++_, append-nil}
-use native.Mathlib.Nat.{lt-of-lt-of-le}
 use native.Mathlib.Omega.{arith}
 use lib.Dec.{T, eqb, eqb→eq, leb, ltb, nleb→lt, nltb→le}
 use lib.ListN.{length, getD}
-use lib.Pow.{pow-mono}
-use borrow.Author.Tests.{leb-false, ltb-false, eqb-false}
-use Rattle.sheet.specs.Limits.{maxInputs, maxPatterns, isBeyond}
-use Rattle.base.proofs.Tests.{neither, cond-has, test-yes, test-no}
-use Rattle.sheet.proofs.Sizes.{sizes-in}
+use borrow.Author.Tests.{eqb-false}
+use Rattle.base.proofs.Tests.{cond-has, test-yes, test-no}
 use Rattle.sheet.specs.declared.Command.{Command}
 use Rattle.sheet.specs.declared.Command.the-variants.{End, Sizes, Row, DontCare, Gate, Output, Limit}
 use Rattle.reader.specs.declared.Reader.{Reader}
@@ -19,8 +15,7 @@ use Rattle.reader.specs.declared.Step.{Step}
 use Rattle.reader.specs.declared.Step.the-variants.{Read, Refused}
 use Rattle.sheet.specs.Commands.{isEmpty, collect, isSizes, inputsIn, wiresIn}
 use Rattle.reader.specs.Reader.{widthOf, commandOf, isOutOfTurn, isOutOfRange, readerAt, movedPast, nextOf}
-use Rattle.sheet.specs.Inner.Gathering.{patternOf}
-use Rattle.sheet.proofs.Lists.{never, collect-snoc, isEmpty-nil, isEmpty-append}
+use Rattle.sheet.proofs.Lists.{collect-snoc, isEmpty-nil, isEmpty-append}
 
 -- the command c with the reader t moved past it, handed back by the reader r
 pub record HandedBack (s : List ℕ) (r : Reader) (c : Command) (t : Reader) : Type 0 where
@@ -91,35 +86,13 @@ next-tells s r =
 pub handed-back : (s : List ℕ) (r : Reader) (c : Command) (t : Reader) → nextOf s r ≡ Read c t → HandedBack s r c t
 handed-back s r c t e = subst (StepTells s r) e (next-tells s r)
 
-below : (n p : ℕ) → n ≤ maxInputs → isBeyond n p ≡ false → p < maxPatterns
-below n p h e = lt-of-lt-of-le (leb-false (2 ^ n) p e) (pow-mono {i = n} {j = maxInputs} h)
-
--- a command in range names a pattern that a sheet has room for
-pub pattern-fits : (n m : ℕ) (c : Command) → n ≤ maxInputs → isOutOfRange n m c ≡ false → patternOf c < maxPatterns
-pattern-fits n m End h e = omega arith
-pattern-fits n m (Sizes n′ m′) h e = omega arith
-pattern-fits n m (Row p v) h e = below n p h (neither (isBeyond n p) (isBeyond m v) e .0)
-pattern-fits n m (DontCare p) h e = below n p h e
-pattern-fits n m (Gate k a b) h e = omega arith
-pattern-fits n m (Output s) h e = omega arith
-pattern-fits n m (Limit p w) h e = below n p h (neither (isBeyond n p) (isBeyond (2 ^ m) w) e .0)
-
--- the inputs stay in range
-pub inputs-fit : (r : Reader) (c : Command) (to : ℕ) → r .n ≤ maxInputs → isOutOfRange (r .n) (r .m) c ≡ false → movedPast r c to .n ≤ maxInputs
-inputs-fit r End to h e = h
-inputs-fit r (Sizes n m) to h e = sizes-in n m e .n-most
-inputs-fit r (Row p v) to h e = h
-inputs-fit r (DontCare p) to h e = h
-inputs-fit r (Gate k a b) to h e = h
-inputs-fit r (Output s) to h e = h
-inputs-fit r (Limit p w) to h e = h
-
 plain : (at to : ℕ) (before : List Command) (c : Command) → inputsIn c ≡ [] → wiresIn c ≡ [] → isEmpty before ≡ false
     → movedPast (readerAt at before) c to ≡ readerAt to (before ++ c ∷ [])
 plain at to before c i w e = simp (i, w, collect-snoc, isEmpty-append, append-nil, e)
 
 -- the reader past the commands before and one more is the reader that `next` hands back
-pub reader-moved : (at to : ℕ) (before : List Command) (c : Command) → isSizes c ≡ isEmpty before → movedPast (readerAt at before) c to ≡ readerAt to (before ++ c ∷ [])
+pub reader-moved : (at to : ℕ) (before : List Command) (c : Command) → isSizes c ≡ isEmpty before
+    → movedPast (readerAt at before) c to ≡ readerAt to (before ++ c ∷ [])
 unfolding collect
 reader-moved at to before (Sizes n m) e = rw (isEmpty-nil before (sym e))
 reader-moved at to before End e = plain at to before End refl refl (sym e)

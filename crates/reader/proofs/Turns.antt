@@ -30,11 +30,13 @@ use Rattle.reader.specs.Inner.Turns.{doneWith, turnOf}
 use Rattle.sheet.specs.Inner.Gathering.{gatheredReply}
 use Rattle.sheet.proofs.Fields.{nothing}
 use Rattle.reader.proofs.Replies.{reply-told, refused-reply}
-use Rattle.reader.proofs.Steps.{twice, HandedBack, reader-moved, inputs-fit}
+use Rattle.reader.proofs.Steps.{twice, HandedBack, reader-moved}
+use Rattle.reader.proofs.InRange.{inputs-fit}
 use Rattle.reader.proofs.Passages.{Grown, grown, JudgedTells, judged-tells, PassageTells, passage-tells}
 
 -- an accepted command is one more
-accepted-holds : (before : List Command) (c : Command) (x : Reading) → JudgedTells before c x → gatheredReply x .answer ≡ Accepted → x ≡ holds (before ++ c ∷ [])
+accepted-holds : (before : List Command) (c : Command) (x : Reading) → JudgedTells before c x
+    → gatheredReply x .answer ≡ Accepted → x ≡ holds (before ++ c ∷ [])
 unfolding gatheredReply
 accepted-holds before c (holds cs) t e = ap holds (t .0)
 accepted-holds before c (refused f) t e = let z : _≡_ {A = ℕ} 0 1 = cc in absurd (omega arith)
@@ -54,7 +56,8 @@ module _ (before : List Command) (c : Command) (at : ℕ) (h : Reply) (e : h ≡
   unfolding gatheredReply
   accepted-sheet f = ap (λ (x : Reply). x .sheet) (e ∙ ap gatheredReply (accepted-is f))
 
-  pub follow-end : (to : ℕ) → h .answer ≡ Accepted → isEnd c ≡ true → doneWith (gatheredReply (ending s to (before ++ c ∷ []))) ≡ turnOf (onward s c to (judged before c at))
+  pub follow-end : (to : ℕ) → h .answer ≡ Accepted → isEnd c ≡ true
+      → doneWith (gatheredReply (ending s to (before ++ c ∷ []))) ≡ turnOf (onward s c to (judged before c at))
   follow-end to f g = rw (accepted-is f, g)
 
   pub follow-on : (t : Reader) → t ≡ readerAt (t .at) (before ++ c ∷ []) → h .answer ≡ Accepted → isEnd c ≡ false
@@ -64,7 +67,8 @@ module _ (before : List Command) (c : Command) (at : ℕ) (h : Reply) (e : h ≡
       rw (accepted-is f, g)
       (ap (λ (x : Sheet). made x (On t)) (accepted-sheet f) ∙ ap (λ (x : Reader). made (gathered cs) (On x)) q)
 
-  pub follow-refused : (to : ℕ) (f : Refusal) → h .answer ≡ Refused f → record { sheet = h .sheet; progress = Done (Refused f) } ≡ turnOf (onward s c to (judged before c at))
+  pub follow-refused : (to : ℕ) (f : Refusal) → h .answer ≡ Refused f
+      → record { sheet = h .sheet; progress = Done (Refused f) } ≡ turnOf (onward s c to (judged before c at))
   follow-refused to f g =
       let x = refused-reply h (judged before c at) (ap sheetReply e ∙ reply-told (judged before c at)) f g in
       rw (x, e, x) (nothing-gathered f)
@@ -97,7 +101,8 @@ pub record Going (s : List ℕ) (left : ℕ) (sheet : Sheet) (reader : Reader) :
   pub small : reader .n ≤ maxInputs
   pub rest : readingFrom left s (reader .at) before ≡ readingOf s
 
-pub going-first : (s : List ℕ) (sheet : Sheet) (reader : Reader) → sheet ≡ gathered (Sizes 0 0 ∷ []) → reader ≡ readerAt 0 [] → Going s (length s - 0) sheet reader
+pub going-first : (s : List ℕ) (sheet : Sheet) (reader : Reader)
+    → sheet ≡ gathered (Sizes 0 0 ∷ []) → reader ≡ readerAt 0 [] → Going s (length s - 0) sheet reader
 unfolding readingOf collect
 going-first s sheet reader e f =
     record {
@@ -113,7 +118,8 @@ still-small before cs h (grown c o) =
     subst (λ (x : Reader). x .n ≤ maxInputs) (reader-moved 0 0 before c (o .first)) (inputs-fit (readerAt 0 before) c 0 h (o .in-range))
 
 module _ (s : List ℕ) (before : List Command) (at k : ℕ) (h : inputsOf before ≤ maxInputs) (t : Turn) where
-  passed : (x : Passage) (r : Reader) → PassageTells s at before x → continued (readingFrom k s) x ≡ readingOf s → t ≡ turnOf x → t .progress ≡ On r → Going s k (t .sheet) r
+  passed : (x : Passage) (r : Reader) → PassageTells s at before x → continued (readingFrom k s) x ≡ readingOf s
+      → t ≡ turnOf x → t .progress ≡ On r → Going s k (t .sheet) r
   passed (over y) r p f e q = let z : _≡_ {A = ℕ} 0 1 = cc in absurd (omega arith)
   passed (on cs to) r p f e q =
       let moved : r ≡ readerAt to cs = on-same (sym q ∙ ap (λ (x : Turn). x .progress) e) in
@@ -129,7 +135,8 @@ module _ (s : List ℕ) (before : List Command) (at k : ℕ) (h : inputsOf befor
       on-same : {a b : Reader} → On a ≡ On b → a ≡ b
       on-same e = cc
 
-  stopped : (x : Passage) (a : Verdict) → continued (readingFrom k s) x ≡ readingOf s → t ≡ turnOf x → t .progress ≡ Done a → record { sheet = t .sheet; answer = a } ≡ gatheredReply (readingOf s)
+  stopped : (x : Passage) (a : Verdict) → continued (readingFrom k s) x ≡ readingOf s
+      → t ≡ turnOf x → t .progress ≡ Done a → record { sheet = t .sheet; answer = a } ≡ gatheredReply (readingOf s)
   stopped (over y) a f e q =
       let answered : a ≡ gatheredReply y .answer = done-same (sym q ∙ ap (λ (x : Turn). x .progress) e) in
       ap (λ (x : Sheet). reply x a) (ap (λ (x : Turn). x .sheet) e) ∙ ap (λ (x : Verdict). reply (gatheredReply y .sheet) x) answered ∙ ap gatheredReply f

@@ -52,7 +52,8 @@ one-gate-more m gs g p l w =
     }
 
 -- the gates with what one command adds
-gates-with : (before : List Command) (c : Command) → GatesWired (wiresOf before) (gatesOf before) → InOrder before c → GatesWired (wiresOf before) (gatesOf before ++ gateIn c)
+gates-with : (before : List Command) (c : Command) → GatesWired (wiresOf before) (gatesOf before)
+    → InOrder before c → GatesWired (wiresOf before) (gatesOf before ++ gateIn c)
 gates-with before (Gate k a b) p o =
     let made = neither (leb (signalsMade before) a) (leb (signalsMade before) b) (o .made) in
     one-gate-more (wiresOf before) (gatesOf before) (record { kind = k; left = a; right = b }) p

@@ -123,7 +123,9 @@ module _ (n m : ℕ) (R : Rel) (X : Tables) where
       ⊎-elim (λ y. y)
       (λ z. absurd
       (T-not (R p (value m X p)) t
-      (rw (value-is m X p (w .0) (w .1) (λ j lj. same-bit m (R p) j (w .0) (bit (X j) p) (bit-cases (X j) p) (w .1) (w .2) (fits-at n m R j (X j) (ft j lj) p l) (z j lj)))
+      (rw (value-is m X p (w .0) (w .1)
+      (λ j lj. same-bit m (R p) j (w .0) (bit (X j) p) (bit-cases (X j) p) (w .1) (w .2)
+      (fits-at n m R j (X j) (ft j lj) p l) (z j lj)))
       (w .2))))
       (lowest-or m (free m (R p))) in
       (h, lowest-is m (free m (R p)) h)

@@ -1,15 +1,15 @@
 -- Laws of the test of a relation that is handed over as numbers: what passing says, and what refusal 10 says.
 use mathlib.Core.Path.{_≡_, refl, sym, ap, _∙_}
 use mathlib.Core.Logic.{⊎-elim}
-use mathlib.Core.Bool.{Bool, true, false, cond, not, _||_}
+use mathlib.Core.Bool.{Bool, true, false, cond, not}
 use mathlib.Core.List.{List}
 use Prim.Native.Nat.{ℕ, _^_, _<_, _≤_}
 use native.Mathlib.Omega.{arith}
-use lib.Dec.{T, T-not, not-T, eqb, ltb, ltb→lt, nltb→le, leb, nleb→lt, leb→le}
+use lib.Dec.{T, not-T, eqb, ltb, ltb→lt, nltb→le, leb, nleb→lt, leb→le}
 use lib.ListN.{getD, take}
 use lib.Seq.{getD-take}
-use borrow.Author.Tests.{ne-eqb, lt-ltb, le-ltb}
-use Rattle.base.proofs.Tests.{decide, eq-test, test-no}
+use borrow.Author.Tests.{lt-ltb, le-ltb}
+use Rattle.base.proofs.Tests.{decide, test-no}
 use Rattle.base.specs.Refusals.{refusalAt, outOfRange, empty}
 use Rattle.base.specs.Cases.{acceptedCase, refusedCase}
 use Rattle.sheet.specs.Limits.{sizesOut}
@@ -25,7 +25,7 @@ use Rattle.relation.specs.Source.{WellDefined}
 use Rattle.relation.specs.Tests.{ofSets, emptyPattern}
 use Rattle.relation.specs.Inner.Masks.{member}
 use Rattle.relation.proofs.Decide.{well-defined-or, empty-not}
-use Rattle.relation.proofs.Columns.{any-member}
+use Rattle.relation.proofs.Members.{any-member}
 
 -- a relation that passes the test
 pub record Fit (r : Relation) : Type 0 where
@@ -118,7 +118,8 @@ fit-passes r f =
 
 -- refusal 10 is told only where some pattern has no value
 emptied : (a b c : Bool) (x y p : ℕ)
-    → cond a (refusedCase (refusalAt outOfRange 0)) (cond b (refusedCase (refusalAt outOfRange x)) (cond c (refusedCase (refusalAt empty y)) acceptedCase)) ≡ refusedCase (refusalAt empty p)
+    → cond a (refusedCase (refusalAt outOfRange 0)) (cond b (refusedCase (refusalAt outOfRange x)) (cond c (refusedCase (refusalAt empty y)) acceptedCase))
+    ≡ refusedCase (refusalAt empty p)
     → T c
 emptied true b c x y p e = absurd (omega (arith, ap (λ c. c .number) e))
 emptied false true c x y p e = absurd (omega (arith, ap (λ c. c .number) e))

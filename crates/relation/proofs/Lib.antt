@@ -1,7 +1,9 @@
 pub mod Decide
 pub mod Splits
-pub mod Columns
+pub mod Members
 pub mod Fits
-pub mod Sets
+pub mod Narrowing
+pub mod AllWires
+pub mod Masks
 pub mod Side
 pub mod Families

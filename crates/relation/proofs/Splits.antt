@@ -128,9 +128,12 @@ split-well-defined n m R p j w o = (
 
 pub split-strict : (n m : ℕ) (R : Rel) (p j : ℕ) → p < 2 ^ n → Open m R p j → StrictPart n m (keep R p j 0) R × StrictPart n m (keep R p j 1) R
 split-strict n m R p j l o = (
-  record { part = keep-part R p j 0; p = p; v = o .1 .0; pattern = l; value = o .1 .1; inside = o .1 .2; outside = λ t. omega (arith, keep-bit R p j 0 (o .1 .0) t, o .1 .3) },
-  record { part = keep-part R p j 1; p = p; v = o .0 .0; pattern = l; value = o .0 .1; inside = o .0 .2; outside = λ t. omega (arith, keep-bit R p j 1 (o .0 .0) t, o .0 .3) },
+  strict 0 (o .1 .0) (o .1 .1) (o .1 .2) (λ t. omega (arith, keep-bit R p j 0 (o .1 .0) t, o .1 .3)),
+  strict 1 (o .0 .0) (o .0 .1) (o .0 .2) (λ t. omega (arith, keep-bit R p j 1 (o .0 .0) t, o .0 .3)),
 )
+  where
+    strict : (b v : ℕ) → v < 2 ^ m → T (R p v) → (T (keep R p j b p v) → ⊥) → StrictPart n m (keep R p j b) R
+    strict b v below here gone = record { part = keep-part R p j b; p = p; v = v; pattern = l; value = below; inside = here; outside = gone }
 
 -- Property 5.4: the two keep every compatible function between them, and share none
 pub split-keeps : (n m : ℕ) (R : Rel) (p j : ℕ) (X : Tables) → j < m

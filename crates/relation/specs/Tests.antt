@@ -1,6 +1,6 @@
 -- The tests and operations on relations that document 01's "Search" names. Each decides or makes what source 001 defines (proofs/).
 use Prim.Native.Nat.{ℕ, _^_}
-use mathlib.Core.Bool.{Bool, true, false, not, _&&_, _||_}
+use mathlib.Core.Bool.{Bool, not, _&&_, _||_}
 use mathlib.Core.List.{List}
 use lib.Dec.{eqb}
 use lib.ListN.{getD}

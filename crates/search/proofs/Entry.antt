@@ -12,7 +12,8 @@ use Rattle.relation.specs.Source.{Rel}
 use Rattle.relation.specs.Tests.{ofSets}
 use Rattle.relation.specs.Inner.Masks.{cleared}
 use Rattle.relation.specs.Handed.{relationOf, checkOf}
-use Rattle.relation.proofs.Sets.{Fit, check-well-formed, cleared-takes, cleared-narrow}
+use Rattle.relation.proofs.Fits.{Fit, check-well-formed}
+use Rattle.relation.proofs.Narrowing.{cleared-takes, cleared-narrow}
 use Rattle.branch_bound.specs.declared.State.{State}
 use Rattle.branch_bound.specs.Reply.{bestOutcome, stoppedOutcome, SearchReply, markOf, answerOf, refusedWith, searchTested, searchOf}
 use Rattle.branch_bound.specs.Search.{floor, start, searchPart, run}

@@ -22,7 +22,7 @@ use Rattle.relation.specs.Source.{Tables}
 use Rattle.relation.specs.Tests.{ofSets, agree}
 use Rattle.relation.specs.Inner.Masks.{maskOf, agreed}
 use Rattle.relation.proofs.Splits.{agree-well-defined}
-use Rattle.relation.proofs.Sets.{agreed-agree, agreed-narrow}
+use Rattle.relation.proofs.Narrowing.{agreed-agree, agreed-narrow}
 use Rattle.base.proofs.Tabulate.{filled-tabulate}
 use Rattle.branch_bound.specs.declared.State.{State}
 use Rattle.branch_bound.specs.Search.{replyTables, pick, left, quick, start}

@@ -14,7 +14,7 @@ use Rattle.relation.specs.Source.{Rel, value}
 use Rattle.relation.specs.Tests.{ofSets, keep, free, openPairs}
 use Rattle.table.specs.Cells.{wires}
 use Rattle.relation.specs.Inner.Masks.{member, withBit, narrowed}
-use Rattle.relation.proofs.Sets.{member-sets}
+use Rattle.relation.proofs.Members.{member-sets}
 use Rattle.relation.proofs.Splits.{keep-closes}
 use Rattle.branch_bound.specs.declared.State.{State}
 use Rattle.branch_bound.specs.Search.{split, searchPart}

@@ -3,10 +3,8 @@ use Prim.Native.Nat.{ℕ, _<_, _≤_, _^_}
 use mathlib.Core.Path.{_≡_, refl, _∙_}
 use mathlib.Core.Bool.{Bool, true, false, cond, not, _||_}
 use mathlib.Core.List.{List, [], _∷_}
-use native.Mathlib.Nat.{lt-of-lt-of-le}
 use native.Mathlib.Omega.{arith}
 use lib.Dec.{eqb}
-use lib.Pow.{pow-mono}
 use Rattle.sheet.specs.Limits.{maxInputs, maxPatterns, maxGates, maxOutputs}
 use lib.ListN.{length, getD}
 use Rattle.sheet.specs.declared.Command.{Command}
@@ -14,6 +12,7 @@ use Rattle.sheet.specs.declared.Command.the-variants.{Sizes}
 use Rattle.sheet.specs.Commands.{collect, inputsOf, wiresOf, isMarked, isDontCare, hasRow, gatesOf, outputsOf, rowsOn, dontCaresOn}
 use Rattle.sheet.specs.Gathered.{tabulate, meet, gathered, noMark, rowMark, dontCareMark, markOn, presentOn, limitOn, gateAt, outputAt}
 use Rattle.base.proofs.Tabulate.{tabulate-at}
+use Rattle.sheet.proofs.Sizes.{pattern-place}
 
 -- without commands nothing is gathered, as with sizes 0
 pub nothing : gathered (Sizes 0 0 ∷ []) ≡ gathered []
@@ -94,7 +93,7 @@ mark-test p cs = by-test (isDontCare p cs) (hasRow p cs)
 
 -- a pattern of a sheet in range has its place in the lists
 pub pattern-room : (cs : List Command) → inputsOf cs ≤ maxInputs → (p : ℕ) → p < 2 ^ inputsOf cs → p < maxPatterns
-pattern-room cs h p l = lt-of-lt-of-le l (pow-mono {i = inputsOf cs} {j = maxInputs} h)
+pattern-room cs h p l = pattern-place (inputsOf cs) p h l
 
 -- a pattern with one 02, and one with a 03
 module _ (cs : List Command) (p : ℕ) (h : p < maxPatterns) where

@@ -9,8 +9,13 @@ use lib.Bits.{bitAnd}
 use Rattle.sheet.specs.declared.Command.{Command}
 use Rattle.sheet.specs.declared.Command.the-variants.{End, Row, DontCare, Gate, Output, Limit}
 use Rattle.sheet.specs.declared.Sheet.{Sheet}
+<<<<<<< HEAD
 use Rattle.sheet.specs.Commands.{isEmpty, about, wiresOf, isMarked, isDontCare, hasRow, LogicGate, noGate, rowsOn, dontCaresOn, gatesOf, outputsOf}
 use Rattle.sheet.specs.Commands.{limitsOn}
+=======
+use Rattle.sheet.specs.Commands.{isEmpty, about, wiresOf, isMarked, isDontCare, hasRow, rowsOn, dontCaresOn}
+use Rattle.sheet.specs.Commands.{LogicGate, noGate, gatesOf, outputsOf, limitsOn}
+>>>>>>> hE
 use Rattle.sheet.specs.Limits.{maxPatterns, maxGates, maxOutputs, allOnes}
 use Rattle.sheet.specs.Gathered.{tabulate, meet, gathered, limitOn, gateAt, outputAt, noMark, rowMark, dontCareMark}
 use Rattle.base.proofs.Tabulate.{tabulate-at, tabulate-set}
@@ -42,22 +47,27 @@ unfolding meet
 meet-snoc w [] x = refl
 meet-snoc w (y ∷ xs) x = meet-snoc (bitAnd w y) xs x
 
--- the sheet with other tables over the patterns
-abbrev tabled : Sheet → List ℕ → List ℕ → List ℕ → Sheet
-tabled h marks values limits =
+-- the sheet with other tables over the patterns, other gates and other outputs
+abbrev remade : Sheet → List ℕ → List ℕ → List ℕ → ℕ → List ℕ → List ℕ → List ℕ → ℕ → List ℕ → Sheet
+remade h marks values limits gates kinds lefts rights outputs signals =
     record {
       n = h .n;
       m = h .m;
       marks = marks;
       values = values;
       limits = limits;
-      «gate_count» = h .«gate_count»;
-      kinds = h .kinds;
-      lefts = h .lefts;
-      rights = h .rights;
-      «output_count» = h .«output_count»;
-      signals = h .signals;
+      «gate_count» = gates;
+      kinds = kinds;
+      lefts = lefts;
+      rights = rights;
+      «output_count» = outputs;
+      signals = signals;
     }
+
+-- with other tables alone
+abbrev tabled : Sheet → List ℕ → List ℕ → List ℕ → Sheet
+tabled h marks values limits =
+    remade h marks values limits (h .«gate_count») (h .kinds) (h .lefts) (h .rights) (h .«output_count») (h .signals)
 
 -- the sheet with a 06 more, a 02 more, a 03 more, a gate more, an output more
 abbrev pub limited : Sheet → ℕ → ℕ → Sheet
@@ -71,35 +81,13 @@ freed h p = tabled h (set (h .marks) p dontCareMark) (h .values) (h .limits)
 
 abbrev pub gated : Sheet → ℕ → ℕ → ℕ → Sheet
 gated h k a b =
-    record {
-      n = h .n;
-      m = h .m;
-      marks = h .marks;
-      values = h .values;
-      limits = h .limits;
-      «gate_count» = h .«gate_count» + 1;
-      kinds = set (h .kinds) (h .«gate_count») k;
-      lefts = set (h .lefts) (h .«gate_count») a;
-      rights = set (h .rights) (h .«gate_count») b;
-      «output_count» = h .«output_count»;
-      signals = h .signals;
-    }
+    let i = h .«gate_count» in
+    remade h (h .marks) (h .values) (h .limits) (i + 1) (set (h .kinds) i k) (set (h .lefts) i a) (set (h .rights) i b) (h .«output_count») (h .signals)
 
 abbrev pub led : Sheet → ℕ → Sheet
 led h s =
-    record {
-      n = h .n;
-      m = h .m;
-      marks = h .marks;
-      values = h .values;
-      limits = h .limits;
-      «gate_count» = h .«gate_count»;
-      kinds = h .kinds;
-      lefts = h .lefts;
-      rights = h .rights;
-      «output_count» = h .«output_count» + 1;
-      signals = set (h .signals) (h .«output_count») s;
-    }
+    let i = h .«output_count» in
+    remade h (h .marks) (h .values) (h .limits) (h .«gate_count») (h .kinds) (h .lefts) (h .rights) (i + 1) (set (h .signals) i s)
 
 -- one command more about the pattern p, in a table made of what is said about each pattern
 about-set {ℓ} : {A : Type ℓ} (f : ℕ → List A → ℕ) (said : ℕ → List A) (p : ℕ) (x : A) (y : ℕ) → p < maxPatterns → y ≡ f p (said p ++ x ∷ [])
@@ -128,7 +116,8 @@ module _ (cs : List Command) where
       let none : rowsOn p cs ≡ [] = unmarked-row p cs e in
       simp (collect-snoc, append-nil)
       (rw (
-        about-set (λ q vs. cond (isDontCare q cs) dontCareMark (cond (not (isEmpty vs)) rowMark noMark)) (λ q. rowsOn q cs) p v rowMark h (rw (none, unmarked-care p cs e)),
+        about-set (λ q vs. cond (isDontCare q cs) dontCareMark (cond (not (isEmpty vs)) rowMark noMark))
+            (λ q. rowsOn q cs) p v rowMark h (rw (none, unmarked-care p cs e)),
         about-set (λ q vs. getD vs 0 0) (λ q. rowsOn q cs) p v v h (rw none),
       ))
 
@@ -157,4 +146,6 @@ module _ (cs : List Command) where
   unfolding gathered
   output-adds s h =
       simp (collect-snoc, append-nil, length-append)
-      (rw (tabulate-set maxOutputs (λ i. outputAt i cs) (λ i. getD (outputsOf cs ++ s ∷ []) i 0) (length (outputsOf cs)) s h (sym (getD-append-seam (outputsOf cs) s [] 0)) (getD-snoc-other (outputsOf cs) s 0)))
+      (rw (tabulate-set maxOutputs (λ i. outputAt i cs) (λ i. getD (outputsOf cs ++ s ∷ []) i 0)
+      (length (outputsOf cs)) s h (sym (getD-append-seam (outputsOf cs) s [] 0))
+      (getD-snoc-other (outputsOf cs) s 0)))

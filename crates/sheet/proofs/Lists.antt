@@ -16,7 +16,8 @@ collect-snoc says [] c = append-nil (says c)
 collect-snoc says (x ∷ cs) c = rw (collect-snoc says cs c) (sym (append-assoc (says x) (collect says cs) (says c)))
 
 -- a command that says nothing of a kind changes nothing of it
-pub silent {ℓ} : {A : Type ℓ} (says : Command → List A) (before : List Command) (c : Command) → says c ≡ [] → collect says (before ++ c ∷ []) ≡ collect says before
+pub silent {ℓ} : {A : Type ℓ} (says : Command → List A) (before : List Command) (c : Command)
+    → says c ≡ [] → collect says (before ++ c ∷ []) ≡ collect says before
 silent says before c e = collect-snoc says before c ∙ ap (λ x. collect says before ++ x) e ∙ append-nil (collect says before)
 
 pub never {ℓ} : {A : Type ℓ} → false ≡ true → A

@@ -1,12 +1,14 @@
--- FairCount and sizes in their ranges.
-use Prim.Native.Nat.{ℕ, _≤_}
+-- Counts and sizes in their ranges, and what then has its place among all patterns and all values.
+use Prim.Native.Nat.{ℕ, _^_, _<_, _≤_}
 use mathlib.Core.Path.{_≡_}
 use mathlib.Core.Bool.{false}
+use native.Mathlib.Nat.{lt-of-lt-of-le}
 use native.Mathlib.Omega.{arith}
 use lib.Dec.{eqb, ltb}
+use lib.Pow.{pow-mono}
 use borrow.Author.Tests.{ne-eqb, le-ltb, eqb-false, ltb-false}
 use Rattle.base.proofs.Tests.{neither}
-use Rattle.sheet.specs.Limits.{maxInputs, maxWires, countOut, sizesOut}
+use Rattle.sheet.specs.Limits.{maxInputs, maxWires, maxPatterns, maxValues, countOut, sizesOut}
 use Rattle.sheet.specs.Inner.Sized.{Sized}
 
 -- a count that is not out of range, and the other way round
@@ -31,3 +33,10 @@ sizes-in n m e =
 
 pub sizes-fit : (n m : ℕ) → Sized n m → sizesOut n m ≡ false
 sizes-fit n m z = rw (count-fits n maxInputs (z .n-least) (z .n-most), count-fits m maxWires (z .m-least) (z .m-most))
+
+-- a pattern of so many inputs, and a value of so many wires, where these are in range
+pub pattern-place : (n p : ℕ) → n ≤ maxInputs → p < 2 ^ n → p < maxPatterns
+pattern-place n p h l = lt-of-lt-of-le l (pow-mono {i = n} {j = maxInputs} h)
+
+pub value-place : (m v : ℕ) → m ≤ maxWires → v < 2 ^ m → v < maxValues
+value-place m v h l = lt-of-lt-of-le l (pow-mono {i = m} {j = maxWires} h)

@@ -15,7 +15,7 @@ ghost use lib.Dec.{leb, eqb};
 ghost use Rattle.base.specs.Lowest.{lowest};
 ghost use Rattle.sheet.specs.Gathered.{gathered, noMark};
 ghost use Rattle.sheet.specs.Limits.{maxPatterns};
-ghost use Rattle.sheet.specs.Inner.Gathering.{acceptedReply, patternOf, Takes, Judges, Adds, Ends};
+ghost use Rattle.sheet.specs.Inner.Gathering.{acceptedReply, patternOf, faultOf, Takes, Judges, Adds, Ends};
 
 // The number of signals there are.
 fn signals_made(m: u8, gates: u8) -> u16
@@ -33,6 +33,19 @@ fn not_made(made: u16, a: u8, b: u8) -> bool
     } else {
         made <= b as u16
     }
+}
+
+// Why a gate or an output is refused: 6 before 8, and 0 where it is taken.
+fn fault_of(unmade: bool, full: bool) -> u8
+    ensures { λ r. ⌜ r ≡ faultOf unmade full ⌝ }
+{
+    if unmade {
+        return Refusal::NO_SIGNAL;
+    }
+    if full {
+        return Refusal::TOO_MANY;
+    }
+    0
 }
 
 // The lowest pattern below count that has no mark, or count.
@@ -112,11 +125,9 @@ impl Sheet {
         ensures { λ r. ⌜ Judges self (Command.Gate kind a b) at r ⌝ }
     {
         let made = signals_made(self.m, self.gate_count);
-        if not_made(made, a, b) {
-            return Reply::refusal(Refusal::at(Refusal::NO_SIGNAL, at));
-        }
-        if Sheet::MAX_GATES <= self.gate_count {
-            return Reply::refusal(Refusal::at(Refusal::TOO_MANY, at));
+        let fault = fault_of(not_made(made, a, b), Sheet::MAX_GATES <= self.gate_count);
+        if fault != 0 {
+            return Reply::refusal(Refusal::at(fault, at));
         }
         let i = self.gate_count as usize;
         self.kinds[i] = kind;
@@ -131,11 +142,9 @@ impl Sheet {
         ensures { λ r. ⌜ Judges self (Command.Output s) at r ⌝ }
     {
         let made = signals_made(self.m, self.gate_count);
-        if made <= s as u16 {
-            return Reply::refusal(Refusal::at(Refusal::NO_SIGNAL, at));
-        }
-        if Sheet::MAX_OUTPUTS <= self.output_count {
-            return Reply::refusal(Refusal::at(Refusal::TOO_MANY, at));
+        let fault = fault_of(made <= s as u16, Sheet::MAX_OUTPUTS <= self.output_count);
+        if fault != 0 {
+            return Reply::refusal(Refusal::at(fault, at));
         }
         let i = self.output_count as usize;
         self.signals[i] = s;

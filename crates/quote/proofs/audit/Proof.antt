@@ -3,10 +3,6 @@ use Rattle.quote.proofs.Auditing.{formed-audit, turned-audit}
 use borrow.Author.Needs.{needs}
 use Rattle.quote.proofs.audit.Statement.{statement}
 use Rattle.quote.proofs.audit.Tie as tie
-use Rattle.quote.proofs.audit.Reads as reads
-use Rattle.quote.proofs.audit.Lts as lts
-use Rattle.quote.proofs.audits.audit_stage.Reads as audit-stage-reads
-use Rattle.unit.proofs.form.Reads as form-reads
 
 form-requires : tie.Need-form-requires
 form-requires c κs = search needs

@@ -2,11 +2,6 @@ use Rattle.quote.proofs.Quoting.{formed-quote, turned-quote}
 use borrow.Author.Needs.{needs}
 use Rattle.quote.proofs.quote.Statement.{statement}
 use Rattle.quote.proofs.quote.Tie as tie
-use Rattle.quote.proofs.quote.Reads as reads
-use Rattle.quote.proofs.quote.Lts as lts
-use Rattle.quote.proofs.quotes.quote_relation.Reads as quote-relation-reads
-use Rattle.quote.proofs.quotes.refused_quote.Reads as refused-quote-reads
-use Rattle.unit.proofs.form.Reads as form-reads
 
 form-requires : tie.Need-form-requires
 form-requires c κs = search needs
@@ -37,7 +32,8 @@ returns-2 : tie.Need-returns-2
 returns-2 c =
     let a = c .before .before .before .before .before .before .before .before .args in
     let f = c .before .before .before .before .before .form in
-    turned-quote (a .sheet .now) (a .budget) (a .buffer .now) (f .result) (f .ensures) (c .before .before .answer .given .0 .0) (c .before .before .answer .given .1) (c .refused-quote .ensures)
+    turned-quote (a .sheet .now) (a .budget) (a .buffer .now) (f .result) (f .ensures)
+    (c .before .before .answer .given .0 .0) (c .before .before .answer .given .1) (c .refused-quote .ensures)
 
 pub quote-spec : {M : Type 1} → statement M
 quote-spec =

@@ -69,7 +69,8 @@ refusal-requires c κs = search needs
 returns-2 : tie.Need-returns-2 Inv-loop μ-loop
 returns-2 c =
     let l = c .before .before .before .loop in
-    ap sheetReply (c .refusal .ensures ∙ ap (λ f. gatheredReply (refused f)) (c .before .at .ensures) ∙ ends _ (l .sheet) (l .reader) _ _ (l .inv .2) (omega arith))
+    ap sheetReply (c .refusal .ensures ∙ ap (λ f. gatheredReply (refused f)) (c .before .at .ensures)
+    ∙ ends _ (l .sheet) (l .reader) _ _ (l .inv .2) (omega arith))
     ∙ reply-told _
 
 pub read-sheet-spec : {M : Type 1} → statement M

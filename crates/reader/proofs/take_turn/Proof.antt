@@ -1,6 +1,7 @@
 use mathlib.Core.Path.{ap, sym, refl, _∙_}
 use Rattle.reader.specs.Inner.Turns.{doneWith, turnOf}
-use Rattle.reader.proofs.Steps.{handed-back, pattern-fits}
+use Rattle.reader.proofs.Steps.{handed-back}
+use Rattle.reader.proofs.InRange.{pattern-fits}
 use Rattle.reader.proofs.Turns.{one-read, one-refused, sizes-first, reader-past, reader-small}
 use borrow.Author.Needs.{needs}
 use Rattle.reader.proofs.take_turn.Statement.{statement}
@@ -43,7 +44,8 @@ returns-2 : tie.Need-returns-2
 returns-2 c before e f =
     let a = c .before .before .before .before .before .before .before .args in
     c .done .ensures ∙ ap doneWith (c .before .refusal .ensures)
-    ∙ ap turnOf (one-refused _ before (a .reader) f _ (sym (c .before .before .before .before .before .next .ensures) ∙ c .before .before .before .step2 .given .1))
+    ∙ ap turnOf (one-refused _ before (a .reader) f _
+    (sym (c .before .before .before .before .before .next .ensures) ∙ c .before .before .before .step2 .given .1))
 
 pub take-turn-spec : {M : Type 1} → statement M
 take-turn-spec =

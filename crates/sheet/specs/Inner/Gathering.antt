@@ -1,8 +1,10 @@
 -- What the steps of the gathering give, where the sheet is what the commands before say.
 use Prim.Native.Nat.{ℕ, _≤_}
 use mathlib.Core.Path.{_≡_}
+use mathlib.Core.Bool.{Bool, cond}
 use mathlib.Core.List.{List, [], _∷_, _++_}
 use lib.ListN.{length}
+use Rattle.base.specs.Refusals.{noSignal, tooMany}
 use Rattle.base.specs.declared.Verdict.the-variants.{Accepted, Refused}
 use Rattle.sheet.specs.declared.Command.{Command}
 use Rattle.sheet.specs.declared.Command.the-variants.{End, Sizes, Row, DontCare, Gate, Output, Limit}
@@ -22,6 +24,10 @@ patternOf (DontCare p) = p
 patternOf (Gate k a b) = 0
 patternOf (Output s) = 0
 patternOf (Limit p w) = p
+
+-- why a gate or an output is refused: a signal that is not made before one too many, and 0 where it is taken
+abbrev pub faultOf : Bool → Bool → ℕ
+faultOf unmade full = cond unmade noSignal (cond full tooMany 0)
 
 -- what commands come to, as the code has it
 abbrev pub acceptedReply : Sheet → Reply

@@ -15,17 +15,13 @@ use Rattle.relation.specs.Source.{value}
 use Rattle.relation.specs.Tests.{ofSets}
 use Rattle.table.specs.Cells.{wires}
 use Rattle.relation.specs.Inner.Masks.{member}
-use Rattle.relation.proofs.Sets.{member-sets}
+use Rattle.relation.proofs.Members.{member-sets}
 use Rattle.quote.proofs.audits.allowed_everywhere.Statement.{statement}
 use Rattle.quote.proofs.audits.allowed_everywhere.Tie as tie
-use Rattle.quote.proofs.audits.allowed_everywhere.Reads as reads
-use Rattle.quote.proofs.audits.allowed_everywhere.Lts as lts
-use Rattle.sheet.proofs.limits.patterns_of.Reads as patterns-of-reads
-use Rattle.relation.proofs.patterns.value_of.Reads as value-of-reads
-use Rattle.relation.proofs.values.contains.Reads as contains-reads
 
 -- the code's test, in the relation's terms
-here : (sets tables : List ℕ) (p : ℕ) {r : Bool} {v : ℕ} → r ≡ member (getD sets p 0) v → v ≡ value maxWires (wires tables) p → r ≡ ofSets sets p (value maxWires (wires tables) p)
+here : (sets tables : List ℕ) (p : ℕ) {r : Bool} {v : ℕ}
+    → r ≡ member (getD sets p 0) v → v ≡ value maxWires (wires tables) p → r ≡ ofSets sets p (value maxWires (wires tables) p)
 here sets tables p er ev = er ∙ ap (member (getD sets p 0)) ev ∙ ap (λ S. S (value maxWires (wires tables) p)) (sym (member-sets sets p))
 
 abbrev Inv-loop : tie.InvT-loop

@@ -1,17 +1,29 @@
-use mathlib.Core.Bool.{true, false}
-use Rattle.quote.specs.Cases.{auditedCase}
+use mathlib.Core.Bool.{Bool, true, false, cond}
+use Rattle.quote.specs.Cases.{auditedCase, fitsOutcome, differsOutcome}
+use Rattle.base.specs.Cases.{accepting}
+use Rattle.stage.specs.Read.{readStage}
+use Rattle.quote.specs.Audit.{auditedStage}
 use Rattle.quote.specs.declared.Audited.the-variants.{StageRefused}
-use mathlib.Core.Path.{sym, ap, _∙_}
+use mathlib.Core.Path.{_≡_, sym, ap, _∙_}
 use Rattle.quote.proofs.Auditing.{stage-refused, inputs-differ, wires-differ, few-inputs, tested}
 use borrow.Author.Needs.{needs}
 use Rattle.quote.proofs.audits.audit_stage.Statement.{statement}
 use Rattle.quote.proofs.audits.audit_stage.Tie as tie
-use Rattle.quote.proofs.audits.audit_stage.Reads as reads
-use Rattle.quote.proofs.audits.audit_stage.Lts as lts
-use Rattle.base.proofs.Refusal.at.Reads as at-reads
-use Rattle.quote.proofs.audits.allowed_everywhere.Reads as allowed-everywhere-reads
-use Rattle.quote.proofs.audits.refused_stage.Reads as refused-stage-reads
-use Rattle.stage_reader.proofs.read_stage.Reads as read-stage-reads
+
+-- the audit where the values have been tested
+by-values : (c : tie.After-allowed-everywhere) (b : Bool) → c .allowed-everywhere .result ≡ b
+    → let r = c .before .before .before .before .before .before .before .before .before .before .before in
+    let a = r .before .before .args in
+    let k = r .read-stage .result .cells in
+    cond b (accepting fitsOutcome k) (accepting differsOutcome k) ≡ auditedStage (a .relation) (readStage (a .s .now))
+by-values c b e =
+    let w = c .before .before .before in
+    let i = w .before .before .before in
+    let o = i .before .before .before in
+    let r = o .before .before in
+    let a = r .before .before .args in
+    tested (a .relation) (a .s .now) (r .read-stage .result) (r .read-stage .ensures) (o .enum-told .given .1)
+    (i .if1 .left) (w .if2 .left) b (sym e ∙ c .allowed-everywhere .ensures)
 
 read-stage-requires : tie.Need-read-stage-requires
 read-stage-requires c κs = search needs
@@ -40,7 +52,8 @@ returns-2 c =
     let b = c .before in
     let a = b .before .before .before .before .before .before .before .args in
     let d = b .before .before .before .before .before .read-stage in
-    ap (λ f. auditedCase (StageRefused f)) (c .at .ensures) ∙ inputs-differ (a .relation) (a .s .now) (d .result) (d .ensures) (b .before .before .before .enum-told .given .1) (b .if1 .taken)
+    ap (λ f. auditedCase (StageRefused f)) (c .at .ensures)
+    ∙ inputs-differ (a .relation) (a .s .now) (d .result) (d .ensures) (b .before .before .before .enum-told .given .1) (b .if1 .taken)
 
 at-requires-2 : tie.Need-at-requires-2
 at-requires-2 c κs = search needs
@@ -50,7 +63,9 @@ returns-3 c =
     let b = c .before .before .before .before in
     let a = b .before .before .before .before .before .before .before .args in
     let d = b .before .before .before .before .before .read-stage in
-    ap (λ f. auditedCase (StageRefused f)) (c .at2 .ensures) ∙ wires-differ (a .relation) (a .s .now) (d .result) (d .ensures) (b .before .before .before .enum-told .given .1) (b .if1 .left) (c .before .if2 .taken)
+    ap (λ f. auditedCase (StageRefused f)) (c .at2 .ensures)
+    ∙ wires-differ (a .relation) (a .s .now) (d .result) (d .ensures) (b .before .before .before .enum-told .given .1)
+    (b .if1 .left) (c .before .if2 .taken)
 
 allowed-everywhere-requires : tie.Need-allowed-everywhere-requires
 allowed-everywhere-requires c κs =
@@ -66,20 +81,10 @@ cast-t14 : tie.Need-cast-t14
 cast-t14 c = search needs
 
 returns-4 : tie.Need-returns-4
-returns-4 c =
-    let e = c .before .before .before .before .before in
-    let b = e .before .before .before in
-    let a = b .before .before .before .before .before .before .before .args in
-    let d = b .before .before .before .before .before .read-stage in
-    tested (a .relation) (a .s .now) (d .result) (d .ensures) (b .before .before .before .enum-told .given .1) (b .if1 .left) (e .if2 .left) true (sym (c .before .if3 .taken) ∙ c .before .before .allowed-everywhere .ensures)
+returns-4 c = by-values (c .before .before) true (c .before .if3 .taken)
 
 returns-5 : tie.Need-returns-5
-returns-5 c =
-    let e = c .before .before .before .before .before in
-    let b = e .before .before .before in
-    let a = b .before .before .before .before .before .before .before .args in
-    let d = b .before .before .before .before .before .read-stage in
-    tested (a .relation) (a .s .now) (d .result) (d .ensures) (b .before .before .before .enum-told .given .1) (b .if1 .left) (e .if2 .left) false (sym (c .before .if3 .left) ∙ c .before .before .allowed-everywhere .ensures)
+returns-5 c = by-values (c .before .before) false (c .before .if3 .left)
 
 pub audit-stage-spec : {M : Type 1} → statement M
 audit-stage-spec =

@@ -7,9 +7,6 @@ use Rattle.base.specs.declared.Verdict.the-variants.{Accepted, Refused}
 use borrow.Author.Needs.{needs}
 use Rattle.quote.proofs.audits.refused_stage.Statement.{statement}
 use Rattle.quote.proofs.audits.refused_stage.Tie as tie
-use Rattle.quote.proofs.audits.refused_stage.Reads as reads
-use Rattle.quote.proofs.audits.refused_stage.Lts as lts
-use Rattle.base.proofs.Refusal.at.Reads as at-reads
 
 same : (g f : Refusal) → Refused g ≡ Refused f → StageRefused g ≡ StageRefused f
 same g f e = cc

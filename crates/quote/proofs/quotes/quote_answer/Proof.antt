@@ -2,10 +2,6 @@ use Rattle.quote.proofs.Quoting.{with-length, with-refusal}
 use borrow.Author.Needs.{needs}
 use Rattle.quote.proofs.quotes.quote_answer.Statement.{statement}
 use Rattle.quote.proofs.quotes.quote_answer.Tie as tie
-use Rattle.quote.proofs.quotes.quote_answer.Reads as reads
-use Rattle.quote.proofs.quotes.quote_answer.Lts as lts
-use Rattle.quote.proofs.quotes.refused_quote.Reads as refused-quote-reads
-use Rattle.stage_writer.proofs.write_stage.Reads as write-stage-reads
 
 write-stage-requires : tie.Need-write-stage-requires
 write-stage-requires c κs = search needs

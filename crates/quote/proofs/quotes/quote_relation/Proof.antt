@@ -1,30 +1,26 @@
+use mathlib.Core.Path.{_≡_, refl}
+use mathlib.Core.Bool.{false}
+use mathlib.Core.List.{[], _∷_}
+use denote.Enum.Declared.{tagOf}
+use types.Run.{OneOf, miss}
 use Rattle.base.specs.Cases.{isRefused}
+use Rattle.search.specs.declared.Mark.{Mark}
+use Rattle.search.specs.declared.Mark.the-variants.{Best, Stopped, Refused}
 use Rattle.search.specs.Cases.{markCase}
+use Rattle.search.proofs.Mark.{the-type}
 use Rattle.quote.proofs.Quoting.{with-stage, no-stage}
-use mathlib.Core.Path.{ap}
 use borrow.Author.Needs.{needs}
 use Rattle.quote.proofs.quotes.quote_relation.Statement.{statement}
 use Rattle.quote.proofs.quotes.quote_relation.Tie as tie
-use Rattle.quote.proofs.quotes.quote_relation.Reads as reads
-use Rattle.quote.proofs.quotes.quote_relation.Lts as lts
-use Rattle.quote.proofs.quotes.quote_answer.Reads as quote-answer-reads
-use Rattle.quote.proofs.quotes.refused_quote.Reads as refused-quote-reads
-use Rattle.search.proofs.search.Reads as search-reads
+
+-- the first two marks come with a stage
+has-stage : (k : Mark) → OneOf (0 ∷ 1 ∷ []) (tagOf the-type k) → isRefused (markCase k) ≡ false
+has-stage Best h = refl
+has-stage Stopped h = refl
+has-stage (Refused f) h = absurd (miss (0 ∷ 1 ∷ []) 2 tt h)
 
 search-requires : tie.Need-search-requires
 search-requires c κs = search needs
-
-enum-told : tie.Need-enum-told
-enum-told c = search needs
-
-quote-answer-requires : tie.Need-quote-answer-requires
-quote-answer-requires c κs = search needs
-
-enum-told-2 : tie.Need-enum-told-2
-enum-told-2 c = search needs
-
-quote-answer-requires-2 : tie.Need-quote-answer-requires-2
-quote-answer-requires-2 c κs = search needs
 
 enum-known-mark : tie.Need-enum-known-mark
 enum-known-mark c = search needs
@@ -32,45 +28,36 @@ enum-known-mark c = search needs
 refused-quote-requires : tie.Need-refused-quote-requires
 refused-quote-requires c κs = search needs
 
+returns : tie.Need-returns
+returns c =
+    let g = c .before .before .mark .given in
+    let s = c .before .before .before .before in
+    let a = s .before .before .args in
+    no-stage (a .relation) (a .budget) (a .buffer .now) (s .search .result) (s .search .ensures) (g .0 .0) (g .1) (c .refused-quote .ensures)
+
+quote-answer-requires : tie.Need-quote-answer-requires
+quote-answer-requires c κs = search needs
+
 same-length : tie.Need-same-length
 same-length c = search needs
 
-returns : tie.Need-returns
-returns c =
-    let a = c .before .before .before .before .before .before .before .before .args in
-    let s = c .before .before .before .before .before .before .search in
-    let q = c .before .before .quote-answer .ensures in
-    with-stage (a .relation) (a .budget) (a .buffer .now) (s .result) (s .ensures) (ap (λ k. isRefused (markCase k)) (c .before .before .before .before .enum-told .given .1)) (q .0) (q .1)
-
-same-length-2 : tie.Need-same-length-2
-same-length-2 c = search needs
-
 returns-2 : tie.Need-returns-2
 returns-2 c =
-    let a = c .before .before .before .before .before .before .before .before .args in
-    let s = c .before .before .before .before .before .before .search in
-    let q = c .before .before .quote-answer2 .ensures in
-    with-stage (a .relation) (a .budget) (a .buffer .now) (s .result) (s .ensures) (ap (λ k. isRefused (markCase k)) (c .before .before .before .before .enum-told2 .given .1)) (q .0) (q .1)
-
-returns-3 : tie.Need-returns-3
-returns-3 c =
-    let a = c .before .before .before .before .before .before .args in
-    let s = c .before .before .before .before .search in
-    no-stage (a .relation) (a .budget) (a .buffer .now) (s .result) (s .ensures) (c .before .before .mark .given .0 .0) (c .before .before .mark .given .1) (c .refused-quote .ensures)
+    let q = c .before .before .quote-answer .ensures in
+    let k = c .before .before .before .before in
+    let s = k .before in
+    let a = s .before .before .args in
+    with-stage (a .relation) (a .budget) (a .buffer .now) (s .search .result) (s .search .ensures)
+    (has-stage (s .search .result .mark) (k .match .keys2)) (q .0) (q .1)
 
 pub quote-relation-spec : {M : Type 1} → statement M
 quote-relation-spec =
     tie.close
     (tie.spec
     search-requires
-    enum-told
-    quote-answer-requires
-    enum-told-2
-    quote-answer-requires-2
     enum-known-mark
     refused-quote-requires
-    same-length
     returns
-    same-length-2
-    returns-2
-    returns-3)
+    quote-answer-requires
+    same-length
+    returns-2)

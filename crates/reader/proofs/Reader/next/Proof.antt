@@ -27,7 +27,8 @@ at-turn : (c : tie.After-out-of-turn)
     let s = a .s .now in
     let at = a .self .at in
     let w = c .before .before .width .result in
-    nextOf s (a .self) ≡ cond (c .out-of-turn .result) (stepRefused outOfTurn at) (cond (ltb (length s - at) w) (stepRefused cutShort at) (ranged s (a .self) w))
+    nextOf s (a .self)
+    ≡ cond (c .out-of-turn .result) (stepRefused outOfTurn at) (cond (ltb (length s - at) w) (stepRefused cutShort at) (ranged s (a .self) w))
 unfolding nextOf
 at-turn c =
     let t2 = c .before in
@@ -94,9 +95,7 @@ refused-requires-3 : tie.Need-refused-requires-3
 refused-requires-3 c κs = search needs
 
 returns-3 : tie.Need-returns-3
-returns-3 c =
-    let t3 = c .before in
-    simp (at-turn (t3 .before), t3 .if3 .taken) (c .refused3 .ensures)
+returns-3 c = simp (at-turn (c .before .before), c .before .if3 .taken) (c .refused3 .ensures)
 
 sub-if4 : tie.Need-sub-if4
 sub-if4 c = search needs
@@ -138,9 +137,7 @@ refused-requires-5 : tie.Need-refused-requires-5
 refused-requires-5 c κs = search needs
 
 returns-5 : tie.Need-returns-5
-returns-5 c =
-    let t5 = c .before in
-    simp (at-range (t5 .before), t5 .if5 .taken) (c .refused5 .ensures)
+returns-5 c = simp (at-range (c .before .before), c .before .if5 .taken) (c .refused5 .ensures)
 
 add-moved-past : tie.Need-add-moved-past
 add-moved-past c = search needs
@@ -149,9 +146,7 @@ moved-past-requires : tie.Need-moved-past-requires
 moved-past-requires c κs = search needs
 
 returns-6 : tie.Need-returns-6
-returns-6 c =
-    let t5 = c .before in
-    simp (at-range (t5 .before), t5 .if5 .left, ← c .moved-past .ensures)
+returns-6 c = simp (at-range (c .before .before), c .before .if5 .left, ← c .moved-past .ensures)
 
 pub next-spec : {M : Type 1} → statement M
 next-spec =

@@ -73,7 +73,8 @@ at-requires-3 c κs = search needs
 returns-3 : tie.Need-returns-3
 returns-3 c =
     let r = c .before .before .before .before .before .before .before .before .before .args .self in
-    let sizes = sym (c .before .before .before .before .before .before .before .sizes-out .ensures) ∙ c .before .before .before .before .before .before .if1 .left in
+    let i = c .before .before .before .before .before .before in
+    let sizes = sym (i .before .sizes-out .ensures) ∙ i .if1 .left in
     let count = c .before .before .before .before .before .patterns-of .ensures .2 (sizes-in (r .n) (r .m) sizes .n-most) in
     let none = c .before .before .empty-pattern in
     let w : 2 ^ r .n ≤ widePattern (r .n) (r .m) (r .sets) =
@@ -88,7 +89,8 @@ returns-3 c =
 returns-4 : tie.Need-returns-4
 returns-4 c =
     let r = c .before .before .before .before .before .before .before .before .args .self in
-    let sizes = sym (c .before .before .before .before .before .before .sizes-out .ensures) ∙ c .before .before .before .before .before .if1 .left in
+    let i = c .before .before .before .before .before in
+    let sizes = sym (i .before .sizes-out .ensures) ∙ i .if1 .left in
     let count = c .before .before .before .before .patterns-of .ensures .2 (sizes-in (r .n) (r .m) sizes .n-most) in
     let none = c .before .empty-pattern in
     let w : 2 ^ r .n ≤ widePattern (r .n) (r .m) (r .sets) =

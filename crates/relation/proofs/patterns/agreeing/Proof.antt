@@ -26,7 +26,8 @@ chosen j t p {z} {o} ez eo eb =
     (bit-cases t p)
 
 abbrev Inv-loop : tie.InvT-loop
-Inv-loop j t sets zero one next₀ p₀ next p = (p ≤ maxPatterns) × (length next ≡ maxPatterns) × ((q : ℕ) → q < p → getD next q 0 ≡ withBit (getD sets q 0) j (bit t q))
+Inv-loop j t sets zero one next₀ p₀ next p =
+    (p ≤ maxPatterns) × (length next ≡ maxPatterns) × ((q : ℕ) → q < p → getD next q 0 ≡ withBit (getD sets q 0) j (bit t q))
 
 abbrev μ-loop : tie.MeasureT-loop
 μ-loop j t sets zero one next₀ p₀ next p = maxPatterns - p
@@ -78,7 +79,8 @@ loop-again c =
     let e = c .choose .ensures ∙ chosen (a .j) (a .t) (l .p) z o (c .before .bit-of .ensures .0) in (
       omega arith,
       simp length-set (l .inv .1),
-      filled-more (λ q. withBit (getD (a .t1) q 0) (a .j) (bit (a .t) q)) (l .next) (l .p) (bitAnd w (c .choose .result)) (omega arith) (l .inv .2) (ap (bitAnd w) e),
+      filled-more (λ q. withBit (getD (a .t1) q 0) (a .j) (bit (a .t) q))
+          (l .next) (l .p) (bitAnd w (c .choose .result)) (omega arith) (l .inv .2) (ap (bitAnd w) e),
     )
 
 returns : tie.Need-returns Inv-loop μ-loop

@@ -13,7 +13,8 @@ use Rattle.relation.proofs.patterns.clear_past.Statement.{statement}
 use Rattle.relation.proofs.patterns.clear_past.Tie as tie
 
 abbrev Inv-loop : tie.InvT-loop
-Inv-loop n sets count next₀ p₀ next p = (p ≤ maxPatterns) × (length next ≡ maxPatterns) × ((q : ℕ) → q < p → getD next q 0 ≡ cond (ltb q (2 ^ n)) (getD sets q 0) 0)
+Inv-loop n sets count next₀ p₀ next p =
+    (p ≤ maxPatterns) × (length next ≡ maxPatterns) × ((q : ℕ) → q < p → getD next q 0 ≡ cond (ltb q (2 ^ n)) (getD sets q 0) 0)
 
 abbrev μ-loop : tie.MeasureT-loop
 μ-loop n sets count next₀ p₀ next p = maxPatterns - p

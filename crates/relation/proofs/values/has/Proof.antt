@@ -1,7 +1,7 @@
 -- `has` meets its contract: a bit occurs unless the set masked by its column is 0.
 use native.Mathlib.Omega.{arith}
 use borrow.Author.Needs.{needs}
-use Rattle.relation.proofs.Columns.{occurs-with}
+use Rattle.relation.proofs.Members.{occurs-with}
 use Rattle.relation.proofs.values.has.Statement.{statement}
 use Rattle.relation.proofs.values.has.Tie as tie
 

@@ -37,7 +37,8 @@ returns-2 : tie.Need-returns-2
 returns-2 c before s e n l =
     let a = c .before .before .before .before .before .before .before .args in
     c .refusal2 .ensures ∙ ap (λ f. gatheredReply (refused f)) (c .before .at2 .ensures)
-    ∙ end-missing before (a .self) e n s (a .to) (rw l at (c .before .before .before .before .before .before .if1 .left)) _ _ (c .before .before .before .before .patterns-of .ensures .0) (c .before .before .before .missing .ensures) (c .before .before .if2 .taken)
+    ∙ end-missing before (a .self) e n s (a .to) (rw l at (c .before .before .before .before .before .before .if1 .left))
+    _ _ (c .before .before .before .before .patterns-of .ensures .0) (c .before .before .before .missing .ensures) (c .before .before .if2 .taken)
 
 accept-requires : tie.Need-accept-requires
 accept-requires c κs = search needs
@@ -46,7 +47,8 @@ returns-3 : tie.Need-returns-3
 returns-3 c before s e n l =
     let a = c .before .before .before .before .before .before .args in
     c .accept .ensures
-    ∙ end-accepted before (a .self) e n s (a .to) (rw l at (c .before .before .before .before .before .if1 .left)) _ _ (c .before .before .before .patterns-of .ensures .0) (c .before .before .missing .ensures) (c .before .if2 .left)
+    ∙ end-accepted before (a .self) e n s (a .to) (rw l at (c .before .before .before .before .before .if1 .left))
+    _ _ (c .before .before .before .patterns-of .ensures .0) (c .before .before .missing .ensures) (c .before .if2 .left)
 
 pub finish-spec : {M : Type 1} → statement M
 finish-spec =

@@ -7,9 +7,6 @@ use Rattle.sheet.proofs.Powers.{one-shifted}
 use borrow.Author.Needs.{needs}
 use Rattle.sheet.proofs.limits.all_ones.Statement.{statement}
 use Rattle.sheet.proofs.limits.all_ones.Tie as tie
-use Rattle.sheet.proofs.limits.all_ones.Reads as reads
-use Rattle.sheet.proofs.limits.all_ones.Lts as lts
-use Rattle.sheet.proofs.limits.values_of.Reads as values-of-reads
 
 -- the power has room in 32 bits, and one less in 16
 shifted : (v : ℕ) → v ≤ maxValues → 1 * 2 ^ v % 2 ^ 32 ≡ 2 ^ v

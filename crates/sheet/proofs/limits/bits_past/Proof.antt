@@ -6,10 +6,6 @@ use Rattle.sheet.proofs.Powers.{beyond-capped}
 use borrow.Author.Needs.{needs}
 use Rattle.sheet.proofs.limits.bits_past.Statement.{statement}
 use Rattle.sheet.proofs.limits.bits_past.Tie as tie
-use Rattle.sheet.proofs.limits.bits_past.Reads as reads
-use Rattle.sheet.proofs.limits.bits_past.Lts as lts
-use Rattle.sheet.proofs.limits.beyond.Reads as beyond-reads
-use Rattle.sheet.proofs.limits.values_of.Reads as values-of-reads
 
 values-of-requires : tie.Need-values-of-requires
 values-of-requires c κs = search needs

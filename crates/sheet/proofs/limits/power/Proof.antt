@@ -1,4 +1,4 @@
-use Prim.Native.Nat.{_^_, _*_, _%_, _≤_}
+use Prim.Native.Nat.{_^_, _*_, _%_}
 use mathlib.Core.Path.{_≡_, sym, ap, _∙_}
 use native.Mathlib.Omega.{arith}
 use native.Mathlib.Nat.{le-antisymm}
@@ -6,8 +6,6 @@ use Rattle.sheet.proofs.Powers.{one-shifted, capped, uncapped}
 use borrow.Author.Needs.{needs}
 use Rattle.sheet.proofs.limits.power.Statement.{statement}
 use Rattle.sheet.proofs.limits.power.Tie as tie
-use Rattle.sheet.proofs.limits.power.Reads as reads
-use Rattle.sheet.proofs.limits.power.Lts as lts
 
 shl-result : tie.Need-shl-result
 shl-result c = search needs

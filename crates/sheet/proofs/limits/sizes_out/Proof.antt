@@ -1,9 +1,6 @@
 use borrow.Author.Needs.{needs}
 use Rattle.sheet.proofs.limits.sizes_out.Statement.{statement}
 use Rattle.sheet.proofs.limits.sizes_out.Tie as tie
-use Rattle.sheet.proofs.limits.sizes_out.Reads as reads
-use Rattle.sheet.proofs.limits.sizes_out.Lts as lts
-use Rattle.sheet.proofs.limits.count_out.Reads as count-out-reads
 
 count-out-requires : tie.Need-count-out-requires
 count-out-requires c κs = search needs

@@ -1,21 +1,27 @@
--- Laws of sets of values, of those that have a wire at a bit, and of the projection as a mask.
-use mathlib.Core.Path.{_≡_, refl, sym, ap, ap₂, subst, _∙_}
+-- Laws of the values of a set, and of those among them that have a wire at a bit.
+use mathlib.Core.Path.{_≡_, refl, sym, ap, subst, _∙_}
 use mathlib.Core.Logic.{⊎-elim}
-use mathlib.Core.Bool.{Bool, true, false, not, _&&_}
+use mathlib.Core.Bool.{not, _&&_}
 use mathlib.Core.List.{List}
-use Prim.Native.Nat.{ℕ, _+_, _*_, _^_, _/_, _%_, _<_, _≤_}
+use Prim.Native.Nat.{ℕ, _^_, _<_, _≤_}
 use native.Mathlib.Omega.{arith}
 use native.Mathlib.Nat.{lt-of-le-of-lt}
 use lib.Dec.{T, T-not, not-T, eqb, ltb, ltb→lt, nltb→le, eqb→eq}
 use lib.Bits.{and-le-l}
 use Rattle.sheet.specs.Limits.{maxWires, maxValues}
 use Rattle.base.proofs.Tests.{decide, eq-test, test-ext}
-use Rattle.table.specs.Bits.{bit, any, ofBits, isOne}
+use Rattle.table.specs.Bits.{bit, any}
 use Rattle.table.specs.Inner.Columns.{columnOf}
-use Rattle.table.proofs.BitColumns.{isOne-lt-two, column-test}
-use Rattle.table.proofs.Bits.{any-at, any-intro, any-cong, bit-cases, bit-ofBits, ofBits-lt, bit-ext, bit-past, test-and, zero-bit}
+use Rattle.table.proofs.BitColumns.{column-test}
+use Rattle.table.proofs.Bits.{any-at, any-intro, any-cong, bit-cases, bit-ext, bit-past, test-and, zero-bit}
 use Rattle.relation.specs.Tests.{ofSets, occurs}
 use Rattle.relation.specs.Inner.Masks.{member, withBit}
+use lib.ListN.{getD}
+
+-- the set of a pattern in a list of sets
+pub member-sets : (sets : List ℕ) (p : ℕ) → ofSets sets p ≡ member (getD sets p 0)
+unfolding ofSets member
+member-sets sets p = refl
 
 pub no-member : (v : ℕ) → T (member 0 v) → ⊥
 unfolding member
@@ -33,7 +39,9 @@ unfolding member
 any-member k w h =
     test-ext (any k (member w)) (not (eqb w 0))
     (λ t. let u = any-at k (member w) t in not-T (eqb w 0) (λ e. none (u .0) (eqb→eq w 0 e) (u .2)))
-    (λ t. ⊎-elim (λ y. y) (λ z. absurd (T-not (eqb w 0) t (eq-test (bit-ext k w 0 h (omega (arith, h)) (λ v l. gone z v l ∙ sym (zero-bit v)))))) (decide (any k (member w))))
+    (λ t. ⊎-elim (λ y. y)
+    (λ z. absurd (T-not (eqb w 0) t (eq-test (bit-ext k w 0 h (omega (arith, h)) (λ v l. gone z v l ∙ sym (zero-bit v))))))
+    (decide (any k (member w))))
   where
     none : (v : ℕ) → w ≡ 0 → T (member w v) → ⊥
     none v e t = no-member v (subst (λ x. T (member x v)) e t)
@@ -60,10 +68,3 @@ unfolding occurs
 occurs-with w j b h =
     any-cong maxValues (λ v. member w v && eqb (bit v j) b) (member (withBit w j b)) (λ v _. sym (with-test w j b v h))
     ∙ any-member maxValues (withBit w j b) (lt-of-le-of-lt (with-le w j b) h)
-
--- the bits of a mask, one pattern after the other
-abbrev pub maskBit : List ℕ → ℕ → ℕ → ℕ → ℕ
-maskBit sets j b p = isOne (occurs maxWires (ofSets sets p) j b)
-
-pub found-lt : (sets : List ℕ) (j b p : ℕ) → ofBits p (maskBit sets j b) < 2 ^ p
-found-lt sets j b p = ofBits-lt (maskBit sets j b) p (λ q _. isOne-lt-two (occurs maxWires (ofSets sets q) j b))
