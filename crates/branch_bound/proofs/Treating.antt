@@ -15,11 +15,11 @@ use Rattle.relation.specs.Tests.{keep, free, freeWire, compatible, conflict, op
 use Rattle.relation.proofs.Decide.{free-both, compatible-at, conflict-is, freeWire-is}
 use Rattle.relation.proofs.Splits.{keep-part, keep-well-defined, keep-compatible, keep-closes}
 use Rattle.branch_bound.specs.declared.State.{State}
-use Rattle.branch_bound.specs.Search.{Board, stageCells, pick, picks, floor, start, split, expand}
-use Rattle.branch_bound.specs.Search.{charge, treat, visit, searchPart, run, charged, discarded, usedUp}
+use Rattle.branch_bound.specs.Search.{Board, stageCells, pick, picks, floor, start, split, expand, charge, treat, visit, searchPart, run, charged}
+use Rattle.branch_bound.specs.Search.{discarded, usedUp}
 use Rattle.branch_bound.specs.Promise.{Fair, AnswerSoFar, Promise}
-use Rattle.branch_bound.proofs.Picks.{wires-tables, tables-long, quick-long, tables-stage, floor-picks}
-use Rattle.branch_bound.proofs.Picks.{pick-stage, pick-fits, floor-le, quick-compatible, quick-stage}
+use Rattle.branch_bound.proofs.Picks.{wires-tables, tables-long, quick-long, tables-stage, floor-picks, pick-stage, pick-fits, floor-le}
+use Rattle.branch_bound.proofs.Picks.{quick-compatible, quick-stage}
 
 -- What treating the part R does to a state s that becomes t: never more cells, a stop stays, and with no stop no answer of R has fewer cells.
 pub record Treated (b : Board) (R : Rel) (s t : State) : Type 0 where

@@ -23,7 +23,10 @@ use Rattle.relation.specs.Tests.{ofSets, keep, occurs, free}
 use Rattle.relation.specs.Inner.Masks.{member, withBit, maskOf, narrowed}
 use Rattle.relation.proofs.Decide.{free-both}
 use Rattle.relation.proofs.Splits.{keep-part, keep-well-defined, occurs-part}
-use Rattle.relation.proofs.Sets.{member-sets, narrow-keep, narrowed-narrow, occurs-four, mask-projection}
+use Rattle.relation.proofs.Members.{member-sets}
+use Rattle.relation.proofs.Narrowing.{narrow-keep, narrowed-narrow}
+use Rattle.relation.proofs.AllWires.{occurs-all-wires}
+use Rattle.relation.proofs.Masks.{mask-projection}
 use Rattle.parts.specs.Inner.Pairs.{pairOf, pairsOf, cutPair, cutPairs}
 use Rattle.sheet.specs.Inner.Sized.{Sized}
 use Rattle.parts.specs.Inner.Parts.{PartSets, rankOf, ranksOf, rankAgain, ranksAgain}
@@ -99,7 +102,7 @@ module _ {n m : ℕ} (sz : Sized n m) {sets : List ℕ} (ok : PartSets n m sets)
         let d = eqb→eq q p e in
         let w = withBit (getD sets p 0) j b in
         let lw : w < 2 ^ (2 ^ m) = subst (λ x. x < 2 ^ (2 ^ m)) set-there (with-sets .small p) in
-        let f : T (occurs m (member w) i (bit t p)) = subst T (occurs-four m w i (bit t p) (sz .m-most) lw) still in
+        let f : T (occurs m (member w) i (bit t p)) = subst T (occurs-all-wires m w i (bit t p) (sz .m-most) lw) still in
         rw (d, member-sets (narrowed sets p j b) p, set-there) f)
         (λ e.
         let ne : q ≡ p → ⊥ = λ d. T-not (eqb q p) e (eq-test d) in

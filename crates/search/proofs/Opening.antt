@@ -77,19 +77,11 @@ module _ {n m : ℕ} (sz : Sized n m) {sets : List ℕ} (ok : PartSets n m sets)
       (ev
       ∙ ap (λ x. valueIn x p) es
       ∙ side-value tables p l small
-<<<<<<< HEAD
-      ∙ value-four m tables p (sz .m-most) (λ j l. ap (λ ts. wires ts j) are ∙ tables-past m (pick (tree n m) (ofSets sets)) j l)
+      ∙ value-all-wires m tables p (sz .m-most) (λ j l. ap (λ ts. wires ts j) are ∙ tables-past m (pick (tree n m) (ofSets sets)) j l)
       ∙ ap (λ ts. value m (wires ts) p) are)
 
   pub free-test : (p j : ℕ) → free maxWires (member (getD sets p 0)) j ≡ free m (ofSets sets p) j
-  free-test p j = free-four m (getD sets p 0) j (sz .m-most) (ok .small p) ∙ ap (λ S. free m S j) (sym (member-sets sets p))
-=======
-      ∙ value-all-wires m tables p (sz .wires) (λ j l. ap (λ ts. wires ts j) are ∙ tables-past m (pick (tree n m) (ofSets sets)) j l)
-      ∙ ap (λ ts. value m (wires ts) p) are)
-
-  pub open-test : (p j : ℕ) → free maxWires (member (getD sets p 0)) j ≡ free m (ofSets sets p) j
-  open-test p j = free-all-wires m (getD sets p 0) j (sz .wires) (ok .small p) ∙ ap (λ S. free m S j) (sym (member-sets sets p))
->>>>>>> hE
+  free-test p j = free-all-wires m (getD sets p 0) j (sz .m-most) (ok .small p) ∙ ap (λ S. free m S j) (sym (member-sets sets p))
 
   -- every pick fits, so a pattern in conflict has an open wire
   pub some-open : (p : ℕ) → p < 2 ^ n → T (not (ofSets sets p (value m (wires tables) p))) → ((j : ℕ) → j < m → T (not (free m (ofSets sets p) j))) → ⊥

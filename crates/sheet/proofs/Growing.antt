@@ -9,13 +9,8 @@ use lib.Bits.{bitAnd}
 use Rattle.sheet.specs.declared.Command.{Command}
 use Rattle.sheet.specs.declared.Command.the-variants.{End, Row, DontCare, Gate, Output, Limit}
 use Rattle.sheet.specs.declared.Sheet.{Sheet}
-<<<<<<< HEAD
-use Rattle.sheet.specs.Commands.{isEmpty, about, wiresOf, isMarked, isDontCare, hasRow, LogicGate, noGate, rowsOn, dontCaresOn, gatesOf, outputsOf}
+use Rattle.sheet.specs.Commands.{isEmpty, about, wiresOf, isMarked, isDontCare, hasRow, rowsOn, dontCaresOn, LogicGate, noGate, gatesOf, outputsOf}
 use Rattle.sheet.specs.Commands.{limitsOn}
-=======
-use Rattle.sheet.specs.Commands.{isEmpty, about, wiresOf, isMarked, isDontCare, hasRow, rowsOn, dontCaresOn}
-use Rattle.sheet.specs.Commands.{LogicGate, noGate, gatesOf, outputsOf, limitsOn}
->>>>>>> hE
 use Rattle.sheet.specs.Limits.{maxPatterns, maxGates, maxOutputs, allOnes}
 use Rattle.sheet.specs.Gathered.{tabulate, meet, gathered, limitOn, gateAt, outputAt, noMark, rowMark, dontCareMark}
 use Rattle.base.proofs.Tabulate.{tabulate-at, tabulate-set}

@@ -11,8 +11,8 @@ use Rattle.table.specs.Cells.{cells}
 use Rattle.table.specs.Pick.{Proj, leastOf}
 use Rattle.table.specs.Inner.Blocks.{noTable, Shown}
 use Rattle.table.proofs.Cells.{cells-lt, cells-same, cells-differ}
-use Rattle.table.proofs.Halving.{upper, common, suits-common, common-suits, join, joins, join-low, join-high, join-lt}
-use Rattle.table.proofs.Halving.{closer, closest, Best, IsBest, least-best, least-halves}
+use Rattle.table.proofs.Halving.{upper, common, suits-common, common-suits, join, joins, join-low, join-high, join-lt, closer, closest, Best}
+use Rattle.table.proofs.Halving.{IsBest, least-best, least-halves}
 
 -- of two ranks the lesser is that of the better pick
 pub closer-rank : (key : ℕ → ℕ) (w s t : ℕ) → s < w → t < w → min (key s * w + s) (key t * w + t) ≡ key (closer key s t) * w + closer key s t
