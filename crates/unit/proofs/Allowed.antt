@@ -2,7 +2,7 @@
 use Prim.Native.Nat.{ℕ, zero, suc, _-_, _^_, _<_}
 use mathlib.Core.Path.{_≡_, refl, sym, ap, ap₂, subst, _∙_}
 use mathlib.Core.Logic.{⊎-elim}
-use mathlib.Core.Bool.{_&&_, and-assoc}
+use mathlib.Core.Bool.{Bool, _&&_, and-assoc}
 use mathlib.Core.List.{List, [], _∷_}
 use native.Mathlib.Nat.{lt-of-lt-of-le, lt-of-le-of-lt}
 use native.Mathlib.Omega.{arith}
@@ -78,7 +78,9 @@ module _ (cs : List Command) (s : Sound cs) (p : ℕ) where
       (permits-each v (limitsOn p cs) (and-right (ltb v (2 ^ wiresOf cs)) (permits (limitsOn p cs) v) t))))
 
   limit-lt : limitOn p cs < 2 ^ maxValues
-  limit-lt = lt-of-lt-of-le (limit-below p cs (s .sizes .m-most)) (pow-mono {i = 2 ^ wiresOf cs} {j = maxValues} (pow-mono {i = wiresOf cs} {j = maxWires} (s .sizes .m-most)))
+  limit-lt =
+      lt-of-lt-of-le (limit-below p cs (s .sizes .m-most))
+      (pow-mono {i = 2 ^ wiresOf cs} {j = maxValues} (pow-mono {i = wiresOf cs} {j = maxWires} (s .sizes .m-most)))
 
   -- an impossible pattern: all permitted values
   all-permitted : rowsOn p cs ≡ [] → limitOn p cs ≡ setOn cs p
@@ -96,11 +98,13 @@ module _ (cs : List Command) (s : Sound cs) (p : ℕ) where
     unfolding setOn unitRelation alike
     alike-permitted e =
         let w = sameAs codes u in
-        told-is (λ v. ltb v (2 ^ wiresOf cs) && unitRelation cs p v) maxValues (bitAnd (limitOn p cs) w) (lt-of-le-of-lt (and-le-l (limitOn p cs) w) limit-lt)
+        let same : ℕ → Bool = λ v. sameList (outputsFor cs v) (outputsFor cs u) in
+        told-is (λ v. ltb v (2 ^ wiresOf cs) && unitRelation cs p v) maxValues (bitAnd (limitOn p cs) w)
+        (lt-of-le-of-lt (and-le-l (limitOn p cs) w) limit-lt)
         (λ v l.
         test-and (limitOn p cs) w v
         ∙ ap₂ _&&_ (limit-test v) (told-test (λ v. eqb (getD codes v 0) (getD codes u 0)) maxValues v l ∙ same-test v l)
-        ∙ rw (e, and-true (sameList (outputsFor cs v) (outputsFor cs u))) (and-assoc (ltb v (2 ^ wiresOf cs)) (permits (limitsOn p cs) v) (sameList (outputsFor cs v) (outputsFor cs u))))
+        ∙ rw (e, and-true (same v)) (and-assoc (ltb v (2 ^ wiresOf cs)) (permits (limitsOn p cs) v) (same v)))
 
   -- the set by the pattern's mark
   module _ (l : p < 2 ^ inputsOf cs) where

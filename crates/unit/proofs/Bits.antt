@@ -1,11 +1,13 @@
 -- Laws of two bits under a gate.
-use Prim.Native.Nat.{ℕ, zero, suc, _*_, _<_, _≤_}
-use mathlib.Core.Path.{_≡_, refl}
+use Prim.Native.Nat.{ℕ, zero, suc, _*_, _-_, _<_, _≤_}
+use mathlib.Core.Path.{_≡_, refl, sym, ap, _∙_}
+use mathlib.Core.Bool.{cond}
 use native.Mathlib.Omega.{arith}
 use lib.Bits.{bitAnd, bitOr, bitXor}
 use lib.Dec.{eqb}
+use borrow.Author.Tests.{ne-eqb}
 use Rattle.base.proofs.Tests.{cond-has}
-use Rattle.unit.specs.Gates.{andBit, orBit, xorBit, gateBit}
+use Rattle.unit.specs.Gates.{gateBit}
 
 -- what holds of 0 and 1 on either side holds of two bits
 pub two-bits : (P : ℕ → ℕ → Type 0) → P 0 0 → P 0 1 → P 1 0 → P 1 1 → (a b : ℕ) → a < 2 → b < 2 → P a b
@@ -17,17 +19,24 @@ two-bits P x y z w (suc (suc a)) b p q = absurd (omega arith)
 two-bits P x y z w zero (suc (suc b)) p q = absurd (omega arith)
 two-bits P x y z w (suc zero) (suc (suc b)) p q = absurd (omega arith)
 
--- the code's operators on two bits
-pub bits-are : (a b : ℕ) → a < 2 → b < 2 → (bitAnd a b ≡ andBit a b) × (bitOr a b ≡ orBit a b) × (bitXor a b ≡ xorBit a b)
-bits-are =
-    two-bits (λ a b. (bitAnd a b ≡ andBit a b) × (bitOr a b ≡ orBit a b) × (bitXor a b ≡ xorBit a b)) (refl, refl, refl) (refl, refl, refl)
-    (refl, refl, refl) (refl, refl, refl)
+-- none of the code's operators on two bits gives more than 1
+pub no-more : {a b : ℕ} → (a < 2) × (b < 2) → (bitAnd a b ≤ 1) × (bitOr a b ≤ 1) × (bitXor a b ≤ 1)
+no-more {a} {b} h =
+    let one : 1 ≤ 1 = omega arith in
+    let none : 0 ≤ 1 = omega arith in
+    two-bits (λ a b. (bitAnd a b ≤ 1) × (bitOr a b ≤ 1) × (bitXor a b ≤ 1)) (none, none, none) (none, one, one) (none, one, one) (one, one, none)
+    a b (h .0) (h .1)
 
--- none of the three is above 1
-pub no-more : (a b : ℕ) → a < 2 → b < 2 → (bitAnd a b ≤ 1) × (bitOr a b ≤ 1) × (bitXor a b ≤ 1)
-no-more =
-    two-bits (λ a b. (bitAnd a b ≤ 1) × (bitOr a b ≤ 1) × (bitXor a b ≤ 1)) (omega arith, omega arith, omega arith) (omega arith, omega arith, omega arith)
-    (omega arith, omega arith, omega arith) (omega arith, omega arith, omega arith)
+-- what the code makes of two bits at each kind, by its operators
+abbrev operated : (k a b : ℕ) → ℕ
+operated k a b =
+    cond (eqb k 0) (bitAnd a b)
+    (cond (eqb k 1) (bitOr a b)
+    (cond (eqb k 2) (bitXor a b) (cond (eqb k 3) (1 - bitAnd a b) (cond (eqb k 4) (1 - bitOr a b) (1 - bitXor a b)))))
+
+operated-is : (k a b : ℕ) → a < 2 → b < 2 → operated k a b ≡ gateBit k a b
+unfolding gateBit
+operated-is k = two-bits (λ a b. operated k a b ≡ gateBit k a b) refl refl refl refl
 
 -- a gate makes a bit of two bits
 pub gate-lt : (k a b : ℕ) → a < 2 → b < 2 → gateBit k a b < 2
@@ -39,5 +48,14 @@ gate-lt k a b p q =
     (λ _. cond-has (λ x. x < 2) (eqb k 3) (λ _. omega arith)
     (λ _. cond-has (λ x. x < 2) (eqb k 4) (λ _. omega arith) (λ _. omega arith)))))
 
-pub gate-made : (k a b : ℕ) {x : ℕ} → a < 2 → b < 2 → x ≡ gateBit k a b → (x ≡ gateBit k a b) × (x < 2)
-gate-made k a b p q e = (e, rw e (gate-lt k a b p q))
+gate-made : (k j : ℕ) {a b : ℕ} → operated k a b ≡ operated j a b → (a < 2) × (b < 2) → (operated j a b ≡ gateBit k a b) × (operated j a b < 2)
+gate-made k j {a} {b} e h =
+    let m = sym e ∙ operated-is k a b (h .0) (h .1) in (m, rw m (gate-lt k a b (h .0) (h .1)))
+
+-- so the code's operator at kind j is the gate of a kind that is j, and the last of them that of every further kind
+pub gate-is : {k : ℕ} (j : ℕ) {a b : ℕ} → k ≡ j → (a < 2) × (b < 2) → (operated j a b ≡ gateBit k a b) × (operated j a b < 2)
+gate-is {k} j {a} {b} e = gate-made k j (ap (λ k. operated k a b) e)
+
+pub gate-last : {k a b : ℕ} → (k ≡ 0 → ⊥) → (k ≡ 1 → ⊥) → (k ≡ 2 → ⊥) → (k ≡ 3 → ⊥) → (k ≡ 4 → ⊥) → (a < 2) × (b < 2)
+    → (operated 5 a b ≡ gateBit k a b) × (operated 5 a b < 2)
+gate-last {k} n₀ n₁ n₂ n₃ n₄ = gate-made k 5 (simp (ne-eqb k 0 n₀, ne-eqb k 1 n₁, ne-eqb k 2 n₂, ne-eqb k 3 n₃, ne-eqb k 4 n₄))

@@ -1,14 +1,17 @@
 -- Laws of the outputs for a wire value, and of the number that tells them.
-use Prim.Native.Nat.{ℕ, zero, suc, _*_, _^_, _<_}
+use Prim.Native.Nat.{ℕ, zero, suc, _+_, _*_, _%_, _^_, _<_}
 use mathlib.Core.Path.{_≡_, refl, sym, ap, ap₂, subst, _∙_}
 use mathlib.Core.List.{List, [], _∷_, map}
+use native.Mathlib.Omega.{arith}
 use native.Mathlib.Nat.{not-suc-le-zero, le-of-suc-le-suc, lt-of-lt-of-le}
 use lib.Dec.{T, eqb, eqb→eq, eqb-refl}
 use lib.ListN.{length, getD, length-map}
+use lib.Pow.{shl-exact, pow-mono}
 use lib.Seq.{ext-getD}
 use Rattle.base.proofs.Tests.{and-intro, and-left, and-right, eq-test, test-ext}
 use Rattle.table.specs.Bits.{bit, ofBits, tabulate}
-use Rattle.table.proofs.Bits.{sum-cong, bit-ofBits}
+use Rattle.table.proofs.Bits.{sum-cong, bit-ofBits, ofBits-lt, ofBits-more}
+use Rattle.sheet.specs.Limits.{maxOutputs}
 use Rattle.sheet.specs.declared.Command.{Command}
 use Rattle.sheet.specs.declared.Sheet.{Sheet}
 use Rattle.sheet.specs.Commands.{noGate, wiresOf, gatesOf, outputsOf}
@@ -18,7 +21,7 @@ use Rattle.unit.specs.Gates.{signalsOn, outputsFor}
 use Rattle.unit.specs.Relation.{sameList}
 use Rattle.unit.specs.Inner.Parts.{WasRead, Signals, codeOf}
 use Rattle.unit.proofs.Signals.{AllBits, upTo-bits, gates-upTo}
-use Rattle.unit.proofs.Placed.{placed, wires-bits, signals-made}
+use Rattle.unit.proofs.Placed.{placed, wires-bits, signals-made, output-room}
 
 pub signals-bits : (cs : List Command) (v : ℕ) → AllBits (signalsOn cs v)
 unfolding signalsOn
@@ -97,6 +100,18 @@ module _ {sheet : Sheet} (h : WasRead sheet) (v : ℕ) (signals : List ℕ) (is 
 
   pub output-bit : (i : ℕ) → i < sheet .«output_count» → getD signals (getD (sheet .signals) i 0) 0 < 2
   output-bit i l = rw (output-is i l) (outputs-bits (h .commands) v i (rw count at l))
+
+  -- the number so far, with one output more
+  pub code-more : (i code : ℕ) → i < sheet .«output_count» → code ≡ ofBits i (λ k. getD signals (getD (sheet .signals) k 0) 0)
+      → let next = code + getD signals (getD (sheet .signals) i 0) 0 * 2 ^ i % 2 ^ maxOutputs in
+      (next ≡ ofBits (i + 1) (λ k. getD signals (getD (sheet .signals) k 0) 0)) × (next < 2 ^ maxOutputs)
+  code-more i code l e =
+      let f : ℕ → ℕ = λ k. getD signals (getD (sheet .signals) k 0) 0 in
+      let b : i < maxOutputs = output-room h i l in
+      let exact : f i * 2 ^ i % 2 ^ maxOutputs ≡ f i * 2 ^ i = shl-exact 1 i maxOutputs (output-bit i l) (omega arith) in
+      let small = ofBits-lt f (i + 1) (λ k d. output-bit k (omega arith)) in
+      let m = pow-mono {i = i + 1} {j = maxOutputs} (omega arith) in
+      (omega (arith, e, exact, ofBits-more f i), omega (arith, e, exact, ofBits-more f i, small, m))
 
   pub code-is : ofBits (sheet .«output_count») (λ i. getD signals (getD (sheet .signals) i 0) 0) ≡ codeOf (h .commands) v
   unfolding codeOf ofBits

@@ -30,6 +30,10 @@ gateIn kinds lefts rights i = record { kind = getD kinds i 0; left = getD lefts 
 abbrev pub gateOf : Sheet → ℕ → LogicGate
 gateOf sheet = gateIn (sheet .kinds) (sheet .lefts) (sheet .rights)
 
+-- room for a signal of each wire and of each gate
+abbrev pub maxSignals : ℕ
+maxSignals = maxWires + maxGates
+
 -- the wires are bits
 pub wires-bits : (m v : ℕ) → AllBits (tabulate m (bit v))
 wires-bits m v q = rw (tabulate-entry m (bit v) q) (cond-has (λ x. x < 2) (ltb q m) (λ _. bit-lt v q) (λ _. omega arith))
@@ -42,7 +46,8 @@ pub record Placed (sheet : Sheet) : Type 0 where
   pub few-outputs : sheet .«output_count» ≤ maxOutputs
   pub made : (i : ℕ) → i < sheet .«output_count» → getD (sheet .signals) i 0 < sheet .m + sheet .«gate_count»
 
-same-gate : (k a b : ℕ) (g : LogicGate) → k ≡ g .kind → a ≡ g .left → b ≡ g .right → _≡_ {A = LogicGate} (record { kind = k; left = a; right = b }) g
+same-gate : (k a b : ℕ) (g : LogicGate) → k ≡ g .kind → a ≡ g .left → b ≡ g .right
+    → _≡_ {A = LogicGate} (record { kind = k; left = a; right = b }) g
 same-gate k a b g e l r = rw (e, l, r)
 
 module _ (cs : List Command) (s : Sound cs) where
@@ -73,7 +78,8 @@ module _ (cs : List Command) (s : Sound cs) where
   signals-all v =
       rw (wires-field cs, gates-field cs)
       (gates-upTo (tabulate (wiresOf cs) (bit v)) (gatesOf cs)
-      ∙ upTo-cong (tabulate (wiresOf cs) (bit v)) (λ i. getD (gatesOf cs) i noGate) (gateOf (gathered cs)) (length (gatesOf cs)) (λ i l. sym (gate-is i l)))
+      ∙ upTo-cong (tabulate (wiresOf cs) (bit v)) (λ i. getD (gatesOf cs) i noGate) (gateOf (gathered cs)) (length (gatesOf cs))
+      (λ i l. sym (gate-is i l)))
 
 module _ {sheet : Sheet} (h : WasRead sheet) where
   abbrev pub held-sound : Sound (h .commands)
@@ -81,6 +87,22 @@ module _ {sheet : Sheet} (h : WasRead sheet) where
 
   pub placed : Placed sheet
   placed = subst Placed (sym (h .gathers)) (placed-all (h .commands) held-sound)
+
+  -- each gate and each output, and the signals that they name, have room
+  pub gate-room : (i : ℕ) → i < sheet .«gate_count» → i < maxGates
+  gate-room i l = lt-of-lt-of-le l (placed .few-gates)
+
+  pub signal-room : {s : ℕ} (i : ℕ) → i ≤ sheet .«gate_count» → s < sheet .m + i → s < maxSignals
+  signal-room i l b = omega (arith, placed .few-wires, placed .few-gates)
+
+  pub sources-room : (i : ℕ) → i < sheet .«gate_count» → (gateOf sheet i .left < maxSignals) × (gateOf sheet i .right < maxSignals)
+  sources-room i l =
+      let w = placed .wired i l in
+      let b : i ≤ sheet .«gate_count» = omega arith in
+      (signal-room i b (w .left-made), signal-room i b (w .right-made))
+
+  pub output-room : (i : ℕ) → i < sheet .«output_count» → i < maxOutputs
+  output-room i l = lt-of-lt-of-le l (placed .few-outputs)
 
   pub signals-is : (v : ℕ) → signalsOn (h .commands) v ≡ upTo (tabulate (sheet .m) (bit v)) (gateOf sheet) (sheet .«gate_count»)
   signals-is v =

@@ -42,7 +42,8 @@ each-alike : (cs : List Command) (v : ℕ) (us : List ℕ) → Each (λ u. outpu
 unfolding alike
 each-alike cs v [] e = tt
 each-alike cs v (u ∷ us) e =
-    and-intro (sameList (outputsFor cs v) (outputsFor cs u)) (alike cs us v) (list-same (outputsFor cs v) (outputsFor cs u) (e .0)) (each-alike cs v us (e .1))
+    and-intro (sameList (outputsFor cs v) (outputsFor cs u)) (alike cs us v)
+    (list-same (outputsFor cs v) (outputsFor cs u) (e .0)) (each-alike cs v us (e .1))
 
 module _ (cs : List Command) where
   -- R(p) by what the commands say of p

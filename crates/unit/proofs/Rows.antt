@@ -14,9 +14,13 @@ use Rattle.unit.specs.Gates.{gateBit, withGates, signalsOn, outputsFor}
 use Rattle.unit.specs.Relation.{permits, sameList, alike, unitRelation}
 use Rattle.unit.specs.Formed.{setOn, relationIn, formedFrom, formedOf}
 
--- all that forming a relation computes by
+-- all that reading a sheet computes by, and then forming its relation
+unfoldable pub opened-reading : ℕ
+unfolding readingOf readingFrom oneCommand nextOf judged ending collect lowest isOne bit any sum ofBits tabulate
+opened-reading = 0
+
 unfoldable pub opened : ℕ
-unfolding formedOf formedFrom relationIn setOn unitRelation permits alike sameList outputsFor signalsOn withGates gateBit emptyPattern isOne bit any sum ofBits tabulate readingOf readingFrom oneCommand nextOf judged ending collect lowest
+unfolding opened-reading formedOf formedFrom relationIn setOn unitRelation permits alike sameList outputsFor signalsOn withGates gateBit emptyPattern
 opened = 0
 
 -- sheet A limited on pattern 2 to the value 1, which answers otherwise

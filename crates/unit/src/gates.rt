@@ -34,7 +34,7 @@ fn wire(v: u8, j: u8) -> u8
     (v >> j) % 2
 }
 
-// The wires' signals. All four are there; those past the last wire give way to gates.
+// The wires' signals. All that a sheet may have are there, four of them; those past the last wire give way to gates.
 fn wires_on(v: u8) -> [u8; MAX_SIGNALS]
     ensures { λ r. ⌜ ((j : ℕ) → j < maxWires → getD r j 0 ≡ bit v j) ⌝ }
 {

@@ -21,7 +21,9 @@ returns : tie.Need-returns
 returns c = rw (sym (c .before .before .check .ensures) ∙ ap verdictCase (c .enum-told .given .1))
 
 returns-2 : tie.Need-returns-2
-returns-2 c = rw (sym (c .before .before .before .before .check .ensures) ∙ ap verdictCase (c .before .before .checked .given .1)) (c .turned-away .ensures)
+returns-2 c =
+    rw (sym (c .before .before .before .before .check .ensures) ∙ ap verdictCase (c .before .before .checked .given .1))
+    (c .turned-away .ensures)
 
 pub judge-spec : {M : Type 1} → statement M
 judge-spec =

@@ -1,14 +1,12 @@
 -- `outputs_on` meets its contract: the number so far has the outputs passed.
-use Prim.Native.Nat.{ℕ, _+_, _-_, _*_, _%_, _^_, _<_, _≤_}
+use Prim.Native.Nat.{_-_, _≤_}
 use mathlib.Core.Path.{_≡_, refl, ap, _∙_}
 use native.Mathlib.Omega.{arith}
 use lib.ListN.{getD}
-use lib.Pow.{shl-exact, pow-mono}
 use borrow.Author.Needs.{needs}
 use Rattle.table.specs.Bits.{ofBits, sum}
-use Rattle.table.proofs.Bits.{ofBits-lt, ofBits-more}
-use Rattle.unit.proofs.Placed.{placed}
-use Rattle.unit.proofs.Codings.{output-bit, code-is}
+use Rattle.unit.proofs.Placed.{placed, signal-room, output-room}
+use Rattle.unit.proofs.Codings.{code-more, code-is}
 use Rattle.unit.proofs.gates.outputs_on.Statement.{statement}
 use Rattle.unit.proofs.gates.outputs_on.Tie as tie
 
@@ -30,30 +28,26 @@ cast-code : tie.Need-cast-code Inv-loop μ-loop
 cast-code c = search needs
 
 array-read-code : tie.Need-array-read-code Inv-loop μ-loop
-array-read-code c = omega (arith, placed (c .before .before .before .before .pre) .few-outputs)
+array-read-code c = let b = output-room (c .before .before .before .before .pre) (c .before .loop .i) (omega arith) in omega arith
 
 cast-code-2 : tie.Need-cast-code-2 Inv-loop μ-loop
 cast-code-2 c = search needs
 
 array-read-code-2 : tie.Need-array-read-code-2 Inv-loop μ-loop
 array-read-code-2 c =
-    let h = placed (c .before .before .before .before .pre) in
-    omega (arith, h .few-wires, h .few-gates, h .made (c .before .loop .i) (omega arith))
+    let h = c .before .before .before .before .pre in
+    let b = signal-room h (c .before .before .before .before .args .sheet .«gate_count») (omega arith) (placed h .made (c .before .loop .i) (omega arith)) in
+    omega arith
 
 shl-code : tie.Need-shl-code Inv-loop μ-loop
-shl-code c = omega (arith, placed (c .before .before .before .before .pre) .few-outputs)
+shl-code c = let b = output-room (c .before .before .before .before .pre) (c .before .loop .i) (omega arith) in omega arith
 
 add-code : tie.Need-add-code Inv-loop μ-loop
 add-code c =
-    let a = c .before .before .before .before .args in
-    let h = c .before .before .before .before .pre in
+    let i = c .before .before .before .before in
     let l = c .before .loop in
-    let signals = c .before .before .signals-on in
-    let f : ℕ → ℕ = λ k. getD (signals .result) (getD (a .sheet .signals) k 0) 0 in
-    let bits : (k : ℕ) → k < a .sheet .«output_count» → f k < 2 = output-bit h (a .v) (signals .result) (signals .ensures h) in
-    let b : l .i < 8 = omega (arith, placed h .few-outputs) in
-    let e : f (l .i) * 2 ^ l .i % 256 ≡ f (l .i) * 2 ^ l .i = shl-exact 1 (l .i) 8 (bits (l .i) (omega arith)) (omega arith) in
-    omega (arith, l .inv .1, ofBits-more f (l .i), ofBits-lt f (l .i + 1) (λ k d. bits k (omega arith)), pow-mono {i = l .i + 1} {j = 8} (omega arith))
+    let s = c .before .before .signals-on in
+    omega (arith, code-more (i .pre) (i .args .v) (s .result) (s .ensures (i .pre)) (l .i) (l .code) (omega arith) (l .inv .1) .1)
 
 add-i : tie.Need-add-i Inv-loop μ-loop
 add-i c = search needs
@@ -63,23 +57,18 @@ loop-less c = search needs
 
 loop-again : tie.Need-loop-again Inv-loop μ-loop
 loop-again c =
-    let a = c .before .before .before .before .args in
-    let h = c .before .before .before .before .pre in
+    let i = c .before .before .before .before in
     let l = c .before .loop in
-    let signals = c .before .before .signals-on in
-    let f : ℕ → ℕ = λ k. getD (signals .result) (getD (a .sheet .signals) k 0) 0 in
-    let bits : (k : ℕ) → k < a .sheet .«output_count» → f k < 2 = output-bit h (a .v) (signals .result) (signals .ensures h) in
-    let b : l .i < 8 = omega (arith, placed h .few-outputs) in
-    let e : f (l .i) * 2 ^ l .i % 256 ≡ f (l .i) * 2 ^ l .i = shl-exact 1 (l .i) 8 (bits (l .i) (omega arith)) (omega arith) in
-    (omega arith, omega (arith, l .inv .1, ofBits-more f (l .i)))
+    let s = c .before .before .signals-on in
+    (omega arith, code-more (i .pre) (i .args .v) (s .result) (s .ensures (i .pre)) (l .i) (l .code) (omega arith) (l .inv .1) .0)
 
 returns : tie.Need-returns Inv-loop μ-loop
 returns c =
     let a = c .before .before .before .before .args in
     let l = c .before .loop in
-    let signals = c .before .before .signals-on in
+    let s = c .before .before .signals-on in
     let e : l .i ≡ a .sheet .«output_count» = omega arith in
-    λ h. l .inv .1 ∙ ap (λ k. ofBits k (λ i. getD (signals .result) (getD (a .sheet .signals) i 0) 0)) e ∙ code-is h (a .v) (signals .result) (signals .ensures h)
+    λ h. l .inv .1 ∙ ap (λ k. ofBits k (λ i. getD (s .result) (getD (a .sheet .signals) i 0) 0)) e ∙ code-is h (a .v) (s .result) (s .ensures h)
 
 pub outputs-on-spec : {M : Type 1} → statement M
 outputs-on-spec =

@@ -7,13 +7,14 @@ use borrow.Author.Needs.{needs}
 use Rattle.table.specs.Bits.{bit, tabulate}
 use Rattle.table.proofs.Bits.{tabulate-length, tabulate-at}
 use Rattle.unit.proofs.Signals.{upTo, upTo-bits, gate-more}
-use Rattle.unit.proofs.Placed.{gateIn, gateOf, wires-bits, placed, signals-is, signals-made}
+use Rattle.unit.proofs.Placed.{maxSignals, gateIn, gateOf, wires-bits, placed, gate-room, sources-room, signals-is, signals-made}
 use Rattle.unit.proofs.gates.signals_on.Statement.{statement}
 use Rattle.unit.proofs.gates.signals_on.Tie as tie
 
 abbrev Inv-loop : tie.InvT-loop
 Inv-loop v m kinds lefts rights signals₀ i₀ i-end signals i =
-    (i ≤ i-end) × (length signals ≡ 36) × ((q : ℕ) → q < m + i → getD signals q 0 ≡ getD (upTo (tabulate m (bit v)) (gateIn kinds lefts rights) i) q 0)
+    (i ≤ i-end) × (length signals ≡ maxSignals)
+    × ((q : ℕ) → q < m + i → getD signals q 0 ≡ getD (upTo (tabulate m (bit v)) (gateIn kinds lefts rights) i) q 0)
 
 abbrev μ-loop : tie.MeasureT-loop
 μ-loop v m kinds lefts rights signals₀ i₀ i-end signals i = i-end - i
@@ -35,31 +36,25 @@ cast-g : tie.Need-cast-g Inv-loop μ-loop
 cast-g c = search needs
 
 array-read-a : tie.Need-array-read-a Inv-loop μ-loop
-array-read-a c = omega (arith, placed (c .before .before .before .before .before .before .pre) .few-gates)
+array-read-a c = gate-room (c .before .before .before .before .before .before .pre) (c .before .loop .i) (omega arith)
 
 cast-a : tie.Need-cast-a Inv-loop μ-loop
 cast-a c = search needs
 
 array-read-a-2 : tie.Need-array-read-a-2 Inv-loop μ-loop
-array-read-a-2 c =
-    let h = placed (c .before .before .before .before .before .before .pre) in
-    let w = h .wired (c .before .loop .i) (omega arith) in
-    omega (arith, h .few-wires, h .few-gates, w .left-made)
+array-read-a-2 c = let b = sources-room (c .before .before .before .before .before .before .pre) (c .before .loop .i) (omega arith) in omega arith
 
 array-read-b : tie.Need-array-read-b Inv-loop μ-loop
-array-read-b c = omega (arith, placed (c .before .before .before .before .before .before .pre) .few-gates)
+array-read-b c = gate-room (c .before .before .before .before .before .before .pre) (c .before .loop .i) (omega arith)
 
 cast-b : tie.Need-cast-b Inv-loop μ-loop
 cast-b c = search needs
 
 array-read-b-2 : tie.Need-array-read-b-2 Inv-loop μ-loop
-array-read-b-2 c =
-    let h = placed (c .before .before .before .before .before .before .pre) in
-    let w = h .wired (c .before .loop .i) (omega arith) in
-    omega (arith, h .few-wires, h .few-gates, w .right-made)
+array-read-b-2 c = let b = sources-room (c .before .before .before .before .before .before .pre) (c .before .loop .i) (omega arith) in omega arith
 
 array-read-gate-bit : tie.Need-array-read-gate-bit Inv-loop μ-loop
-array-read-gate-bit c = omega (arith, placed (c .before .before .before .before .before .before .pre) .few-gates)
+array-read-gate-bit c = gate-room (c .before .before .before .before .before .before .pre) (c .before .loop .i) (omega arith)
 
 gate-bit-requires : tie.Need-gate-bit-requires Inv-loop μ-loop
 gate-bit-requires c κs =
@@ -71,13 +66,17 @@ gate-bit-requires c κs =
     (rw (l .inv .2 _ (w .left-made)) (b _), rw (l .inv .2 _ (w .right-made)) (b _))
 
 add-signals : tie.Need-add-signals Inv-loop μ-loop
-add-signals c = omega (arith, placed (c .before .before .before .before .before .before .before .pre) .few-wires, placed (c .before .before .before .before .before .before .before .pre) .few-gates)
+add-signals c =
+    let h = placed (c .before .before .before .before .before .before .before .pre) in
+    omega (arith, h .few-wires, h .few-gates)
 
 cast-signals : tie.Need-cast-signals Inv-loop μ-loop
 cast-signals c = search needs
 
 array-write-signals : tie.Need-array-write-signals Inv-loop μ-loop
-array-write-signals c = omega (arith, placed (c .before .before .before .before .before .before .before .pre) .few-wires, placed (c .before .before .before .before .before .before .before .pre) .few-gates)
+array-write-signals c =
+    let h = placed (c .before .before .before .before .before .before .before .pre) in
+    omega (arith, h .few-wires, h .few-gates)
 
 add-i : tie.Need-add-i Inv-loop μ-loop
 add-i c = search needs
@@ -102,7 +101,9 @@ returns c =
     let a = c .before .before .before .before .before .before .args in
     let l = c .before .loop in
     let e : l .i ≡ a .sheet .«gate_count» = omega arith in
-    λ h s b. l .inv .2 s (rw e (rw (signals-made h) at b)) ∙ sym (ap (λ x. getD x s 0) (signals-is h (a .v) ∙ ap (upTo (tabulate (a .sheet .m) (bit (a .v))) (gateOf (a .sheet))) (sym e)))
+    λ h s b.
+    l .inv .2 s (rw e (rw (signals-made h) at b))
+    ∙ sym (ap (λ x. getD x s 0) (signals-is h (a .v) ∙ ap (upTo (tabulate (a .sheet .m) (bit (a .v))) (gateOf (a .sheet))) (sym e)))
 
 pub signals-on-spec : {M : Type 1} → statement M
 signals-on-spec =

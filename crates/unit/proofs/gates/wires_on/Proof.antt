@@ -4,14 +4,15 @@ use mathlib.Core.Path.{_≡_}
 use mathlib.Core.List.{List, _∷_}
 use native.Mathlib.Omega.{arith}
 use lib.ListN.{getD}
+use Rattle.sheet.specs.Limits.{maxWires, maxGates}
 use Rattle.table.specs.Bits.{bit, tabulate}
 use borrow.Author.Needs.{needs}
 use Rattle.unit.proofs.gates.wires_on.Statement.{statement}
 use Rattle.unit.proofs.gates.wires_on.Tie as tie
 
--- the entries of a list that starts with four
+-- the entries of a list that starts with those of four wires, as many as the code puts there
 by-place : (f : ℕ → ℕ) {a b c d : ℕ} (rest : List ℕ) → a ≡ f 0 → b ≡ f 1 → c ≡ f 2 → d ≡ f 3
-    → (j : ℕ) → j < 4 → getD (a ∷ b ∷ c ∷ d ∷ rest) j 0 ≡ f j
+    → (j : ℕ) → j < maxWires → getD (a ∷ b ∷ c ∷ d ∷ rest) j 0 ≡ f j
 by-place f rest a b c d zero h = a
 by-place f rest a b c d (suc zero) h = b
 by-place f rest a b c d (suc (suc zero)) h = c
@@ -44,7 +45,9 @@ array-write-signals-4 c = search needs
 
 returns : tie.Need-returns
 unfolding tabulate
-returns c = by-place (bit (c .before .before .before .before .args .v)) (tabulate 32 (λ _. 0)) (c .before .before .before .wire .ensures) (c .before .before .wire2 .ensures) (c .before .wire3 .ensures) (c .wire4 .ensures)
+returns c =
+    by-place (bit (c .before .before .before .before .args .v)) (tabulate maxGates (λ _. 0))
+    (c .before .before .before .wire .ensures) (c .before .before .wire2 .ensures) (c .before .wire3 .ensures) (c .wire4 .ensures)
 
 pub wires-on-spec : {M : Type 1} → statement M
 wires-on-spec =

@@ -43,7 +43,8 @@ add-found c =
     let a = c .before .before .before .args in
     let l = c .before .before .loop in
     let b : l .v < maxValues = omega arith in
-    omega (arith, l .inv .1, shifted-one (l .v) maxValues b, told-lt (λ u. eqb (getD (a .t1) u 0) (a .code)) (l .v), pow-mono {i = suc (l .v)} {j = maxValues} b)
+    let room = pow-mono {i = suc (l .v)} {j = maxValues} b in
+    omega (arith, l .inv .1, shifted-one (l .v) maxValues b, told-lt (λ u. eqb (getD (a .t1) u 0) (a .code)) (l .v), room)
 
 add-v : tie.Need-add-v Inv-loop μ-loop
 add-v c = search needs

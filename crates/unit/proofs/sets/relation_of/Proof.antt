@@ -24,7 +24,8 @@ use Rattle.unit.proofs.sets.relation_of.Tie as tie
 
 abbrev Inv-loop : tie.InvT-loop
 Inv-loop sheet n m codes sets₀ p₀ p-end sets p =
-    (p ≤ p-end) × (length sets ≡ maxPatterns) × ((q : ℕ) → p ≤ q → getD sets q 0 ≡ 0) × ((h : WasRead sheet) (q : ℕ) → q < p → getD sets q 0 ≡ setOn (h .commands) q)
+    (p ≤ p-end) × (length sets ≡ maxPatterns) × ((q : ℕ) → p ≤ q → getD sets q 0 ≡ 0)
+    × ((h : WasRead sheet) (q : ℕ) → q < p → getD sets q 0 ≡ setOn (h .commands) q)
 
 abbrev μ-loop : tie.MeasureT-loop
 μ-loop sheet n m codes sets₀ p₀ p-end sets p = p-end - p
@@ -101,7 +102,8 @@ returns : tie.Need-returns Inv-loop μ-loop
 returns c =
     let l = c .before .loop in
     let sheet = c .before .before .before .before .args .sheet in
-    let e : l .p ≡ 2 ^ sheet .n = omega (arith, c .before .before .patterns-of .ensures .2 (placed (c .before .before .before .before .pre) .few-inputs)) in
+    let few = placed (c .before .before .before .before .pre) .few-inputs in
+    let e : l .p ≡ 2 ^ sheet .n = omega (arith, c .before .before .patterns-of .ensures .2 few) in
     λ h. whole h (l .sets) (l .inv .1) (λ q d. l .inv .3 h q (omega arith)) (λ q d. l .inv .2 q (omega arith))
 
 pub relation-of-spec : {M : Type 1} → statement M

@@ -60,7 +60,7 @@ returns c =
     λ h is. unmarked h (i .args .p) (i .pre .1) (c .if1 .taken)
 
 element-copy-out-present : tie.Need-element-copy-out-present
-element-copy-out-present c = omega (arith, room (c .before .before .before .pre .0) (c .before .before .before .args .p) (c .before .before .before .pre .1))
+element-copy-out-present c = let i = c .before .before .before in omega (arith, room (i .pre .0) (i .args .p) (i .pre .1))
 
 cast-present : tie.Need-cast-present
 cast-present c = search needs
