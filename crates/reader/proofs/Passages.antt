@@ -1,7 +1,7 @@
 -- What is known of the commands that a sheet holds: each was in order after those before it, and at the end no pattern is missing.
 use Prim.Native.Nat.{ℕ, zero, suc, _<_, _≤_, _^_}
 use mathlib.Core.Path.{_≡_, refl, sym, subst, _∙_}
-use mathlib.Core.Bool.{true, false, not}
+use mathlib.Core.Bool.{true, false, not, Bool·not-not}
 use mathlib.Core.List.{List, [], _∷_, _++_}
 use native.Mathlib.Omega.{arith}
 use lib.Dec.{ltb, nltb→le, not-T}
@@ -16,7 +16,7 @@ use Rattle.sheet.specs.Commands.{isEmpty, isSizes, inputsOf, isMarked, wiresOf}
 use Rattle.reader.specs.Reader.{isOutOfRange, readerAt, nextOf}
 use Rattle.sheet.specs.Judged.{Reading, holds, isNotMade, isRepeated, isTooMany, judged, missing, ending, refused}
 use Rattle.reader.specs.Reading.{isEnd, Passage, over, on, onward, afterStep, oneCommand, continued, readingFrom, readingOf}
-use Rattle.reader.proofs.Steps.{twice, HandedBack, StepTells, next-tells}
+use Rattle.reader.proofs.Steps.{HandedBack, StepTells, next-tells}
 
 -- a command that is in order after the commands before it
 pub record InOrder (before : List Command) (c : Command) : Type 0 where
@@ -71,7 +71,7 @@ onward-tells s at before c t (holds cs) b j =
     cond-has (PassageTells s at before) (isEnd c) (λ _. ending-tells s (t .at) before cs g) (λ _. (g, b .ahead, b .within))
   where
     order : InOrder before c
-    order = record { first = b .first ∙ twice (isEmpty before); in-range = b .in-range; made = j .1; new = j .2; room = j .3 }
+    order = record { first = b .first ∙ Bool·not-not (isEmpty before); in-range = b .in-range; made = j .1; new = j .2; room = j .3 }
 
     g : Grown before cs
     g = subst (Grown before) (sym (j .0)) (grown c order)

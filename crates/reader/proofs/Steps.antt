@@ -29,10 +29,6 @@ abbrev pub StepTells : List ℕ → Reader → Step → Type 0
 StepTells s r (Read c t) = HandedBack s r c t
 StepTells s r (Refused f) = Unit
 
-pub twice : (x : Bool) → not (not x) ≡ x
-twice true = refl
-twice false = refl
-
 -- 01 is the command that names sizes
 sizes-byte : (b x y z : ℕ) → isSizes (commandOf b x y z) ≡ eqb b 1
 sizes-byte b x y z =

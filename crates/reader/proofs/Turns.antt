@@ -1,7 +1,7 @@
 -- One turn of the loop over the commands, and what is left of the reading after it.
 use Prim.Native.Nat.{ℕ, suc, _+_, _-_, _<_, _≤_}
 use mathlib.Core.Path.{_≡_, refl, sym, ap, subst, _∙_}
-use mathlib.Core.Bool.{true, false, not}
+use mathlib.Core.Bool.{true, false, not, Bool·not-not}
 use mathlib.Core.List.{List, [], _∷_, _++_}
 use native.Mathlib.Nat.{sub-zero}
 use native.Mathlib.Omega.{arith}
@@ -30,7 +30,7 @@ use Rattle.reader.specs.Inner.Turns.{doneWith, turnOf}
 use Rattle.sheet.specs.Inner.Gathering.{gatheredReply}
 use Rattle.sheet.proofs.Fields.{nothing}
 use Rattle.reader.proofs.Replies.{reply-told, refused-reply}
-use Rattle.reader.proofs.Steps.{twice, HandedBack, reader-moved}
+use Rattle.reader.proofs.Steps.{HandedBack, reader-moved}
 use Rattle.reader.proofs.InRange.{inputs-fit}
 use Rattle.reader.proofs.Passages.{Grown, grown, JudgedTells, judged-tells, PassageTells, passage-tells}
 
@@ -85,7 +85,7 @@ module _ (s : List ℕ) (before : List Command) (r : Reader) (e : r ≡ readerAt
 
   module _ (c : Command) (t : Reader) (b : HandedBack s r c t) where
     pub sizes-first : isSizes c ≡ isEmpty before
-    sizes-first = b .first ∙ ap (λ (x : Reader). not (x .started)) e ∙ twice (isEmpty before)
+    sizes-first = b .first ∙ ap (λ (x : Reader). not (x .started)) e ∙ Bool·not-not (isEmpty before)
 
     pub reader-past : t ≡ readerAt (t .at) (before ++ c ∷ [])
     reader-past = b .moved ∙ ap (λ (x : Reader). movedPast x c (t .at)) e ∙ reader-moved (r .at) (t .at) before c sizes-first

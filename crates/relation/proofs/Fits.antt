@@ -1,7 +1,7 @@
 -- Laws of the test of a relation that is handed over as numbers: what passing says, and what refusal 10 says.
 use mathlib.Core.Path.{_≡_, refl, sym, ap, _∙_}
 use mathlib.Core.Logic.{⊎-elim}
-use mathlib.Core.Bool.{Bool, true, false, cond, not}
+use mathlib.Core.Bool.{Bool, true, false, cond, not, Bool·not-not}
 use mathlib.Core.List.{List}
 use Prim.Native.Nat.{ℕ, _^_, _<_, _≤_}
 use native.Mathlib.Omega.{arith}
@@ -40,10 +40,6 @@ none-wide n m sets h p l =
     let f : ℕ → Bool = λ p. leb (2 ^ (2 ^ m)) (getD sets p 0) in
     ⊎-elim (λ b. absurd (omega arith)) (λ z. nleb→lt (2 ^ (2 ^ m)) (getD sets p 0) (z p l)) (lowest-or (2 ^ n) f)
 
-not-twice : (b : Bool) → not (not b) ≡ b
-not-twice true = refl
-not-twice false = refl
-
 -- where none has, the lowest empty set is the lowest that is 0
 pub empty-zero : (n m : ℕ) (sets : List ℕ) → ((p : ℕ) → p < 2 ^ n → getD sets p 0 < 2 ^ (2 ^ m))
     → emptyPattern n m (ofSets (take (2 ^ n) sets)) ≡ lowest (2 ^ n) (λ p. eqb (getD sets p 0) 0)
@@ -52,7 +48,7 @@ empty-zero n m sets h =
     lowest-cong (2 ^ n) (λ p. not (any (2 ^ m) (ofSets (take (2 ^ n) sets) p))) (λ p. eqb (getD sets p 0) 0)
     (λ p l. ap (λ w. not (any (2 ^ m) (member w))) (getD-take (2 ^ n) sets p 0 l)
     ∙ ap not (any-member (2 ^ m) (getD sets p 0) (h p l))
-    ∙ not-twice (eqb (getD sets p 0) 0))
+    ∙ Bool·not-not (eqb (getD sets p 0) 0))
 
 -- the replies of the test, in its order
 module _ (r : Relation) where
