@@ -6,7 +6,8 @@ use native.Mathlib.Nat.{not-suc-le-zero}
 use lib.Dec.{T}
 use Rattle.sheet.specs.Limits.{maxWires}
 use Rattle.base.proofs.Tests.{cond-has₂}
-use Rattle.relation.specs.Source.{Rel, WellDefined}
+use Rattle.relation.specs.Source.{Rel}
+use Rattle.relation.specs.Inner.Source.{WellDefined}
 use Rattle.table.specs.Cells.{wires}
 use Rattle.relation.specs.Tests.{keep, free, freeWire, compatible, conflict, openPairs}
 use Rattle.relation.proofs.Decide.{free-both, conflict-is, freeWire-is}

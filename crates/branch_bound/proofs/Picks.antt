@@ -14,8 +14,8 @@ use Rattle.table.specs.Bits.{bit}
 use Rattle.table.specs.Pick.{suits, least, leastOf}
 use Rattle.table.proofs.Bits.{sum-cong, sum-le, tabulate-at, tabulate-length}
 use Rattle.table.proofs.Least.{Least, least-is, least-found}
-use Rattle.relation.specs.Source.{Rel, Tables, Stage, WellDefined, Compatible}
-use Rattle.relation.specs.Inner.Source.{Part, fits}
+use Rattle.relation.specs.Source.{Rel, Tables, Stage, Compatible}
+use Rattle.relation.specs.Inner.Source.{WellDefined, Part, fits}
 use Rattle.table.specs.Cells.{wires, total}
 use Rattle.relation.specs.Tests.{projection}
 use Rattle.relation.proofs.Decide.{value-cong, value-is, compatible-fits, some-fits}

@@ -8,8 +8,8 @@ use native.Mathlib.Nat.{not-suc-le-zero, le-refl, le-trans}
 use lib.Dec.{T, T-not, not-T, leb→le, nleb→lt}
 use Rattle.base.proofs.Tests.{cond-has}
 use Rattle.table.proofs.Bits.{bit-cases}
-use Rattle.relation.specs.Source.{Rel, Tables, Stage, WellDefined, Compatible, value}
-use Rattle.relation.specs.Inner.Source.{Part}
+use Rattle.relation.specs.Source.{Rel, Tables, Stage, Compatible, value}
+use Rattle.relation.specs.Inner.Source.{WellDefined, Part}
 use Rattle.table.specs.Cells.{wires}
 use Rattle.relation.specs.Tests.{keep, free, freeWire, compatible, conflict, openPairs}
 use Rattle.relation.proofs.Decide.{free-both, compatible-at, conflict-is, freeWire-is}

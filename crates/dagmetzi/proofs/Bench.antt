@@ -25,7 +25,8 @@ use Rattle.unit.specs.Formed.{formedOf}
 use Rattle.unit.specs.Present.{presentTable, presentTables, presentCells}
 use Rattle.unit.proofs.Rows as UnitRows
 use Rattle.unit.proofs.Rows.{limitedA}
-use Rattle.quote.specs.Quote.{refusedQuote, withStage, searched, quotedOf, bufferSearched, bufferQuoted}
+use Rattle.quote.specs.Inner.Refused.{refusedQuote}
+use Rattle.quote.specs.Quote.{withStage, searched, quotedOf, bufferSearched, bufferQuoted}
 use Rattle.report.specs.Lines.{newline}
 use Rattle.report.proofs.Rows.{printing}
 use Rattle.printed.specs.Printed.{budget, printedOf}

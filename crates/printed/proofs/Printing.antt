@@ -14,7 +14,8 @@ use Rattle.base.proofs.Tests.{decide}
 use Rattle.stage.specs.Bytes.{longestStage}
 use Rattle.stage.proofs.Prefix.{front-tells}
 use Rattle.quote.specs.Cases.{QuoteReply}
-use Rattle.quote.specs.Quote.{refusedQuote, bufferQuoted}
+use Rattle.quote.specs.Inner.Refused.{refusedQuote}
+use Rattle.quote.specs.Quote.{bufferQuoted}
 use Rattle.quote.specs.Audit.{auditedFrom, auditedOf}
 use Rattle.report.specs.Lines.{Printed, sheetText, linesOf, auditLine}
 use Rattle.printed.specs.Printed.{longestSheet, budget, lent, tooLongLine, quoted, printedOf, auditPrintedOf}

@@ -7,7 +7,7 @@ use stage::LONGEST_STAGE;
 ghost use mathlib.Core.Path.{_≡_};
 ghost use Rattle.base.specs.Refusals.{refusalAt, tooLong};
 ghost use Rattle.quote.specs.Cases.{quoteReply};
-ghost use Rattle.quote.specs.Quote.{refusedQuote};
+ghost use Rattle.quote.specs.Inner.Refused.{refusedQuote};
 ghost use Rattle.report.specs.Lines.{Printed};
 ghost use Rattle.printed.specs.Printed.{longestSheet, printedOf, auditPrintedOf};
 

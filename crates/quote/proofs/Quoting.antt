@@ -21,7 +21,8 @@ use Rattle.unit.specs.declared.Formed.{Formed}
 use Rattle.unit.specs.Cases.{formedReply}
 use Rattle.unit.specs.Formed.{formedOf}
 use Rattle.quote.specs.Cases.{QuoteReply}
-use Rattle.quote.specs.Quote.{refusedQuote, withStage, searched, bufferSearched, quotedOf, bufferQuoted}
+use Rattle.quote.specs.Inner.Refused.{refusedQuote}
+use Rattle.quote.specs.Quote.{withStage, searched, bufferSearched, quotedOf, bufferQuoted}
 use Rattle.quote.specs.Promised.{Promised}
 use Rattle.quote.proofs.Demand.{promised}
 

@@ -32,7 +32,8 @@ use Rattle.stage.specs.Read.{readStage}
 use Rattle.stage.specs.Written.{stageOf, writtenOf, bufferWith, bufferAfter}
 use Rattle.unit.specs.Rival.{Rival}
 use Rattle.unit.proofs.Rivals.{commands-only}
-use Rattle.quote.specs.Quote.{noQuote, refusedQuote, withStage, searched, bufferSearched}
+use Rattle.quote.specs.Quote.{noQuote, withStage, searched, bufferSearched}
+use Rattle.quote.specs.Inner.Refused.{refusedQuote}
 use Rattle.quote.specs.Promised.{RivalStage, NoRival, Promised}
 use Rattle.quote.proofs.Own.{found, trees, own-family, own-cells, above, best, within, spent, written, read-back}
 

@@ -3,3 +3,4 @@ pub mod Cases
 pub mod Quote
 pub mod Promised
 pub mod Audit
+pub mod Inner

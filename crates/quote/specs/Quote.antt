@@ -2,8 +2,7 @@
 use Prim.Native.Nat.{ℕ, zero}
 use mathlib.Core.Bool.{cond}
 use mathlib.Core.List.{List}
-use Rattle.base.specs.declared.Refusal.{Refusal}
-use Rattle.base.specs.Cases.{Case, refusedCase, isRefused}
+use Rattle.base.specs.Cases.{Case, isRefused}
 use Rattle.relation.specs.declared.Relation.{Relation}
 use Rattle.branch_bound.specs.Reply.{SearchReply, searchOf}
 use Rattle.stage.specs.Written.{writtenOf, bufferAfter}
@@ -13,9 +12,6 @@ use Rattle.quote.specs.Cases.{QuoteReply}
 -- every number of a refused quote but its refusal's is 0
 abbrev pub noQuote : Case → QuoteReply
 noQuote c = record { cells = zero; floor = zero; visits = zero; length = zero; mark = c }
-
-abbrev pub refusedQuote : Refusal → QuoteReply
-refusedQuote f = noQuote (refusedCase f)
 
 -- the reply of the search with the length of the stage written, unless the writer refuses
 unfoldable pub withStage : SearchReply → Case → QuoteReply

@@ -11,7 +11,8 @@ ghost use lib.ListN.{length};
 ghost use Rattle.stage.specs.Written.{writtenOf, bufferAfter};
 ghost use Rattle.search.specs.Cases.{searchReply};
 ghost use Rattle.quote.specs.Cases.{quoteReply};
-ghost use Rattle.quote.specs.Quote.{refusedQuote, withStage, searched, bufferSearched};
+ghost use Rattle.quote.specs.Inner.Refused.{refusedQuote};
+ghost use Rattle.quote.specs.Quote.{withStage, searched, bufferSearched};
 
 pub fn refused_quote(refusal: Refusal) -> Quoted
     ensures { λ r. ⌜ quoteReply r ≡ refusedQuote refusal ⌝ }

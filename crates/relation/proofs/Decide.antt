@@ -11,8 +11,8 @@ use Rattle.base.proofs.Lowest.{lowest-is, lowest-or}
 use Rattle.table.specs.Bits.{bit, any, ofBits}
 use Rattle.table.specs.Pick.{suits}
 use Rattle.table.proofs.Bits.{all-at, all-intro, any-intro, any-at, sum-cong, bit-lt, bit-cases, ofBits-lt, bit-ofBits, bit-ext}
-use Rattle.relation.specs.Source.{Rel, Tables, WellDefined, Compatible, value}
-use Rattle.relation.specs.Inner.Source.{Projects, Open, fits}
+use Rattle.relation.specs.Source.{Rel, Tables, Compatible, value}
+use Rattle.relation.specs.Inner.Source.{WellDefined, Projects, Open, fits}
 use Rattle.relation.specs.Tests.{occurs, free, freeWire, compatible, conflict, emptyPattern}
 
 -- tables and their value

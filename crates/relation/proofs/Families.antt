@@ -16,7 +16,8 @@ use Rattle.table.specs.Drawing.{Drawing, drawnValue, drawnCells}
 use Rattle.table.specs.Inner.Drawing.{drawnTable, FairCount}
 use Rattle.table.proofs.Bits.{sum-cong, bit-lt, bit-ofBits, ofBits-lt, ofBits-bit}
 use Rattle.table.proofs.Drawings.{tables-lt, value-tables, value-lt, total-drawn, least, least-formed, least-value, least-cells}
-use Rattle.relation.specs.Source.{Rel, Tables, Stage, WellDefined, Compatible, value}
+use Rattle.relation.specs.Source.{Rel, Tables, Stage, Compatible, value}
+use Rattle.relation.specs.Inner.Source.{WellDefined}
 use Rattle.relation.specs.Families.{Family}
 
 module _ (D : Drawing) (n : ℕ) (count : ℕ → ℕ) (counts : FairCount D n count) (m : ℕ) (R : Rel) where

@@ -21,7 +21,7 @@ use Rattle.base.specs.declared.Refusal.{Refusal}
 use Rattle.table.specs.Bits.{any}
 use Rattle.relation.specs.declared.Relation.{Relation}
 use Rattle.relation.specs.Handed.{relationOf, widePattern, checkOf}
-use Rattle.relation.specs.Source.{WellDefined}
+use Rattle.relation.specs.Inner.Source.{WellDefined}
 use Rattle.relation.specs.Tests.{ofSets, emptyPattern}
 use Rattle.relation.specs.Inner.Masks.{member}
 use Rattle.relation.proofs.Decide.{well-defined-or, empty-not}

@@ -19,7 +19,7 @@ use lib.Pow.{pow-mono}
 use lib.ListN.{length, getD, set}
 use lib.Seq.{getD-set-same, getD-set-other}
 use Rattle.table.specs.Inner.Ranks.{masked}
-use Rattle.relation.specs.Source.{WellDefined}
+use Rattle.relation.specs.Inner.Source.{WellDefined}
 use Rattle.relation.proofs.Decide.{occurs-intro, occurs-at}
 use Rattle.relation.proofs.Members.{no-member, with-test}
 use Rattle.relation.proofs.Narrowing.{Narrow}

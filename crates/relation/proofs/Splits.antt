@@ -8,8 +8,8 @@ use lib.Dec.{T, T-not, eqb, eqb→eq, eqb-refl}
 use Rattle.base.proofs.Tests.{and-intro, and-left, and-right, or-left, or-right, or-cases, decide, eq-test}
 use Rattle.table.specs.Bits.{bit, sum, isOne}
 use Rattle.table.proofs.Bits.{sum-le, sum-lt, sum-bound, bit-cases}
-use Rattle.relation.specs.Source.{Rel, Tables, WellDefined, Compatible, value}
-use Rattle.relation.specs.Inner.Source.{Part, StrictPart, Split, Open, fits}
+use Rattle.relation.specs.Source.{Rel, Tables, Compatible, value}
+use Rattle.relation.specs.Inner.Source.{WellDefined, Part, StrictPart, Split, Open, fits}
 use Rattle.relation.specs.Tests.{keep, agree, occurs, free, openPairs}
 use Rattle.table.proofs.BitColumns.{isOne-small}
 use Rattle.relation.proofs.Decide.{value-bit, occurs-intro, occurs-at, fits-at, free-both}

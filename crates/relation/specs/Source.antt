@@ -9,10 +9,6 @@ use Rattle.table.specs.Bits.{bit, ofBits}
 abbrev pub Rel : Type 0
 Rel = ℕ → ℕ → Bool
 
--- Definition 4.6: well defined (left-total), that is, some value is allowed on each pattern
-abbrev pub WellDefined : ℕ → ℕ → Rel → Type 0
-WellDefined n m R = (p : ℕ) → p < 2 ^ n → (v : ℕ) × (v < 2 ^ m) × T (R p v)
-
 -- Definition 4.3: a multiple-output function is the vector of its outputs' truth tables, here by output
 abbrev pub Tables : Type 0
 Tables = ℕ → ℕ

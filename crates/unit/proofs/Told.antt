@@ -19,7 +19,7 @@ use Rattle.table.specs.Drawing.{Drawing, drawnValue}
 use Rattle.table.specs.Inner.Drawing.{FairCount}
 use Rattle.table.proofs.Bits.{any-cong, zero-bit}
 use Rattle.relation.proofs.Families.{value-below}
-use Rattle.relation.specs.Source.{WellDefined}
+use Rattle.relation.specs.Inner.Source.{WellDefined}
 use Rattle.relation.specs.Tests.{ofSets, emptyPattern}
 use Rattle.relation.specs.Handed.{relationOf, widePattern, checkOf}
 use Rattle.relation.specs.Families.{Family}

@@ -9,7 +9,7 @@ use Rattle.sheet.specs.Inner.Sized.{Sized}
 use Rattle.table.specs.Bits.{bit, tabulate}
 use Rattle.table.specs.Inner.Ranks.{pickOf, rank}
 use Rattle.table.specs.Inner.Pairs.{zerosIn, onesIn}
-use Rattle.relation.specs.Source.{WellDefined}
+use Rattle.relation.specs.Inner.Source.{WellDefined}
 use Rattle.relation.specs.Tests.{ofSets, occurs}
 use Rattle.relation.specs.Inner.Masks.{member, maskOf, NonePast}
 use Rattle.parts.specs.Inner.Pairs.{pairsOf}

@@ -1,6 +1,6 @@
 -- `too_long_quote` meets its contract.
 use mathlib.Core.Path.{ap}
-use Rattle.quote.specs.Quote.{refusedQuote}
+use Rattle.quote.specs.Inner.Refused.{refusedQuote}
 use borrow.Author.Needs.{needs}
 use Rattle.printed.proofs.too_long_quote.Statement.{statement}
 use Rattle.printed.proofs.too_long_quote.Tie as tie

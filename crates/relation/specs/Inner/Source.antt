@@ -9,6 +9,10 @@ use Rattle.table.specs.Pick.{suits}
 use Rattle.relation.specs.Source.{Rel}
 use Rattle.relation.specs.Tests.{projection}
 
+-- Definition 4.6: well defined (left-total), that is, some value is allowed on each pattern
+abbrev pub WellDefined : ℕ → ℕ → Rel → Type 0
+WellDefined n m R = (p : ℕ) → p < 2 ^ n → (v : ℕ) × (v < 2 ^ m) × T (R p v)
+
 -- the subset order
 abbrev pub Part : Rel → Rel → Type 0
 Part R Q = (p v : ℕ) → T (R p v) → T (Q p v)
