@@ -40,7 +40,8 @@ cond-has P true f g = f tt
 cond-has P false f g = g tt
 
 -- two choices by one test
-pub cond-has₂ {ℓ κ} : {A : Type ℓ} {B : Type κ} (P : A → B → Type 0) (b : Bool) {x y : A} {u v : B} → (T b → P x u) → (T (not b) → P y v) → P (cond b x y) (cond b u v)
+pub cond-has₂ {ℓ κ} : {A : Type ℓ} {B : Type κ} (P : A → B → Type 0) (b : Bool) {x y : A} {u v : B} → (T b → P x u) → (T (not b) → P y v)
+    → P (cond b x y) (cond b u v)
 cond-has₂ P true f g = f tt
 cond-has₂ P false f g = g tt
 

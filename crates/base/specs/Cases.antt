@@ -7,8 +7,8 @@ use Rattle.base.specs.declared.Refusal.{Refusal}
 use Rattle.base.specs.declared.Verdict.{Verdict}
 use Rattle.base.specs.declared.Verdict.the-variants.{Accepted, Refused}
 
--- the outcome, which tells a case from the other cases of its enum; the number and the place of its refusal, 0 where it refuses nothing; and its own value (cells,
--- a length), 0 where it has none
+-- the outcome, which tells a case from the other cases of its enum; the number and the place of its refusal, 0 where it refuses nothing;
+-- and its own value (cells, a length), 0 where it has none
 pub record Case : Type 0 where
   pub outcome : ℕ
   pub number : ℕ

@@ -64,7 +64,8 @@ pub extern "C" fn dagmetzi_quote(
     ensures refusal { λ r. ⌜ r ≡ quotedOf (now (sheet .entry)) budget (length (now (buffer .entry))) .mark .number ⌝ }
     ensures numbers { λ _. ⌜ now (reply .exit) ≡ quoteNumbers (quotedOf (now (sheet .entry)) budget (length (now (buffer .entry)))) ⌝ }
     ensures bytes { λ _. ⌜ now (buffer .exit) ≡ bufferQuoted (now (sheet .entry)) budget (now (buffer .entry)) ⌝ }
-    ensures promise { λ _. ⌜ Promised treeDrawing (now (sheet .entry)) budget (quotedOf (now (sheet .entry)) budget (length (now (buffer .entry)))) (now (buffer .exit)) ⌝ }
+    ensures promise { λ _. ⌜ Promised treeDrawing (now (sheet .entry)) budget (quotedOf (now (sheet .entry)) budget (length (now (buffer .entry))))
+        (now (buffer .exit)) ⌝ }
 {
     let quoted = quote(sheet, budget, buffer);
     let mark = quoted.mark;
