@@ -253,23 +253,16 @@ zero-suits P s h t = rw (bit-zero s h) t
 single : (P : Proj) → IsBest 0 P (cond (P 0 0) (some 0) (cond (P 0 1) (some 1) none))
 unfolding cells
 single P =
-    cond-has (IsBest 0 P) (P 0 0)
-    (λ t.
-    record {
-      inside = omega arith;
-      suited = zero-suits P 0 (omega arith) t;
-      first = λ s ls ss. record { fewer = omega arith; smaller = λ _. omega arith };
-    })
+    cond-has (IsBest 0 P) (P 0 0) (λ t. smallest 0 (omega arith) t (λ s ls ss. omega arith))
     (λ f.
     let no : (s : ℕ) → s < 2 → T (suits 0 P s) → s ≡ 0 → ⊥ = λ s l ss e. T-not (P 0 0) f (rw e at (suits-zero P s l ss)) in
-    cond-has (IsBest 0 P) (P 0 1)
-    (λ t.
-    record {
-      inside = omega arith;
-      suited = zero-suits P 1 (omega arith) t;
-      first = λ s ls ss. record { fewer = omega arith; smaller = λ _. ⊎-elim (λ e. absurd (no s ls ss e)) (λ e. omega arith) (two s ls) };
-    })
+    cond-has (IsBest 0 P) (P 0 1) (λ t. smallest 1 (omega arith) t (λ s ls ss. ⊎-elim (λ e. absurd (no s ls ss e)) (λ e. omega arith) (two s ls)))
     (λ g s ls ss. ⊎-elim (λ e. no s ls ss e) (λ e. T-not (P 0 1) g (rw e at (suits-zero P s ls ss))) (two s ls)))
+  where
+    -- no table of no input has a cell, so the smallest that suits is the best
+    smallest : (b : ℕ) → b < 2 → T (P 0 b) → ((s : ℕ) → s < 2 → T (suits 0 P s) → b ≤ s) → Best 0 P b
+    smallest b l t f =
+        record { inside = l; suited = zero-suits P b l t; first = λ s ls ss. record { fewer = omega arith; smaller = λ _. f s ls ss } }
 
 -- the least table of all is the best
 pub least-best : (r : ℕ) (P : Proj) → IsBest r P (leastOf (cells r) r P)
