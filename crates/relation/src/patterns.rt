@@ -27,7 +27,7 @@ const LOWEST: u64 = 1 + SIDE_1 + SIDE_2 + SIDE_3;
 // above two.
 const TOGETHER: u64 = Sheet::MAX_PATTERNS as u64 - 1;
 
-const TWICE_TOGETHER: u64 = 2 * TOGETHER;
+const TWICE_TOGETHER: u64 = 2 * Sheet::MAX_PATTERNS as u64 - 2;
 
 const VALUES: u64 = Sheet::MAX_VALUES as u64;
 
