@@ -20,6 +20,15 @@ const SIDE_2: u64 = 1 << (2 * Sheet::MAX_PATTERNS);
 
 const SIDE_3: u64 = 1 << (3 * Sheet::MAX_PATTERNS);
 
+// The lowest bit of each of the four tables.
+const LOWEST: u64 = 1 + SIDE_1 + SIDE_2 + SIDE_3;
+
+// Moved down by so many bits, the lowest bit of a table stands one above that of the table below it; by twice as many, two such bits stand
+// above two.
+const TOGETHER: u64 = Sheet::MAX_PATTERNS as u64 - 1;
+
+const TWICE_TOGETHER: u64 = 2 * Sheet::MAX_PATTERNS as u64 - 2;
+
 const VALUES: u64 = Sheet::MAX_VALUES as u64;
 
 // Bit p of a table.
@@ -42,6 +51,7 @@ pub fn value_of(tables: [u16; Sheet::WIRES], p: u8) -> u8
 }
 
 // The tables of all wires side by side in one number, as many bits each as there are patterns, so that the value on a pattern takes one shift.
+// Four tables of four inputs fill the number.
 pub fn side_by_side(tables: [u16; Sheet::WIRES]) -> u64
     ensures { λ r. ⌜ r ≡ sideBySide tables ⌝ }
 {
@@ -51,14 +61,14 @@ pub fn side_by_side(tables: [u16; Sheet::WIRES]) -> u64
         + tables[3] as u64 * SIDE_3
 }
 
-// The value that tables side by side drive on pattern p: their lowest bits, 0, 16, 32 and 48, are moved together.
+// The value that tables side by side drive on pattern p: their bits there are moved together.
 pub fn value_in(tables: u64, p: u8) -> u8
     requires { ⌜ p < maxPatterns ⌝ }
     ensures { λ r. ⌜ (r ≡ valueIn tables p) × (r < maxValues) ⌝ }
 {
-    let bits = (tables >> p) & 0x0001_0001_0001_0001;
-    let pairs = bits + (bits >> 15);
-    ((pairs + (pairs >> 30)) % VALUES) as u8
+    let bits = (tables >> p) & LOWEST;
+    let pairs = bits + (bits >> TOGETHER);
+    ((pairs + (pairs >> TWICE_TOGETHER)) % VALUES) as u8
 }
 
 // The column of a wire's bit, of its two columns. Chosen and not looked up, so that all patterns are narrowed at once.

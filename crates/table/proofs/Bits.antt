@@ -1,79 +1,21 @@
--- Laws of bits, and of tests and sums over the numbers below a bound.
+-- Laws of bits, and of numbers made of bits. Those of tests, of sums and of lists told by a function are handed on to the crates above.
 use Prim.Native.Nat.{ℕ, zero, suc, _+_, _*_, _^_, _/_, _%_, _<_, _≤_}
 use mathlib.Core.Path.{_≡_, refl, sym, ap, _∙_}
 use mathlib.Core.Logic.{_⊎_, inl, inr, ⊎-elim}
-use mathlib.Core.Bool.{Bool, _&&_}
+use mathlib.Core.Bool.{_&&_}
 use native.Mathlib.Numerals.{add-one}
 use native.Mathlib.Omega.{arith}
-use native.Mathlib.Nat.{not-suc-le-zero, le-of-suc-le-suc, eq-or-lt-of-le, lt-of-lt-of-le, le-trans, le-dest, add-comm, pow-suc, mul-le-mul-right}
+use native.Mathlib.Nat.{not-suc-le-zero, le-of-suc-le-suc, lt-of-lt-of-le, le-trans, le-dest, add-comm, pow-suc, mul-le-mul-right}
 use native.Mathlib.Nat.{mod-lt, mod-le, mod-eq-of-lt, mod-add-div', div-eq-of-lt, div-lt-iff-lt-mul, add-mul-div-right, add-mul-mod-self-right}
-use lib.Dec.{T, eqb}
+use lib.Dec.{eqb}
 use lib.Bits.{bitAnd, and-shr, and-mod}
 use lib.Pow.{pow-pos, pow-add, pow-mono, high, shr-shr, shl-exact, split}
 pub use Rattle.base.proofs.Tabulate.{tabulate-length, tabulate-at, tabulate-cong, tabulate-four}
-use Rattle.base.proofs.Tests.{and-intro, and-left, and-right, or-left, or-right, or-cases, below-suc}
-use Rattle.table.specs.Bits.{bit, all, any, sum, ofBits}
+use Rattle.base.proofs.Tests.{below-suc}
+pub use Rattle.table.proofs.Below.{all-at, all-intro, all-cong, any-intro, any-at, any-cong}
+pub use Rattle.table.proofs.Sums.{sum-cong, sum-le, sum-lt, sum-bound, sum-short, sum-but-one}
+use Rattle.table.specs.Bits.{bit, sum, ofBits}
 
--- every number below k
-pub all-at : (k : ℕ) (f : ℕ → Bool) → T (all k f) → (i : ℕ) → i < k → T (f i)
-unfolding all
-all-at zero f t i h = absurd (not-suc-le-zero h)
-all-at (suc k) f t i h =
-    ⊎-elim (λ (e : i ≡ k). rw e (and-right (all k f) (f k) t)) (λ l. all-at k f (and-left (all k f) (f k) t) i l) (below-suc h)
-
-pub all-intro : (k : ℕ) (f : ℕ → Bool) → ((i : ℕ) → i < k → T (f i)) → T (all k f)
-unfolding all
-all-intro zero f h = tt
-all-intro (suc k) f h = and-intro (all k f) (f k) (all-intro k f (λ i l. h i (omega arith))) (h k (omega arith))
-
-pub any-intro : (k : ℕ) (f : ℕ → Bool) (i : ℕ) → i < k → T (f i) → T (any k f)
-unfolding any
-any-intro zero f i h t = absurd (not-suc-le-zero h)
-any-intro (suc k) f i h t =
-    ⊎-elim (λ (e : i ≡ k). or-right (any k f) (f k) (rw e at t)) (λ l. or-left (any k f) (f k) (any-intro k f i l t)) (below-suc h)
-
-pub any-at : (k : ℕ) (f : ℕ → Bool) → T (any k f) → (i : ℕ) × (i < k) × T (f i)
-unfolding any
-any-at zero f t = absurd t
-any-at (suc k) f t =
-    ⊎-elim (λ l. let r = any-at k f l in (r .0, omega arith, r .2)) (λ r. (k, omega arith, r)) (or-cases (any k f) (f k) t)
-
--- sums
-pub sum-cong : (k : ℕ) (f g : ℕ → ℕ) → ((i : ℕ) → i < k → f i ≡ g i) → sum k f ≡ sum k g
-unfolding sum
-sum-cong zero f g h = refl
-sum-cong (suc k) f g h = cc (sum-cong k f g (λ i l. h i (omega arith)), h k (omega arith))
-
-pub sum-le : (k : ℕ) (f g : ℕ → ℕ) → ((i : ℕ) → i < k → f i ≤ g i) → sum k f ≤ sum k g
-unfolding sum
-sum-le zero f g h = omega arith
-sum-le (suc k) f g h = omega (arith, sum-le k f g (λ i l. h i (omega arith)), h k (omega arith))
-
-pub sum-lt : (k : ℕ) (f g : ℕ → ℕ) → ((i : ℕ) → i < k → f i ≤ g i) → (i : ℕ) → i < k → f i < g i → sum k f < sum k g
-unfolding sum
-sum-lt zero f g h i l s = absurd (not-suc-le-zero l)
-sum-lt (suc k) f g h i l s =
-    ⊎-elim
-    (λ (e : i ≡ k). let s′ : f k < g k = rw e at s in omega (arith, sum-le k f g (λ i l. h i (omega arith))))
-    (λ b. omega (arith, sum-lt k f g (λ i l. h i (omega arith)) i b s, h k (omega arith)))
-    (below-suc l)
-
-pub sum-bound : (k c : ℕ) (f : ℕ → ℕ) → ((i : ℕ) → i < k → f i ≤ c) → sum k f ≤ k * c
-unfolding sum
-sum-bound zero c f h = omega arith
-sum-bound (suc k) c f h = omega (arith, sum-bound k c f (λ i l. h i (omega arith)), h k (omega arith))
-
--- what is 0 from m on adds nothing
-pub sum-short : (f : ℕ → ℕ) (m k : ℕ) → m ≤ k → ((i : ℕ) → m ≤ i → f i ≡ 0) → sum k f ≡ sum m f
-unfolding sum
-sum-short f m zero h z = let e : m ≡ 0 = omega arith in rw e
-sum-short f m (suc k) h z =
-    ⊎-elim (λ (l : m ≤ k). omega (arith, sum-short f m k l z, z k l)) (λ (e : m ≡ suc k). rw e) (le-or-top h)
-  where
-    le-or-top : m ≤ suc k → (m ≤ k) ⊎ (m ≡ suc k)
-    le-or-top q = ⊎-elim (λ e. inr e) (λ l. inl (le-of-suc-le-suc l)) (eq-or-lt-of-le q)
-
--- bits
 pub bit-lt : (w v : ℕ) → bit w v < 2
 unfolding bit
 bit-lt w v = omega arith
@@ -168,16 +110,6 @@ pub bit-past : (x k v : ℕ) → x < 2 ^ k → k ≤ v → bit x v ≡ 0
 unfolding bit
 bit-past x k v h l = ap (λ y. y % 2) (div-eq-of-lt (lt-of-lt-of-le h (pow-mono l)))
 
-pub all-cong : (k : ℕ) (f g : ℕ → Bool) → ((i : ℕ) → i < k → f i ≡ g i) → all k f ≡ all k g
-unfolding all
-all-cong zero f g h = refl
-all-cong (suc k) f g h = cc (all-cong k f g (λ i l. h i (omega arith)), h k (omega arith))
-
-pub any-cong : (k : ℕ) (f g : ℕ → Bool) → ((i : ℕ) → i < k → f i ≡ g i) → any k f ≡ any k g
-unfolding any
-any-cong zero f g h = refl
-any-cong (suc k) f g h = cc (any-cong k f g (λ i l. h i (omega arith)), h k (omega arith))
-
 -- the bits of 0, and a bit of a number in its place
 pub zero-bit : (v : ℕ) → bit 0 v ≡ 0
 zero-bit v = bit-past 0 0 v (omega arith) (omega arith)
@@ -192,7 +124,7 @@ shifted-one k w h =
     let e : 1 * 2 ^ k ≡ 2 ^ k = omega arith in
     shl-exact 1 k w (omega arith) (omega arith) ∙ e
 
--- numbers of bits and sums that differ in few places
+-- one bit more, and none from some place on
 pub ofBits-more : (f : ℕ → ℕ) (p : ℕ) → ofBits (p + 1) f ≡ ofBits p f + f p * 2 ^ p
 unfolding ofBits sum
 ofBits-more f p = rw (add-one p)
@@ -200,11 +132,3 @@ ofBits-more f p = rw (add-one p)
 pub ofBits-short : (f : ℕ → ℕ) (k l : ℕ) → k ≤ l → ((i : ℕ) → k ≤ i → f i ≡ 0) → ofBits l f ≡ ofBits k f
 unfolding ofBits
 ofBits-short f k l h z = sum-short (λ i. f i * 2 ^ i) k l h (λ i b. rw (z i b) (omega arith))
-
-pub sum-but-one : (f g : ℕ → ℕ) (k p : ℕ) → p < k → ((q : ℕ) → (q ≡ p → ⊥) → f q ≡ g q) → sum k f + g p ≡ sum k g + f p
-unfolding sum
-sum-but-one f g zero p l h = absurd (not-suc-le-zero l)
-sum-but-one f g (suc k) p l h =
-    ⊎-elim (λ (e : p ≡ k). omega (arith, sum-cong k f g (λ q b. h q (λ d. omega arith)), ap f e, ap g e))
-    (λ (b : p < k). omega (arith, sum-but-one f g k p b h, h k (λ d. omega arith)))
-    (below-suc l)

@@ -10,7 +10,8 @@ use Rattle.table.specs.Bits.{bit, sum, ofBits}
 use Rattle.table.specs.Cells.{wires, total}
 use Rattle.table.specs.Drawing.{Drawing, drawnValue, drawnCells}
 use Rattle.table.specs.Inner.Drawing.{drawnTable, FairCount}
-use Rattle.table.proofs.Bits.{sum-cong, ofBits-lt, bit-ofBits}
+use Rattle.table.proofs.Sums.{sum-cong}
+use Rattle.table.proofs.Bits.{ofBits-lt, bit-ofBits}
 
 -- the first of a sum apart
 pub sum-first : (k : ℕ) (f : ℕ → ℕ) → sum (suc k) f ≡ f 0 + sum k (λ i. f (suc i))

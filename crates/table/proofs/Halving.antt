@@ -1,11 +1,11 @@
 -- The pick by halving: over the width, the least table is one common half twice, or two halves under a selector.
-use Prim.Native.Nat.{ℕ, zero, suc, _+_, _*_, _^_, _/_, _%_, _-_, _<_, _≤_, min}
+use Prim.Native.Nat.{ℕ, zero, suc, _+_, _*_, _^_, _/_, _%_, _-_, _<_, _≤_}
 use mathlib.Core.Path.{_≡_, refl, sym, ap, subst, _∙_}
 use mathlib.Core.Logic.{_⊎_, inl, inr, ⊎-elim}
-use mathlib.Core.Bool.{cond, not, _&&_}
+use mathlib.Core.Bool.{cond, _&&_}
 use mathlib.Core.Option.{Option, none, some}
 use native.Mathlib.Omega.{arith}
-use native.Mathlib.Nat.{le-refl, le-antisymm, mul-le-mul-right, two-pow-succ, mod-add-div', add-comm}
+use native.Mathlib.Nat.{le-antisymm, mul-le-mul-right, two-pow-succ, mod-add-div', add-comm}
 use lib.Dec.{T, T-not, eqb, ltb, ltb→lt, nltb→le, eqb→eq}
 use lib.Arith.{digits-lt, digits-div, digits-mod}
 use lib.Pow.{pow-add}
@@ -13,8 +13,10 @@ use Rattle.base.proofs.Tests.{cond-has, and-intro, and-left, and-right, decide,
 use Rattle.table.specs.Bits.{bit, all}
 use Rattle.table.specs.Cells.{low, high, cells}
 use Rattle.table.specs.Pick.{Proj, suits, least, leastOf}
-use Rattle.table.proofs.Bits.{all-at, all-intro, bit-zero}
+use Rattle.table.proofs.Below.{all-at, all-intro}
+use Rattle.table.proofs.Bits.{bit-zero}
 use Rattle.table.proofs.Cells.{low-lt, high-lt, low-bit, high-bit, cells-same, cells-differ, cells-most}
+use Rattle.table.proofs.Closer.{closer, closest, Lex, lex-trans, closer-left, closer-right, closer-one}
 use Rattle.table.proofs.Least.{Least, least-is}
 
 -- the projection where the first input is 1, and what both halves have
@@ -28,69 +30,10 @@ common r P p b = P p b && P (p + 1 * 2 ^ r) b
 unfoldable pub join : ℕ → ℕ → ℕ → ℕ
 join r h l = h * 2 ^ (2 ^ r) + l
 
--- of two tables the one of fewer cells, then the smaller
-unfoldable pub closer : (ℕ → ℕ) → ℕ → ℕ → ℕ
-closer key s t = cond (ltb (key s) (key t)) s (cond (ltb (key t) (key s)) t (min s t))
-
-unfoldable pub closest : (ℕ → ℕ) → Option ℕ → Option ℕ → Option ℕ
-closest key none o = o
-closest key (some s) none = some s
-closest key (some s) (some t) = some (closer key s t)
-
 unfoldable pub joins : ℕ → Option ℕ → Option ℕ → Option ℕ
 joins r none o = none
 joins r (some h) none = none
 joins r (some h) (some l) = some (join r h l)
-
--- s is as good as t: fewer cells, or as many and no greater number
-pub record Lex (key : ℕ → ℕ) (s t : ℕ) : Type 0 where
-  pub fewer : key s ≤ key t
-  pub smaller : key t ≤ key s → s ≤ t
-
-pub lex-refl : (key : ℕ → ℕ) (s : ℕ) → Lex key s s
-lex-refl key s = record { fewer = le-refl (key s); smaller = λ _. le-refl s }
-
-lex-trans : (key : ℕ → ℕ) (s t u : ℕ) → Lex key s t → Lex key t u → Lex key s u
-lex-trans key s t u a b =
-    record {
-      fewer = omega (arith, a .fewer, b .fewer);
-      smaller = λ h. omega (arith, a .smaller (omega (arith, b .fewer)), b .smaller (omega (arith, a .fewer)));
-    }
-
--- fewer cells alone
-lex-fewer : (key : ℕ → ℕ) (s t : ℕ) → T (ltb (key s) (key t)) → Lex key s t
-lex-fewer key s t b = let l = ltb→lt (key s) (key t) b in record { fewer = omega arith; smaller = λ h. absurd (omega arith) }
-
-pub closer-left : (key : ℕ → ℕ) (s t : ℕ) → Lex key (closer key s t) s
-unfolding closer
-closer-left key s t =
-    cond-has (λ x. Lex key x s) (ltb (key s) (key t)) (λ _. lex-refl key s)
-    (λ a. let a′ = nltb→le (key s) (key t) a in
-    cond-has (λ x. Lex key x s) (ltb (key t) (key s)) (λ b. lex-fewer key t s b)
-    (λ b. let b′ = nltb→le (key t) (key s) b in least (decide (ltb s t)) a′ b′))
-  where
-    least : T (ltb s t) ⊎ T (not (ltb s t)) → key t ≤ key s → key s ≤ key t → Lex key (min s t) s
-    least (inl h) a b = let e : min s t ≡ s = omega (arith, ltb→lt s t h) in rw e (lex-refl key s)
-    least (inr h) a b = let e : min s t ≡ t = omega (arith, nltb→le s t h) in rw e (record { fewer = a; smaller = λ _. nltb→le s t h })
-
-pub closer-right : (key : ℕ → ℕ) (s t : ℕ) → Lex key (closer key s t) t
-unfolding closer
-closer-right key s t =
-    cond-has (λ x. Lex key x t) (ltb (key s) (key t)) (λ b. lex-fewer key s t b)
-    (λ a. let a′ = nltb→le (key s) (key t) a in
-    cond-has (λ x. Lex key x t) (ltb (key t) (key s)) (λ _. lex-refl key t)
-    (λ b. let b′ = nltb→le (key t) (key s) b in least (decide (ltb s t)) a′ b′))
-  where
-    least : T (ltb s t) ⊎ T (not (ltb s t)) → key t ≤ key s → key s ≤ key t → Lex key (min s t) t
-    least (inl h) a b = let l = ltb→lt s t h in let e : min s t ≡ s = omega arith in rw e (record { fewer = b; smaller = λ _. omega arith })
-    least (inr h) a b = let e : min s t ≡ t = omega (arith, nltb→le s t h) in rw e (lex-refl key t)
-
-pub closer-one : (key : ℕ → ℕ) (s t : ℕ) → (closer key s t ≡ s) ⊎ (closer key s t ≡ t)
-unfolding closer
-closer-one key s t =
-    cond-has (λ x. (x ≡ s) ⊎ (x ≡ t)) (ltb (key s) (key t)) (λ _. inl refl)
-    (λ _. cond-has (λ x. (x ≡ s) ⊎ (x ≡ t)) (ltb (key t) (key s)) (λ _. inr refl)
-    (λ _. ⊎-elim (λ h. inl (omega (arith, ltb→lt s t h))) (λ h. inr (omega (arith, nltb→le s t h))) (decide (ltb s t))))
 
 -- the best table that suits a projection
 pub record Best (r : ℕ) (P : Proj) (t : ℕ) : Type 0 where
@@ -253,23 +196,16 @@ zero-suits P s h t = rw (bit-zero s h) t
 single : (P : Proj) → IsBest 0 P (cond (P 0 0) (some 0) (cond (P 0 1) (some 1) none))
 unfolding cells
 single P =
-    cond-has (IsBest 0 P) (P 0 0)
-    (λ t.
-    record {
-      inside = omega arith;
-      suited = zero-suits P 0 (omega arith) t;
-      first = λ s ls ss. record { fewer = omega arith; smaller = λ _. omega arith };
-    })
+    cond-has (IsBest 0 P) (P 0 0) (λ t. smallest 0 (omega arith) t (λ s ls ss. omega arith))
     (λ f.
     let no : (s : ℕ) → s < 2 → T (suits 0 P s) → s ≡ 0 → ⊥ = λ s l ss e. T-not (P 0 0) f (rw e at (suits-zero P s l ss)) in
-    cond-has (IsBest 0 P) (P 0 1)
-    (λ t.
-    record {
-      inside = omega arith;
-      suited = zero-suits P 1 (omega arith) t;
-      first = λ s ls ss. record { fewer = omega arith; smaller = λ _. ⊎-elim (λ e. absurd (no s ls ss e)) (λ e. omega arith) (two s ls) };
-    })
+    cond-has (IsBest 0 P) (P 0 1) (λ t. smallest 1 (omega arith) t (λ s ls ss. ⊎-elim (λ e. absurd (no s ls ss e)) (λ e. omega arith) (two s ls)))
     (λ g s ls ss. ⊎-elim (λ e. no s ls ss e) (λ e. T-not (P 0 1) g (rw e at (suits-zero P s ls ss))) (two s ls)))
+  where
+    -- no table of no input has a cell, so the smallest that suits is the best
+    smallest : (b : ℕ) → b < 2 → T (P 0 b) → ((s : ℕ) → s < 2 → T (suits 0 P s) → b ≤ s) → Best 0 P b
+    smallest b l t f =
+        record { inside = l; suited = zero-suits P b l t; first = λ s ls ss. record { fewer = omega arith; smaller = λ _. f s ls ss } }
 
 -- the least table of all is the best
 pub least-best : (r : ℕ) (P : Proj) → IsBest r P (leastOf (cells r) r P)

@@ -1,7 +1,10 @@
+pub mod Below
+pub mod Sums
 pub mod Bits
 pub mod Cells
 pub mod Trees
 pub mod Least
+pub mod Closer
 pub mod Halving
 pub mod Count
 pub mod Ranks

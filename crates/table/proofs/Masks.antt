@@ -13,11 +13,12 @@ use Rattle.table.specs.Cells.{cells, low, high}
 use Rattle.table.specs.Pick.{Proj, suits, least, orZero, leastOf}
 use Rattle.table.specs.Inner.Ranks.{masked, pickOf}
 use Rattle.table.specs.Inner.Blocks.{Covered}
-use Rattle.table.proofs.Bits.{all-cong, all-intro, all-at, ofBits-lt, bit-ofBits, bit-lt, bit-cases, test-and}
+use Rattle.table.proofs.Below.{all-cong, all-intro, all-at}
+use Rattle.table.proofs.Bits.{ofBits-lt, bit-ofBits, bit-lt, bit-cases, test-and}
 use Rattle.table.proofs.Cells.{low-bit, high-bit}
 use Rattle.table.proofs.Least.{Least, least-is, least-eq}
-use Rattle.table.proofs.Halving.{upper, common, join, joins, closest, least-halves, join-low, join-high}
-use Rattle.table.proofs.Ranks.{closer-self}
+use Rattle.table.proofs.Halving.{upper, common, join, joins, least-halves, join-low, join-high}
+use Rattle.table.proofs.Closer.{closest, closer-self}
 
 -- only the patterns and bits there are count
 pub least-cong : (key : ℕ → ℕ) (n : ℕ) (P Q : Proj) → ((p b : ℕ) → p < 2 ^ n → b < 2 → P p b ≡ Q p b) → leastOf key n P ≡ leastOf key n Q

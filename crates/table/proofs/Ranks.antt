@@ -1,44 +1,19 @@
 -- Ranks: a table and its cells as one number. The least number of three halves shows the least table of one input more.
 use Prim.Native.Nat.{ℕ, suc, _+_, _*_, _^_, _<_, _≤_, min}
-use mathlib.Core.Path.{_≡_, refl, sym, ap, ap₂, _∙_}
+use mathlib.Core.Path.{_≡_, sym, ap, ap₂, _∙_}
 use mathlib.Core.Logic.{⊎-elim}
 use mathlib.Core.Option.{Option, none, some}
 use native.Mathlib.Omega.{arith}
 use native.Mathlib.Nat.{mul-le-mul-right, le-antisymm}
-use lib.Dec.{T-not, eqb, ltb, ltb→lt, nltb→le, eqb→eq}
-use Rattle.base.proofs.Tests.{cond-has, decide, eq-test}
+use lib.Dec.{T-not, eqb, eqb→eq}
+use Rattle.base.proofs.Tests.{decide, eq-test}
 use Rattle.table.specs.Cells.{cells}
 use Rattle.table.specs.Pick.{Proj, leastOf}
 use Rattle.table.specs.Inner.Blocks.{noTable, Shown}
 use Rattle.table.proofs.Cells.{cells-lt, cells-same, cells-differ}
-use Rattle.table.proofs.Halving.{upper, common, suits-common, common-suits, join, joins, join-low, join-high, join-lt, closer, closest, Best}
-use Rattle.table.proofs.Halving.{IsBest, least-best, least-halves}
-
--- of two ranks the lesser is that of the better pick
-pub closer-rank : (key : ℕ → ℕ) (w s t : ℕ) → s < w → t < w → min (key s * w + s) (key t * w + t) ≡ key (closer key s t) * w + closer key s t
-unfolding closer
-closer-rank key w s t ls lt =
-    cond-has (λ x. min (key s * w + s) (key t * w + t) ≡ key x * w + x) (ltb (key s) (key t))
-    (λ h. omega (arith, mul-le-mul-right w (ltb→lt (key s) (key t) h)))
-    (λ g.
-    cond-has (λ x. min (key s * w + s) (key t * w + t) ≡ key x * w + x) (ltb (key t) (key s))
-    (λ h. omega (arith, mul-le-mul-right w (ltb→lt (key t) (key s) h)))
-    (λ h.
-    let e : key s ≡ key t = le-antisymm (nltb→le (key t) (key s) h) (nltb→le (key s) (key t) g) in
-    ⊎-elim (λ a. let b = ltb→lt s t a in smaller e (omega arith) (omega arith)) (λ a. let b = nltb→le s t a in larger e (omega arith) b)
-    (decide (ltb s t))))
-  where
-    smaller : key s ≡ key t → min s t ≡ s → s ≤ t → min (key s * w + s) (key t * w + t) ≡ key (min s t) * w + min s t
-    smaller e m l = rw (m, ← e) (omega arith)
-
-    larger : key s ≡ key t → min s t ≡ t → t ≤ s → min (key s * w + s) (key t * w + t) ≡ key (min s t) * w + min s t
-    larger e m l = rw (m, e) (omega arith)
-
-pub closer-self : (key : ℕ → ℕ) (j : ℕ) → closer key j j ≡ j
-unfolding closer
-closer-self key j =
-    cond-has (λ z. z ≡ j) (ltb (key j) (key j)) (λ _. refl)
-    (λ _. cond-has (λ z. z ≡ j) (ltb (key j) (key j)) (λ _. refl) (λ _. omega arith))
+use Rattle.table.proofs.Halving.{upper, common, suits-common, common-suits, join, joins, join-low, join-high, join-lt}
+use Rattle.table.proofs.Halving.{Best, IsBest, least-best, least-halves}
+use Rattle.table.proofs.Closer.{closer, closest, closer-rank, closer-self}
 
 -- two halves under a selector, as one number
 abbrev pub ShownPair : ℕ → ℕ → Option ℕ → Option ℕ → ℕ → Type 0

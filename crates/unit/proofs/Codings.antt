@@ -10,7 +10,8 @@ use lib.Pow.{shl-exact, pow-mono}
 use lib.Seq.{ext-getD}
 use Rattle.base.proofs.Tests.{and-intro, and-left, and-right, eq-test, test-ext}
 use Rattle.table.specs.Bits.{bit, ofBits, tabulate}
-use Rattle.table.proofs.Bits.{sum-cong, bit-ofBits, ofBits-lt, ofBits-more}
+use Rattle.table.proofs.Sums.{sum-cong}
+use Rattle.table.proofs.Bits.{bit-ofBits, ofBits-lt, ofBits-more}
 use Rattle.sheet.specs.Limits.{maxOutputs}
 use Rattle.sheet.specs.declared.Command.{Command}
 use Rattle.sheet.specs.declared.Sheet.{Sheet}

@@ -17,7 +17,8 @@ use Rattle.base.proofs.Tests.{decide, cond-has, test-yes, test-no}
 use Rattle.table.specs.Bits.{bit, any}
 use Rattle.table.specs.Drawing.{Drawing, drawnValue}
 use Rattle.table.specs.Inner.Drawing.{FairCount}
-use Rattle.table.proofs.Bits.{any-cong, zero-bit}
+use Rattle.table.proofs.Below.{any-cong}
+use Rattle.table.proofs.Bits.{zero-bit}
 use Rattle.relation.proofs.Families.{value-below}
 use Rattle.relation.specs.Inner.Source.{WellDefined}
 use Rattle.relation.specs.Tests.{ofSets, emptyPattern}

@@ -1,4 +1,4 @@
--- `side_by_side` meets its contract: four numbers of 16 bits, each in its place, take 64.
+-- `side_by_side` meets its contract: four tables, each in its place, fill the number.
 use mathlib.Core.Path.{refl}
 use Prim.Native.Nat.{ℕ, _<_}
 use native.Mathlib.Omega.{arith}
@@ -6,14 +6,15 @@ use lib.ListN.{getD}
 use mir.Val.{Fits}
 use mir.Syntax.{w16}
 use borrow.Author.Needs.{needs}
+use Rattle.table.specs.Inner.Ranks.{tableSpace}
 use Rattle.relation.specs.Inner.Masks.{sideBySide}
 use Rattle.relation.proofs.patterns.side_by_side.Statement.{statement}
 use Rattle.relation.proofs.patterns.side_by_side.Tie as tie
 use Rattle.relation.proofs.patterns.side_by_side.Reads as reads
 use Rattle.relation.proofs.patterns.side_by_side.Lts as lts
 
--- each table is below 65536
-small : (c : lts.Start reads.Pre reads.Post) (j : ℕ) → getD (c .args .t1) j 0 < 65536
+-- a table has a bit for each pattern
+small : (c : lts.Start reads.Pre reads.Post) (j : ℕ) → getD (c .args .t1) j 0 < tableSpace
 small c j = let h : Fits w16 (getD (c .args .t1) j 0) = search needs in h .fits
 
 array-read-result : tie.Need-array-read-result

@@ -4,7 +4,7 @@ use Prim.Native.Nat.{_^_, _/_}
 use native.Mathlib.Omega.{arith}
 use lib.Bits.{bitAnd, and-le-r}
 use borrow.Author.Needs.{needs}
-use Rattle.relation.proofs.Side.{value-taken}
+use Rattle.relation.proofs.Side.{lowest, value-taken}
 use Rattle.relation.proofs.patterns.value_in.Statement.{statement}
 use Rattle.relation.proofs.patterns.value_in.Tie as tie
 
@@ -12,17 +12,17 @@ shr-bits : tie.Need-shr-bits
 shr-bits c = search needs
 
 add-pairs : tie.Need-add-pairs
-add-pairs c = omega (arith, and-le-r (c .args .tables / 2 ^ c .args .p) 0x0001000100010001)
+add-pairs c = omega (arith, and-le-r (c .args .tables / 2 ^ c .args .p) lowest)
 
 add-result : tie.Need-add-result
-add-result c = omega (arith, and-le-r (c .args .tables / 2 ^ c .args .p) 0x0001000100010001)
+add-result c = omega (arith, and-le-r (c .args .tables / 2 ^ c .args .p) lowest)
 
 cast-result : tie.Need-cast-result
 cast-result c = search needs
 
 returns : tie.Need-returns
 returns c =
-    let y = bitAnd (c .args .tables / 2 ^ c .args .p) 0x0001000100010001 in
+    let y = bitAnd (c .args .tables / 2 ^ c .args .p) lowest in
     (value-taken (c .args .tables) (c .args .p) y _ refl (omega arith), omega arith)
 
 pub value-in-spec : {M : Type 1} → statement M

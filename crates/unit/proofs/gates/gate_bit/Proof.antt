@@ -1,16 +1,17 @@
 -- `gate_bit` meets its contract: each kind as it is written.
+use native.Mathlib.Omega.{arith}
 use Rattle.unit.proofs.Bits.{no-more, gate-is, gate-last}
 use Rattle.unit.proofs.gates.gate_bit.Statement.{statement}
 use Rattle.unit.proofs.gates.gate_bit.Tie as tie
 
 sub-result : tie.Need-sub-result
-sub-result c = no-more (c .before .pre) .0
+sub-result c = omega (arith, no-more (c .before .pre))
 
 sub-result-2 : tie.Need-sub-result-2
-sub-result-2 c = no-more (c .before .pre) .1
+sub-result-2 c = omega (arith, no-more (c .before .pre))
 
 sub-result-3 : tie.Need-sub-result-3
-sub-result-3 c = no-more (c .before .pre) .2
+sub-result-3 c = omega (arith, no-more (c .before .pre))
 
 returns : tie.Need-returns
 returns c = gate-is 0 (c .match .keys1) (c .before .pre)
