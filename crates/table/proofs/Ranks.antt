@@ -11,8 +11,8 @@ use Rattle.table.specs.Cells.{cells}
 use Rattle.table.specs.Pick.{Proj, leastOf}
 use Rattle.table.specs.Inner.Blocks.{noTable, Shown}
 use Rattle.table.proofs.Cells.{cells-lt, cells-same, cells-differ}
-use Rattle.table.proofs.Halving.{upper, common, suits-common, common-suits, join, joins, join-low, join-high, join-lt}
-use Rattle.table.proofs.Halving.{Best, IsBest, least-best, least-halves}
+use Rattle.table.proofs.Halving.{upper, common, suits-common, common-suits, join, joins, join-low, join-high, join-lt, Best, IsBest, least-best}
+use Rattle.table.proofs.Halving.{least-halves}
 use Rattle.table.proofs.Closer.{closer, closest, closer-rank, closer-self}
 
 -- two halves under a selector, as one number
