@@ -17,8 +17,8 @@ use Rattle.relation.specs.Source.{Rel, Tables, Stage, Compatible, value}
 use Rattle.relation.specs.Inner.Source.{WellDefined}
 use Rattle.relation.specs.Families.{Family}
 use Rattle.relation.proofs.Decide.{value-cong}
-use Rattle.relation.proofs.Families.{drawnTables, family-stage, family-compatible, family-total, least-family, least-total}
-use Rattle.branch_bound.specs.Search.{Board, stageCells, floor, run}
+use Rattle.relation.proofs.Families.{drawnTables, family-stage, family-compatible, family-total, least-drives, least-family, least-total}
+use Rattle.branch_bound.specs.Search.{Board, totalOn, floor, run}
 use Rattle.branch_bound.specs.Promise.{Fair, Promise}
 use Rattle.branch_bound.specs.TreeBoard.{tree}
 use Rattle.branch_bound.specs.Smallest.{Smallest}
@@ -59,7 +59,7 @@ module _ (D : Drawing) (b : Board) (counts : FairCount D (b .n) (b .count)) (fai
       ∙ sym (promise .so-far .counted)
 
   -- what is below the count of all tables is below the cells of all stages
-  module _ (k : ℕ) (below : (X : Tables) → Stage (b .n) (b .m) X → Compatible (b .n) (b .m) R X → k ≤ stageCells b X)
+  module _ (k : ℕ) (below : (X : Tables) → Stage (b .n) (b .m) X → Compatible (b .n) (b .m) R X → k ≤ totalOn b X)
       (xs : List (D .Shape)) (f : Family D (b .n) (b .m) R xs) where
     below-drawn : k ≤ drawnCells D xs
     unfolding total
@@ -72,6 +72,8 @@ module _ (D : Drawing) (b : Board) (counts : FairCount D (b .n) (b .count)) (fai
   pub smallest : Smallest D b budget R (run b budget R) ownStage
   smallest =
       record {
+        value-own = λ p l.
+            least-drives D (b .n) (b .count) counts (b .m) R tables long stage p l ∙ value-cong (b .m) (wires tables) (wires (run b budget R .tables)) p same;
         family = least-family D (b .n) (b .count) counts (b .m) R tables long stage answer;
         counted = counted;
         best = λ h. below-drawn (run b budget R .cells) (promise .best h);

@@ -21,10 +21,10 @@ use Rattle.relation.specs.Tests.{projection}
 use Rattle.relation.proofs.Decide.{value-cong, value-is, compatible-fits, some-fits}
 use Rattle.relation.proofs.Splits.{agree-part, agree-bit, agree-well-defined}
 use borrow.Author.Tests.{lt-ltb}
-use Rattle.branch_bound.specs.Search.{Board, replyTables, stageCells, pick, picks, floor, left, quick}
+use Rattle.branch_bound.specs.Search.{Board, replyTables, totalOn, pick, picks, floor, left, quick}
 use Rattle.branch_bound.specs.Promise.{Fair}
 
-pub stage-cells-cong : (b : Board) (X Y : Tables) → ((j : ℕ) → j < b .m → X j ≡ Y j) → stageCells b X ≡ stageCells b Y
+pub stage-cells-cong : (b : Board) (X Y : Tables) → ((j : ℕ) → j < b .m → X j ≡ Y j) → totalOn b X ≡ totalOn b Y
 unfolding total
 stage-cells-cong b X Y h = sum-cong (b .m) (λ j. b .count (X j)) (λ j. b .count (Y j)) (λ j l. ap (b .count) (h j l))
 
@@ -50,7 +50,7 @@ module _ (n m : ℕ) (few : m ≤ maxWires) (X : Tables) where
   tables-compatible R h p l = rw (value-cong m (wires (replyTables m X)) X p wires-tables) (h p l)
 
 -- the floor is the cells of the picks
-pub floor-picks : (b : Board) → b .m ≤ maxWires → (R : Rel) → floor b R ≡ stageCells b (wires (picks b R))
+pub floor-picks : (b : Board) → b .m ≤ maxWires → (R : Rel) → floor b R ≡ totalOn b (wires (picks b R))
 unfolding floor picks
 floor-picks b few R = stage-cells-cong b (pick b R) (wires (replyTables (b .m) (pick b R))) (λ j l. sym (wires-tables (b .n) (b .m) few (pick b R) j l))
 
@@ -69,7 +69,7 @@ module _ (b : Board) (R : Rel) (ne : WellDefined (b .n) (b .m) R) where
   pick-fits j = pick-least j .1
 
   -- no compatible stage has fewer cells than the floor
-  pub floor-le : Fair b → (X : Tables) → Stage (b .n) (b .m) X → Compatible (b .n) (b .m) R X → floor b R ≤ stageCells b X
+  pub floor-le : Fair b → (X : Tables) → Stage (b .n) (b .m) X → Compatible (b .n) (b .m) R X → floor b R ≤ totalOn b X
   unfolding floor total
   floor-le fair X st c =
       sum-le (b .m) (λ j. b .count (pick b R j)) (λ j. b .count (X j))

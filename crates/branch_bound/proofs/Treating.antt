@@ -15,7 +15,7 @@ use Rattle.relation.specs.Tests.{keep, free, freeWire, compatible, conflict, op
 use Rattle.relation.proofs.Decide.{free-both, compatible-at, conflict-is, freeWire-is}
 use Rattle.relation.proofs.Splits.{keep-part, keep-well-defined, keep-compatible, keep-closes}
 use Rattle.branch_bound.specs.declared.State.{State}
-use Rattle.branch_bound.specs.Search.{Board, stageCells, pick, picks, floor, start, split, expand, charge, treat, visit, searchPart, run, charged}
+use Rattle.branch_bound.specs.Search.{Board, totalOn, pick, picks, floor, start, split, expand, charge, treat, visit, searchPart, run, charged}
 use Rattle.branch_bound.specs.Search.{discarded, usedUp}
 use Rattle.branch_bound.specs.Promise.{Fair, AnswerSoFar, Promise}
 use Rattle.branch_bound.proofs.Picks.{wires-tables, tables-long, quick-long, tables-stage, floor-picks, pick-stage, pick-fits, floor-le}
@@ -25,7 +25,7 @@ use Rattle.branch_bound.proofs.Picks.{quick-compatible, quick-stage}
 pub record Treated (b : Board) (R : Rel) (s t : State) : Type 0 where
   pub down : t .cells ≤ s .cells
   pub stays : T (s .stopped) → T (t .stopped)
-  pub best : T (not (t .stopped)) → (X : Tables) → Stage (b .n) (b .m) X → Compatible (b .n) (b .m) R X → t .cells ≤ stageCells b X
+  pub best : T (not (t .stopped)) → (X : Tables) → Stage (b .n) (b .m) X → Compatible (b .n) (b .m) R X → t .cells ≤ totalOn b X
 
 -- The induction over the parts asks two things of the test that discards: what it discards holds nothing better, and what it keeps has a floor below the
 -- best cells.

@@ -44,8 +44,8 @@ usedUp budget s = leb budget (s .visits)
 
 module _ (b : Board) where
   -- the cells of a stage
-  abbrev pub stageCells : Tables → ℕ
-  stageCells X = total (b .count) (b .m) X
+  abbrev pub totalOn : Tables → ℕ
+  totalOn X = total (b .count) (b .m) X
 
   -- the pick of a wire: the least key among the tables that its projection admits, of equals the smallest table
   unfoldable pub pick : Rel → ℕ → ℕ
@@ -64,11 +64,11 @@ module _ (b : Board) where
 
   -- the lower bound for every stage of R: the cells of its picks
   unfoldable pub floor : Rel → ℕ
-  floor R = stageCells (pick R)
+  floor R = totalOn (pick R)
 
   -- the state before any part is treated: the first answer is the best (the incumbent)
   unfoldable pub start : Rel → State
-  start R = record { tables = quick R; cells = stageCells (wires (quick R)); visits = zero; stopped = false }
+  start R = record { tables = quick R; cells = totalOn (wires (quick R)); visits = zero; stopped = false }
 
   module _ (budget : ℕ) where
     -- step 4: both parts of a split, wire j at 0 before wire j at 1. `on` treats the parts of a part.

@@ -17,10 +17,12 @@ use Rattle.table.specs.Cells.{cells}
 use Rattle.table.specs.Pick.{suits, leastOf, orZero}
 use Rattle.table.specs.Inner.Ranks.{masked, pickOf, rank}
 use Rattle.table.proofs.Bits.{bit-lt, all-at, all-intro, tabulate-at, tabulate-cong}
-use Rattle.table.proofs.Halving.{IsBest, least-best}
+use Rattle.table.proofs.Halving.{BestTable, least-best}
 use Rattle.table.proofs.Masks.{least-shrink, pick-some}
 use Rattle.relation.specs.Tests.{ofSets, keep, occurs, free}
-use Rattle.relation.specs.Inner.Masks.{member, withBit, maskOf, narrowed}
+use Rattle.relation.specs.Inner.Members.{member, withBit}
+use Rattle.relation.specs.Inner.Masks.{maskOf}
+use Rattle.relation.specs.Inner.Narrowed.{narrowed}
 use Rattle.relation.proofs.Decide.{free-both}
 use Rattle.relation.proofs.Splits.{keep-part, keep-well-defined, occurs-part}
 use Rattle.relation.proofs.Members.{member-sets}
@@ -83,7 +85,7 @@ module _ {n m : ℕ} (sz : Sized n m) {sets : List ℕ} (ok : PartSets n m sets)
     has-pick = pick-some n (maskOf sets i 0) (maskOf sets i 1) (cover sz ok i)
 
     suited : T (suits n (masked (maskOf sets i 0) (maskOf sets i 1)) (pickOf n (maskOf sets i 0) (maskOf sets i 1)))
-    suited = subst (IsBest n (masked (maskOf sets i 0) (maskOf sets i 1))) has-pick (least-best n (masked (maskOf sets i 0) (maskOf sets i 1))) .suited
+    suited = subst (BestTable n (masked (maskOf sets i 0) (maskOf sets i 1))) has-pick (least-best n (masked (maskOf sets i 0) (maskOf sets i 1))) .suited
 
     set-there : getD (narrowed sets p j b) p 0 ≡ withBit (getD sets p 0) j b
     unfolding narrowed

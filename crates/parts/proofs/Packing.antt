@@ -1,4 +1,4 @@
--- A pick as one number: what stands in its rank, and where. No other law knows.
+-- A pick as one number: what stands in its rank, and where. No other law above the crate `table` knows.
 use Prim.Native.Nat.{ℕ, _^_, _<_, _≤_}
 use mathlib.Core.Path.{_≡_}
 use mathlib.Core.List.{List}

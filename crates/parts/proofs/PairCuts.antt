@@ -17,7 +17,9 @@ use Rattle.table.proofs.Pairs.{ones-at, zeros-at, ones-lt, zeros-lt}
 use Rattle.table.proofs.Bits.{sum-cong, sum-but-one, bit-lt, bit-ofBits, ofBits-bit}
 use Rattle.table.proofs.BitColumns.{isOne-lt-two}
 use Rattle.relation.specs.Tests.{occurs}
-use Rattle.relation.specs.Inner.Masks.{member, withBit, narrowed, cut}
+use Rattle.relation.specs.Inner.Members.{member, withBit}
+use Rattle.relation.specs.Inner.Narrowed.{narrowed}
+use Rattle.relation.specs.Inner.Masks.{cut}
 use Rattle.relation.proofs.Masks.{mask-narrowed}
 use Rattle.parts.specs.Inner.Pairs.{bothSides, pairOf, sidesOf, cutPair}
 use Rattle.parts.proofs.PairBits.{paired-back}

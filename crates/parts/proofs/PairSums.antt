@@ -15,7 +15,9 @@ use Rattle.table.specs.Inner.Pairs.{upperHalf, pairBits, seat, zerosIn, onesIn,
 use Rattle.table.proofs.Bits.{sum-cong, sum-le, sum-short, tabulate-at, tabulate-cong}
 use Rattle.table.proofs.BitColumns.{isOne-lt-two}
 use Rattle.relation.specs.Tests.{occurs}
-use Rattle.relation.specs.Inner.Masks.{member, maskOf, NonePast}
+use Rattle.relation.specs.Inner.Members.{member}
+use Rattle.relation.specs.Inner.Masks.{maskOf}
+use Rattle.relation.specs.Inner.Narrowed.{NonePast}
 use Rattle.relation.proofs.Masks.{found-lt, none-occurs, mask-bit}
 use Rattle.relation.proofs.Members.{member-sets}
 use Rattle.parts.specs.Inner.Pairs.{bothSides, pairOf, pairsOf, sidesOf}

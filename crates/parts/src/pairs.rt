@@ -4,16 +4,17 @@
 use relation::values::has;
 use sheet::Sheet;
 use sheet::limits::patterns_of;
+use table::picks::BLOCK_PATTERNS;
 ghost use mathlib.Core.Path.{_≡_};
 ghost use Prim.Native.Nat.{_+_, _*_, _<_, _≤_, _^_};
 ghost use Rattle.sheet.specs.Limits.{maxInputs, maxWires, maxPatterns};
 ghost use Rattle.table.specs.Inner.Pairs.{blockPatterns, pairBits, seat};
 ghost use Rattle.table.specs.Bits.{isOne};
-ghost use Rattle.relation.specs.Inner.Masks.{NonePast};
+ghost use Rattle.relation.specs.Inner.Narrowed.{NonePast};
 ghost use Rattle.parts.specs.Inner.Pairs.{bothSides, pairOf, pairsOf, sidesOf, cutPair, cutPairs};
 
-// A block is of two inputs: so many patterns, a bit for each in either half of a byte.
-const BLOCK: u8 = 4;
+// The patterns of a block have a bit each in either half of a byte.
+const BLOCK: u8 = BLOCK_PATTERNS;
 
 const BYTE: u8 = 2 * BLOCK;
 

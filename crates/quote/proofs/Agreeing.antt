@@ -22,8 +22,8 @@ use Rattle.sheet.specs.declared.Command.{Command}
 use Rattle.sheet.specs.Commands.{inputsOf, wiresOf}
 use Rattle.sheet.specs.Judged.{Reading, holds, refused as unread}
 use Rattle.reader.specs.Reading.{readingOf}
-use Rattle.stage.specs.Trees.{treeDrawing, size}
-use Rattle.table.specs.Drawing.{StageSheet, got, noStage, drawnValue}
+use Rattle.stage.specs.Trees.{treeDrawing}
+use Rattle.table.specs.Drawing.{StageSheet, got, noStage, drawnValue, drawnCells}
 use Rattle.stage.specs.Read.{readStage}
 use Rattle.stage.proofs.Sheets.{accepted}
 use Rattle.stage.proofs.TreeCounts.{tree-counts}
@@ -87,7 +87,7 @@ module _ (sheet stage : List ℕ) (c : ℕ) where
         let f = kept-family m trees d′ em k in
         let r = told trees .1 f in
         let ec = commands-only sheet (r .commands) cs (r .held) e in
-        let counted : accepting fitsOutcome (size trees) ≡ accepting fitsOutcome c =
+        let counted : accepting fitsOutcome (drawnCells treeDrawing trees) ≡ accepting fitsOutcome c =
         rw (test-yes (eqb n (inputsOf cs) && eqb m (wiresOf cs)) t, test-yes (keepsTo (relationIn cs) trees) k) at h in
         record {
           stage = trees;
@@ -96,7 +96,7 @@ module _ (sheet stage : List ℕ) (c : ℕ) where
           counted = ap (λ (x : Case). x .value) counted;
         })
         (λ k.
-        let z : accepting differsOutcome (size trees) ≡ accepting fitsOutcome c =
+        let z : accepting differsOutcome (drawnCells treeDrawing trees) ≡ accepting fitsOutcome c =
         rw (test-yes (eqb n (inputsOf cs) && eqb m (wiresOf cs)) t, test-no (keepsTo (relationIn cs) trees) k) at h in
         never z (λ o. omega arith))
         (decide (keepsTo (relationIn cs) trees)))

@@ -31,11 +31,11 @@ use Rattle.quote.specs.Promised.{NoRival, Promised}
 use Rattle.quote.proofs.Searched.{refused-promise, searched-promise}
 
 module _ (sheet : List ℕ) (budget : ℕ) (buffer : List ℕ) where
-  abbrev Kept : Type 0
-  Kept = Promised treeDrawing sheet budget (quotedOf sheet budget (length buffer)) (bufferQuoted sheet budget buffer)
+  abbrev PromiseKept : Type 0
+  PromiseKept = Promised treeDrawing sheet budget (quotedOf sheet budget (length buffer)) (bufferQuoted sheet budget buffer)
 
   -- a sheet that is turned away
-  turned : (f : Refusal) → formedOf sheet ≡ turnedAway f → ((f .number ≡ empty) ↔ NoRival treeDrawing sheet) → Kept
+  turned : (f : Refusal) → formedOf sheet ≡ turnedAway f → ((f .number ≡ empty) ↔ NoRival treeDrawing sheet) → PromiseKept
   unfolding quotedOf bufferQuoted
   turned f e ten = rw e (refused-promise sheet budget buffer f ten)
 
@@ -58,7 +58,7 @@ module _ (sheet : List ℕ) (budget : ℕ) (buffer : List ℕ) where
     ten l = (λ _. record { commands = cs; held = e; none = no-rival treeDrawing sheet cs e (cells (inputsOf cs)) (tree-counts (inputsOf cs)) .0 l }, λ _. refl)
 
     -- none is: what the search promises, clause by clause
-    whole : 2 ^ inputsOf cs ≤ lowest-empty → Kept
+    whole : 2 ^ inputsOf cs ≤ lowest-empty → PromiseKept
     unfolding quotedOf bufferQuoted relationIn
     whole l =
         let p = searched-promise sheet cs e (relationIn cs) refl refl (tabulate-length maxPatterns _) (passes-whole cs (sound sheet cs e) l)
@@ -66,7 +66,7 @@ module _ (sheet : List ℕ) (budget : ℕ) (buffer : List ℕ) where
         rw (formed-whole sheet cs e l)
         (record { best = p .best; stopped = p .stopped; own = p .own; within = p .within; spent = p .spent; refused = p .refused })
 
-    held : Kept
+    held : PromiseKept
     held =
         ⊎-elim
         (λ t. let l = ltb→lt lowest-empty (2 ^ inputsOf cs) t in turned (refusalAt empty lowest-empty) (formed-empty sheet cs e l) (ten l))
@@ -76,6 +76,6 @@ module _ (sheet : List ℕ) (budget : ℕ) (buffer : List ℕ) where
   pub promised : Promised treeDrawing sheet budget (quotedOf sheet budget (length buffer)) (bufferQuoted sheet budget buffer)
   promised = go (readingOf sheet) refl
     where
-      go : (x : Reading) → readingOf sheet ≡ x → Kept
+      go : (x : Reading) → readingOf sheet ≡ x → PromiseKept
       go (refused f) e = turned f (formed-refused sheet f e) (not-read f e)
       go (holds cs) e = held cs e

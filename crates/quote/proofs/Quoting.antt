@@ -55,17 +55,17 @@ module _ (r : Relation) (budget : ℕ) (buffer : List ℕ) (a : Answer) (ea : se
 -- the whole quote, from what forming the relation gave
 module _ (sheet : List ℕ) (budget : ℕ) (buffer : List ℕ) (f : Formed) (ef : formedReply f ≡ formedOf sheet) where
   -- the three clauses of the quote's contract
-  abbrev pub Kept : QuoteReply → List ℕ → Type 0
-  Kept q b = (q ≡ quotedOf sheet budget (length buffer)) × ((b ≡ bufferQuoted sheet budget buffer) × Promised treeDrawing sheet budget q b)
+  abbrev pub ClausesKept : QuoteReply → List ℕ → Type 0
+  ClausesKept q b = (q ≡ quotedOf sheet budget (length buffer)) × ((b ≡ bufferQuoted sheet budget buffer) × Promised treeDrawing sheet budget q b)
 
-  clauses : {q : QuoteReply} {b : List ℕ} → q ≡ quotedOf sheet budget (length buffer) → b ≡ bufferQuoted sheet budget buffer → Kept q b
+  clauses : {q : QuoteReply} {b : List ℕ} → q ≡ quotedOf sheet budget (length buffer) → b ≡ bufferQuoted sheet budget buffer → ClausesKept q b
   clauses eq eb = (eq, (eb, rw (eq, eb) (promised sheet budget buffer)))
 
   pub formed-quote : {q : QuoteReply} {b : List ℕ} → f .answer ≡ Accepted → q ≡ searched (f .relation) budget (length buffer)
-      → b ≡ bufferSearched (f .relation) budget buffer → Kept q b
+      → b ≡ bufferSearched (f .relation) budget buffer → ClausesKept q b
   unfolding quotedOf bufferQuoted
   formed-quote h eq eb = clauses (eq ∙ rw (← ef, h)) (eb ∙ rw (← ef, h))
 
-  pub turned-quote : {q : QuoteReply} (g : Refusal) → f .answer ≡ SheetRefused g → q ≡ refusedQuote g → Kept q buffer
+  pub turned-quote : {q : QuoteReply} (g : Refusal) → f .answer ≡ SheetRefused g → q ≡ refusedQuote g → ClausesKept q buffer
   unfolding quotedOf bufferQuoted
   turned-quote g h eq = clauses (eq ∙ rw (← ef, h)) (rw (← ef, h))

@@ -9,8 +9,8 @@ use Rattle.table.specs.Bits.{all}
 use Rattle.table.specs.Tree.{Tree}
 use Rattle.relation.specs.declared.Relation.{Relation}
 use Rattle.relation.specs.Handed.{relationOf}
-use Rattle.stage.specs.Trees.{treeDrawing, size}
-use Rattle.table.specs.Drawing.{StageSheet, got, noStage, drawnValue}
+use Rattle.stage.specs.Trees.{treeDrawing}
+use Rattle.table.specs.Drawing.{StageSheet, got, noStage, drawnValue, drawnCells}
 use Rattle.stage.specs.Read.{readStage}
 use Rattle.unit.specs.Cases.{FormedReply}
 use Rattle.unit.specs.Formed.{formedOf}
@@ -27,7 +27,7 @@ sizesApart = refusing secondRefusedOutcome (refusalAt sizesDiffer 0)
 unfoldable pub auditedStage : Relation → StageSheet Tree → Case
 auditedStage r (noStage f) = refusing secondRefusedOutcome f
 auditedStage r (got n m trees) =
-    cond (eqb n (r .n) && eqb m (r .m)) (cond (keepsTo r trees) (accepting fitsOutcome (size trees)) (accepting differsOutcome (size trees))) sizesApart
+    cond (eqb n (r .n) && eqb m (r .m)) (cond (keepsTo r trees) (accepting fitsOutcome (drawnCells treeDrawing trees)) (accepting differsOutcome (drawnCells treeDrawing trees))) sizesApart
 
 unfoldable pub auditedFrom : FormedReply → List ℕ → Case
 auditedFrom f stage =

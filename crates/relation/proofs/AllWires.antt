@@ -11,7 +11,7 @@ use Rattle.table.proofs.Bits.{zero-bit, ofBits-short}
 use Rattle.relation.specs.Source.{value}
 use Rattle.relation.specs.Tests.{occurs, free}
 use Rattle.table.specs.Cells.{wires}
-use Rattle.relation.specs.Inner.Masks.{member}
+use Rattle.relation.specs.Inner.Members.{member}
 use Rattle.relation.proofs.Decide.{occurs-intro, occurs-at}
 use Rattle.relation.proofs.Members.{member-lt}
 

@@ -52,12 +52,15 @@ module _ (D : Drawing) (n : ℕ) (count : ℕ → ℕ) (counts : FairCount D n c
     small : Each (λ t. t < 2 ^ (2 ^ n)) ts
     small = each-intro (λ t. t < 2 ^ (2 ^ n)) ts 0 (λ j l. st j (subst (λ k. j < k) long l))
 
-    pub least-family : Compatible n m R (wires ts) → Family D n m R (least D n count counts ts)
+    -- they drive what the tables do
+    pub least-drives : (p : ℕ) → p < 2 ^ n → drawnValue D n (least D n count counts ts) p ≡ value m (wires ts) p
     unfolding value
+    least-drives p b = least-value D n count counts ts small p b ∙ ap (λ k. ofBits k (λ j. bit (wires ts j) p)) long
+
+    pub least-family : Compatible n m R (wires ts) → Family D n m R (least D n count counts ts)
     least-family c = record {
       drawn = record { one-each = length-map ts (counts .reduced) ∙ long; formed = least-formed D n count counts ts small };
-      allowed = λ p b.
-          subst (λ v. T (R p v)) (sym (least-value D n count counts ts small p b ∙ ap (λ k. ofBits k (λ j. bit (wires ts j) p)) long)) (c p b);
+      allowed = λ p b. subst (λ v. T (R p v)) (sym (least-drives p b)) (c p b);
     }
 
     pub least-total : drawnCells D (least D n count counts ts) ≡ total count m (wires ts)

@@ -23,7 +23,7 @@ use Rattle.relation.specs.declared.Relation.{Relation}
 use Rattle.relation.specs.Handed.{relationOf, widePattern, checkOf}
 use Rattle.relation.specs.Inner.Source.{WellDefined}
 use Rattle.relation.specs.Tests.{ofSets, emptyPattern}
-use Rattle.relation.specs.Inner.Masks.{member}
+use Rattle.relation.specs.Inner.Members.{member}
 use Rattle.relation.proofs.Decide.{well-defined-or, empty-not}
 use Rattle.relation.proofs.Members.{any-member}
 

@@ -13,7 +13,9 @@ use Rattle.table.specs.Bits.{bit, ofBits, isOne, sum}
 use Rattle.table.proofs.BitColumns.{isOne-lt-two, one-test}
 use Rattle.table.proofs.Bits.{bit-cases, bit-ofBits, ofBits-lt, sum-cong, sum-but-one, ofBits-short}
 use Rattle.relation.specs.Tests.{ofSets, occurs}
-use Rattle.relation.specs.Inner.Masks.{member, withBit, maskOf, narrowed, NonePast, cut}
+use Rattle.relation.specs.Inner.Members.{member, withBit}
+use Rattle.relation.specs.Inner.Masks.{maskOf, cut}
+use Rattle.relation.specs.Inner.Narrowed.{narrowed, NonePast}
 use Rattle.relation.proofs.Splits.{occurs-part}
 use lib.Pow.{pow-mono}
 use lib.ListN.{length, getD, set}

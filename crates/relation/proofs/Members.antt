@@ -15,7 +15,7 @@ use Rattle.table.specs.Inner.Columns.{columnOf}
 use Rattle.table.proofs.BitColumns.{column-test}
 use Rattle.table.proofs.Bits.{any-at, any-intro, any-cong, bit-cases, bit-ext, bit-past, test-and, zero-bit}
 use Rattle.relation.specs.Tests.{ofSets, occurs}
-use Rattle.relation.specs.Inner.Masks.{member, withBit}
+use Rattle.relation.specs.Inner.Members.{member, withBit}
 use lib.ListN.{getD}
 
 -- the set of a pattern in a list of sets

@@ -16,7 +16,8 @@ use Rattle.base.proofs.Tests.{decide, eq-test, cond-has, test-yes, test-no, and
 use Rattle.table.specs.Bits.{bit, tabulate}
 use Rattle.table.proofs.Bits.{tabulate-length, tabulate-at, zero-bit}
 use Rattle.relation.specs.Tests.{ofSets, keep, agree}
-use Rattle.relation.specs.Inner.Masks.{member, withBit, narrowed, agreed, cleared}
+use Rattle.relation.specs.Inner.Members.{member, withBit}
+use Rattle.relation.specs.Inner.Narrowed.{narrowed, agreed, cleared}
 use Rattle.base.proofs.Tabulate.{tabulate-entry, take-entry}
 use Rattle.relation.proofs.Members.{member-sets, with-test, with-le}
 

@@ -13,7 +13,7 @@ use Rattle.table.proofs.Bits.{bit-lt, bit-low, bit-div}
 use Rattle.relation.specs.Source.{value}
 use Rattle.table.specs.Cells.{wires}
 use Rattle.table.specs.Inner.Ranks.{tableSpace}
-use Rattle.relation.specs.Inner.Masks.{sideBySide, valueIn}
+use Rattle.relation.specs.Inner.Side.{sideBySide, valueIn}
 
 -- where the table of wire j begins in the number, and what its lowest bit counts for
 abbrev start : (j : ℕ) → ℕ

@@ -2,11 +2,11 @@
 use Prim.Native.Nat.{ℕ, _^_}
 use mathlib.Core.Bool.{cond}
 use mathlib.Core.List.{List}
-use lib.Dec.{leb, ltb}
+use lib.Dec.{ltb}
 use lib.ListN.{getD, take}
 use Rattle.base.specs.Refusals.{refusalAt, outOfRange, empty}
 use Rattle.base.specs.Cases.{Case, acceptedCase, refusedCase}
-use Rattle.sheet.specs.Limits.{sizesOut}
+use Rattle.sheet.specs.Limits.{sizesOut, isBeyond}
 use Rattle.base.specs.Lowest.{lowest}
 use Rattle.relation.specs.declared.Relation.{Relation}
 use Rattle.relation.specs.Source.{Rel}
@@ -18,7 +18,7 @@ relationOf r = ofSets (take (2 ^ r .n) (r .sets))
 
 -- the lowest pattern whose set has a bit from 2 ^ m up; 2 ^ n where there is none
 unfoldable pub widePattern : ℕ → ℕ → List ℕ → ℕ
-widePattern n m sets = lowest (2 ^ n) (λ p. leb (2 ^ (2 ^ m)) (getD sets p 0))
+widePattern n m sets = lowest (2 ^ n) (λ p. isBeyond (2 ^ m) (getD sets p 0))
 
 -- sizes out of range are 3 at 0, a set with a value that there is not is 3 at its pattern, an empty set is 10 at its pattern, in this order
 unfoldable pub checkOf : Relation → Case

@@ -11,7 +11,7 @@ ghost use Rattle.base.specs.Cases.{verdictCase};
 ghost use Rattle.relation.specs.Handed.{checkOf};
 
 pub mod values; // sets of wire values
-pub mod patterns; // sets of all patterns: masks, splits, values of a stage
+pub mod patterns; // the sets of all patterns together, and the value of tables on a pattern
 mod handed; // the first pattern that a test refuses
 
 // n inputs, m wires, and for each pattern the set of allowed values: bit v of a set is value v.

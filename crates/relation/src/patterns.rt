@@ -1,4 +1,4 @@
-// The sets of all patterns (input vertices) together.
+// The sets of all patterns (input vertices) together, narrowed, and the value that tables drive on one of them.
 // Inner functions: the search and the audit meet what they require, wires, bits and patterns that there are.
 ghost use mathlib.Core.Path.{_≡_};
 ghost use mathlib.Core.Bool.{cond};
@@ -8,7 +8,8 @@ ghost use Rattle.sheet.specs.Limits.{maxInputs, maxWires, maxPatterns, maxValue
 ghost use Rattle.table.specs.Bits.{bit};
 ghost use Rattle.relation.specs.Source.{value};
 ghost use Rattle.table.specs.Cells.{wires};
-ghost use Rattle.relation.specs.Inner.Masks.{sideBySide, valueIn, agreed, cleared};
+ghost use Rattle.relation.specs.Inner.Side.{sideBySide, valueIn};
+ghost use Rattle.relation.specs.Inner.Narrowed.{agreed, cleared};
 use sheet::Sheet;
 use sheet::limits::patterns_of;
 use table::columns::column;

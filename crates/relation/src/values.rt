@@ -5,7 +5,7 @@ ghost use mathlib.Core.Path.{_≡_};
 ghost use Prim.Native.Nat.{_<_};
 ghost use Rattle.sheet.specs.Limits.{maxWires, maxValues};
 ghost use Rattle.relation.specs.Tests.{occurs, free};
-ghost use Rattle.relation.specs.Inner.Masks.{member, withBit};
+ghost use Rattle.relation.specs.Inner.Members.{member, withBit};
 
 // The values of a set that have wire j at b.
 pub fn with_bit(set: u16, j: u8, b: u8) -> u16

@@ -10,7 +10,7 @@ use Rattle.base.specs.Cases.{accepting, acceptedCase, refusedCase}
 use Rattle.relation.specs.declared.Relation.{Relation}
 use Rattle.relation.specs.Source.{Rel}
 use Rattle.relation.specs.Tests.{ofSets}
-use Rattle.relation.specs.Inner.Masks.{cleared}
+use Rattle.relation.specs.Inner.Narrowed.{cleared}
 use Rattle.relation.specs.Handed.{relationOf, checkOf}
 use Rattle.relation.proofs.Fits.{Fit, check-well-formed}
 use Rattle.relation.proofs.Narrowing.{cleared-takes, cleared-narrow}

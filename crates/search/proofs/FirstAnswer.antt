@@ -20,7 +20,8 @@ use Rattle.table.specs.Inner.Ranks.{pickOf, rank}
 use Rattle.table.proofs.Bits.{tabulate-at, tabulate-length, sum-cong}
 use Rattle.relation.specs.Source.{Tables}
 use Rattle.relation.specs.Tests.{ofSets, agree}
-use Rattle.relation.specs.Inner.Masks.{maskOf, agreed}
+use Rattle.relation.specs.Inner.Masks.{maskOf}
+use Rattle.relation.specs.Inner.Narrowed.{agreed}
 use Rattle.relation.proofs.Splits.{agree-well-defined}
 use Rattle.relation.proofs.Narrowing.{agreed-agree, agreed-narrow}
 use Rattle.base.proofs.Tabulate.{filled-tabulate}

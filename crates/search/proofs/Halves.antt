@@ -13,7 +13,8 @@ use Rattle.table.proofs.Bits.{sum-cong}
 use Rattle.relation.specs.Source.{Rel, value}
 use Rattle.relation.specs.Tests.{ofSets, keep, free, openPairs}
 use Rattle.table.specs.Cells.{wires}
-use Rattle.relation.specs.Inner.Masks.{member, withBit, narrowed}
+use Rattle.relation.specs.Inner.Members.{member, withBit}
+use Rattle.relation.specs.Inner.Narrowed.{narrowed}
 use Rattle.relation.proofs.Members.{member-sets}
 use Rattle.relation.proofs.Splits.{keep-closes}
 use Rattle.branch_bound.specs.declared.State.{State}

@@ -16,7 +16,8 @@ use Rattle.table.proofs.Bits.{tabulate-at, tabulate-length}
 use Rattle.relation.specs.Source.{Rel, Tables, value}
 use Rattle.relation.specs.Tests.{ofSets, free, freeWire, compatible, conflict}
 use Rattle.table.specs.Cells.{wires}
-use Rattle.relation.specs.Inner.Masks.{member, sideBySide, valueIn}
+use Rattle.relation.specs.Inner.Members.{member}
+use Rattle.relation.specs.Inner.Side.{sideBySide, valueIn}
 use Rattle.relation.proofs.Decide.{compatible-at, compatible-test, conflict-is, freeWire-is}
 use Rattle.relation.proofs.Members.{member-sets}
 use Rattle.relation.proofs.AllWires.{free-all-wires, value-all-wires}

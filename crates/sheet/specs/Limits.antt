@@ -34,6 +34,13 @@ sizesOut n m = countOut n maxInputs || countOut m maxWires
 abbrev pub isBeyond : ℕ → ℕ → Bool
 isBeyond k x = leb (2 ^ k) x
 
--- 2 ^ k ones, as far as a set has room for them: all values of k wires, each by its bit
+-- a set and a table are numbers of 2 ^ wordPower bits
+abbrev pub wordPower : ℕ
+wordPower = 4
+
+abbrev pub wordBits : ℕ
+wordBits = 2 ^ wordPower
+
+-- 2 ^ k ones, as far as such a number has room for them: all values of k wires, each by its bit; all patterns of k inputs
 abbrev pub allOnes : ℕ → ℕ
-allOnes k = 2 ^ min maxValues (2 ^ k) - 1
+allOnes k = 2 ^ min wordBits (2 ^ k) - 1

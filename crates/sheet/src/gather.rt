@@ -1,4 +1,6 @@
 // What the commands of a sheet say, gathered one command after the other.
+// `Sheet::add`, `Sheet::finish` and `Reply::refusal` are inner functions for the reader, which meets what they speak of: a sheet gathered from the commands
+// before, and a command whose pattern was tested.
 use crate::Command;
 use crate::Reply;
 use crate::Sheet;

@@ -4,10 +4,15 @@ ghost use mathlib.Core.Path.{_≡_};
 ghost use Prim.Native.Nat.{_≤_, _^_, min};
 ghost use Rattle.sheet.specs.Limits.{maxInputs, maxWires, maxPatterns, maxValues, countOut, sizesOut, isBeyond, allOnes};
 
+// A set and a table are numbers of so many bits, 2 to the power of WORD_POWER.
+const WORD_POWER: u8 = 4;
+
+const WORD_BITS: u8 = 1 << WORD_POWER;
+
 // 2 to the power of a size, as far as the limit `most` on it goes.
 fn power(k: u8, most: u8) -> u8
     requires { ⌜ most ≤ 7 ⌝ }
-    ensures { λ r. ⌜ (r ≡ min (2 ^ most) (2 ^ k)) × (k ≤ most → r ≡ 2 ^ k) ⌝ }
+    ensures { λ r. ⌜ (r ≡ min (2 ^ most) (2 ^ k)) × (r ≤ 2 ^ most) × (k ≤ most → r ≡ 2 ^ k) ⌝ }
 {
     if k < most { 1 << k } else { 1 << most }
 }
@@ -26,25 +31,25 @@ pub fn values_of(m: u8) -> u8
     power(m, Sheet::MAX_WIRES)
 }
 
-// 2 to the k ones: the set of all values of k wires, and of k inputs the table of constant 1.
+// 2 to the k ones: the set of all values of k wires, and of k inputs the table of constant 1, as far as a number of a word has room.
 pub fn all_ones(k: u8) -> u16
     ensures { λ r. ⌜ r ≡ allOnes k ⌝ }
 {
-    ((1u32 << values_of(k)) - 1) as u16
+    ((1u32 << power(k, WORD_POWER)) - 1) as u16
 }
 
 // x needs more than k bits.
 pub fn beyond(k: u8, x: u16) -> bool
     ensures { λ r. ⌜ r ≡ isBeyond k x ⌝ }
 {
-    if k < 16 { 1 <= x >> k } else { false }
+    if k < WORD_BITS { 1 <= x >> k } else { false }
 }
 
 // A number with a bit past the lowest 2 to the k: a set with a value that k wires do not have, a table with a pattern that k inputs do not have.
 pub fn bits_past(k: u8, x: u16) -> bool
     ensures { λ r. ⌜ r ≡ isBeyond (2 ^ k) x ⌝ }
 {
-    beyond(values_of(k), x)
+    beyond(power(k, WORD_POWER), x)
 }
 
 // A count outside 1 to most.

@@ -15,7 +15,7 @@ use Rattle.table.proofs.Bits.{sum-bound}
 use Rattle.table.proofs.Cells.{cells-lt}
 use Rattle.table.proofs.Trees.{reduced-selectors}
 use Rattle.stage.specs.Bytes.{treeBytes, wireBytes, wiresBytes, stageBytes, longestStage}
-use Rattle.stage.specs.Trees.{size}
+use Rattle.stage.specs.Trees.{treeDrawing}
 use Rattle.stage.specs.Written.{stageTrees, stageOf}
 
 -- a tree takes a byte, and three more for each selector
@@ -24,16 +24,16 @@ unfolding treeBytes selectors
 tree-length (con b) = refl
 tree-length (sel k z o) = omega (arith, length-append (treeBytes z) (treeBytes o), tree-length z, tree-length o)
 
-pub wires-length : (j : ℕ) (xs : List Tree) → length (wiresBytes j xs) ≡ 3 * length xs + 3 * size xs
+pub wires-length : (j : ℕ) (xs : List Tree) → length (wiresBytes j xs) ≡ 3 * length xs + 3 * drawnCells treeDrawing xs
 unfolding wiresBytes drawnCells
 wires-length j [] = refl
 wires-length j (x ∷ xs) = omega (arith, length-append (treeBytes x) (wiresBytes (suc j) xs), tree-length x, wires-length (suc j) xs)
 
-pub stage-bytes-length : (n m : ℕ) (xs : List Tree) → length (stageBytes n m xs) ≡ 4 + 3 * length xs + 3 * size xs
+pub stage-bytes-length : (n m : ℕ) (xs : List Tree) → length (stageBytes n m xs) ≡ 4 + 3 * length xs + 3 * drawnCells treeDrawing xs
 unfolding stageBytes
 stage-bytes-length n m xs = omega (arith, length-append (wiresBytes 0 xs) (0x2F ∷ []), wires-length 0 xs)
 
-pub size-append : (xs ys : List Tree) → size (xs ++ ys) ≡ size xs + size ys
+pub size-append : (xs ys : List Tree) → drawnCells treeDrawing (xs ++ ys) ≡ drawnCells treeDrawing xs + drawnCells treeDrawing ys
 unfolding drawnCells
 size-append [] ys = omega arith
 size-append (x ∷ xs) ys = omega (arith, size-append xs ys)
@@ -43,7 +43,7 @@ pub trees-length : (n m : ℕ) (tables : List ℕ) → m ≤ length tables → l
 unfolding stageTrees
 trees-length n m tables h = length-map (take m tables) (reduced n 0) ∙ length-take-le m tables h
 
-pub trees-size : (n m : ℕ) (tables : List ℕ) → m ≤ length tables → size (stageTrees n m tables) ≡ total (cells n) m (wires tables)
+pub trees-size : (n m : ℕ) (tables : List ℕ) → m ≤ length tables → drawnCells treeDrawing (stageTrees n m tables) ≡ total (cells n) m (wires tables)
 unfolding stageTrees total sum drawnCells
 trees-size n zero tables h = refl
 trees-size n (suc m) tables h =

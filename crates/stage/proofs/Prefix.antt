@@ -19,7 +19,7 @@ use Rattle.stage.specs.Read.{nothingAfter, endAt, closed, readStage}
 use Rattle.table.specs.Drawing.{StageSheet, got, noStage}
 use Rattle.stage.proofs.Lengths.{tree-length}
 use Rattle.sheet.proofs.Sizes.{count-in, sizes-in}
-use Rattle.stage.proofs.Reading.{ToldTree, tree-is, tree-told}
+use Rattle.stage.proofs.Reading.{Branch, ToldTree, tree-is, tree-told}
 use Rattle.stage.proofs.Sheets.{ToldWire, wire-told, ToldWires, wires-told, accepted}
 use Rattle.stage.proofs.Tables.{selectors-lt}
 
@@ -42,9 +42,6 @@ unfolding due dueNumber
 due-more P stop want at next stops b rest q h = cond-has₂ P (eqb (dueNumber want (b ∷ rest)) 0) (λ _. h) (λ _. stops _)
 
 -- a tree below input k, of at most w inputs more, is told by 3 * 2 ^ w - 1 bytes
-abbrev Branch : Type 0
-Branch = ℕ → ℕ → List ℕ → Read Tree
-
 from-more : (f : Branch) (n k at b i : ℕ) (rest q : List ℕ)
     → (k < i → i ≤ n → branchesAt (f i) i (at + 2) (rest ++ q) ≡ withMore q (branchesAt (f i) i (at + 2) rest))
     → treeFrom f n k at (b ∷ i ∷ rest ++ q) ≡ withMore q (treeFrom f n k at (b ∷ i ∷ rest))

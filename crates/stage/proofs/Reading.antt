@@ -15,7 +15,7 @@ use Rattle.stage.specs.Bytes.{treeBytes}
 use Rattle.stage.specs.Read.{Read, taken, fault, andThen, misplaced, operand, branchesAt, selectorAt, treeFrom, treeWithin, treeAt}
 use Rattle.sheet.proofs.Sizes.{count-in, count-fits}
 
-abbrev Branch : Type 0
+abbrev pub Branch : Type 0
 Branch = ℕ → ℕ → List ℕ → Read Tree
 
 -- a tree reads its branches only below inputs above k and at most n

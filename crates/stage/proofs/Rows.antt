@@ -10,7 +10,7 @@ use Rattle.table.specs.Bits.{bit, sum, ofBits, tabulate}
 use Rattle.table.specs.Cells.{low, high}
 use Rattle.table.specs.Tree.{con, sel, follow, selectors, reduced}
 use Rattle.stage.specs.Bytes.{treeBytes, wiresBytes, stageBytes}
-use Rattle.stage.specs.Trees.{size}
+use Rattle.stage.specs.Trees.{treeDrawing}
 use Rattle.stage.specs.Written.{stageTrees, stageOf, firstOut, writtenOf}
 use Rattle.stage.specs.Read.{andThen, misplaced, dueNumber, due, operand, branchesAt, selectorAt, treeFrom, treeWithin, treeAt, wireAt, wiresAt}
 use Rattle.stage.specs.Read.{nothingAfter, endAt, closed, readStage}
@@ -38,7 +38,7 @@ pub a-tables : stageTables 2 (sel 1 (con 1) (con 0) ∷ sel 2 (con 0) (con 1) �
 unfolding stageTables tableOf ofBits sum tabulate follow bit
 a-tables = refl
 
-pub a-cells : size (sel 1 (con 1) (con 0) ∷ sel 2 (con 0) (con 1) ∷ []) ≡ 2
+pub a-cells : drawnCells treeDrawing (sel 1 (con 1) (con 0) ∷ sel 2 (con 0) (con 1) ∷ []) ≡ 2
 unfolding drawnCells selectors
 a-cells = refl
 

@@ -7,8 +7,8 @@ use Rattle.base.specs.declared.Refusal.{Refusal}
 use Rattle.sheet.specs.Limits.{maxWires}
 use Rattle.table.specs.Bits.{ofBits, tabulate}
 use Rattle.table.specs.Tree.{Tree, follow}
-use Rattle.stage.specs.Trees.{size}
-use Rattle.table.specs.Drawing.{StageSheet, got, noStage}
+use Rattle.stage.specs.Trees.{treeDrawing}
+use Rattle.table.specs.Drawing.{StageSheet, got, noStage, drawnCells}
 
 -- the truth table of a tree: bit p is the constant that is reached on pattern p
 unfoldable pub tableOf : ℕ → Tree → ℕ
@@ -31,5 +31,5 @@ abbrev pub refusedReply : Refusal → StageReply
 refusedReply f = record { n = 0; m = 0; tables = replicate maxWires 0; cells = 0; answer = refusedCase f }
 
 unfoldable pub replyToStage : StageSheet Tree → StageReply
-replyToStage (got n m trees) = record { n = n; m = m; tables = stageTables n trees; cells = size trees; answer = acceptedCase }
+replyToStage (got n m trees) = record { n = n; m = m; tables = stageTables n trees; cells = drawnCells treeDrawing trees; answer = acceptedCase }
 replyToStage (noStage f) = refusedReply f

@@ -1,13 +1,7 @@
 -- The drawings of document 01's board: ordered trees, their selectors counted as cells, read from its stage sheets.
-use Prim.Native.Nat.{ℕ}
-use mathlib.Core.List.{List}
-use Rattle.table.specs.Drawing.{Drawing, drawnCells}
+use Rattle.table.specs.Drawing.{Drawing}
 use Rattle.table.specs.Tree.{Tree, Ordered, follow, selectors}
 use Rattle.stage.specs.Read.{readStage}
 
 abbrev pub treeDrawing : Drawing
 treeDrawing = record { Shape = Tree; WellFormed = λ n x. Ordered n 0 x; follow = follow; cells = selectors; readBytes = readStage }
-
--- the selectors in all trees
-abbrev pub size : List Tree → ℕ
-size trees = drawnCells treeDrawing trees

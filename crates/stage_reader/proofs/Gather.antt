@@ -13,7 +13,7 @@ use Rattle.sheet.specs.Limits.{maxInputs, maxWires, maxPatterns}
 use Rattle.table.specs.Bits.{tabulate}
 use Rattle.table.specs.Tree.{Tree, selectors}
 use Rattle.stage.specs.Bytes.{wireBytes}
-use Rattle.stage.specs.Trees.{size}
+use Rattle.stage.specs.Trees.{treeDrawing}
 use Rattle.stage.specs.Reply.{StageReply, tableOf, stageTables, refusedReply, replyToStage}
 use Rattle.stage_reader.specs.Inner.Trees.{takenTree, refusedTree, stepOf}
 use Rattle.stage.specs.Read.{Read, taken, fault, andThen, wireAt, wiresAt, endAt, closed}
@@ -44,7 +44,7 @@ filled n tables j (x ∷ xs) = filled n (set tables j (tableOf n x)) (suc j) xs
 
 -- the reply of a sheet whose wires below j are gathered already
 unfoldable pub replyWith : List ℕ → ℕ → ℕ → StageSheet Tree → StageReply
-replyWith tables cells j (got n m trees) = record { n = n; m = m; tables = filled n tables j trees; cells = cells + size trees; answer = acceptedCase }
+replyWith tables cells j (got n m trees) = record { n = n; m = m; tables = filled n tables j trees; cells = cells + drawnCells treeDrawing trees; answer = acceptedCase }
 replyWith tables cells j (noStage f) = refusedReply f
 
 -- one wire more is gathered
@@ -55,7 +55,7 @@ unfolding replyWith filled drawnCells
 end-more tables cells n m j x xs at rest =
     let more = replyWith (set tables j (tableOf n x)) (cells + selectors x) (suc j) in
     end-map (replyWith tables cells j) noStage (got n m (x ∷ xs)) at rest
-    ∙ rw (← add-assoc cells (selectors x) (size xs)) (sym (end-map more noStage (got n m xs) at rest))
+    ∙ rw (← add-assoc cells (selectors x) (drawnCells treeDrawing xs)) (sym (end-map more noStage (got n m xs) at rest))
 
 closed-more : (tables : List ℕ) (cells n m j : ℕ) (x : Tree) (y : Read (List Tree))
     → replyWith tables cells j (closed n m (andThen y (λ xs at rest. taken (x ∷ xs) at rest)))
@@ -113,7 +113,7 @@ end-all : (n m : ℕ) (trees : List Tree) (at : ℕ) (rest : List ℕ) → lengt
 unfolding replyWith replyToStage
 end-all n m trees at rest h =
     end-map (replyWith (replicate maxWires 0) 0 0) noStage (got n m trees) at rest
-    ∙ rw (filled-all n trees h, zero-add (size trees)) (sym (end-map replyToStage noStage (got n m trees) at rest))
+    ∙ rw (filled-all n trees h, zero-add (drawnCells treeDrawing trees)) (sym (end-map replyToStage noStage (got n m trees) at rest))
 
 closed-all : (n m : ℕ) → m ≤ maxWires → (bytes : List ℕ) (y : Read (List Tree)) → ToldWires m n 0 3 bytes y
     → replyWith (replicate maxWires 0) 0 0 (closed n m y) ≡ replyToStage (closed n m y)

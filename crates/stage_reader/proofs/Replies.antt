@@ -5,10 +5,10 @@ use Rattle.base.specs.Cases.{refusedCase, refusedOutcome, verdictCase}
 use Rattle.base.proofs.Cases.{accepted-refused, refused-accepted, same-refusal}
 use Rattle.base.specs.declared.Refusal.{Refusal}
 use Rattle.table.specs.Tree.{Tree}
-use Rattle.stage.specs.Trees.{size}
+use Rattle.stage.specs.Trees.{treeDrawing}
 use Rattle.stage.specs.Reply.{StageReply, refusedReply, stageTables, replyToStage}
 use Rattle.stage_reader.specs.Cases.{stageReply}
-use Rattle.table.specs.Drawing.{StageSheet, got, noStage}
+use Rattle.table.specs.Drawing.{StageSheet, got, noStage, drawnCells}
 use Rattle.base.specs.declared.Verdict.the-variants.{Accepted, Refused}
 use Rattle.stage_reader.specs.declared.StageRead.{StageRead}
 
@@ -33,7 +33,7 @@ module _ (s : StageSheet Tree) (rd : StageRead) (e : stageReply rd ≡ replyToSt
     pub trees : List Tree
     pub is : s ≡ got (rd .n) (rd .m) trees
     pub tables : rd .tables ≡ stageTables (rd .n) trees
-    pub cells : rd .cells ≡ size trees
+    pub cells : rd .cells ≡ drawnCells treeDrawing trees
 
   pub told-got : rd .answer ≡ Accepted → Got
   unfolding replyToStage

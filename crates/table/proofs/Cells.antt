@@ -11,6 +11,7 @@ use lib.Pow.{pow-pos, pow-add, shr-lt}
 use Rattle.base.proofs.Tests.{cond-has, cond-has₂, eqb-yes, eqb-not, or-cases}
 use Rattle.table.specs.Bits.{bit}
 use Rattle.table.specs.Cells.{low, high, cells}
+use Rattle.table.specs.Inner.CellsWritten.{isConstant, cellsWritten}
 use Rattle.table.proofs.Bits.{bit-mod, bit-div}
 
 -- halving, over the width
@@ -51,19 +52,6 @@ cells-lt (suc n) t =
     let a = cells-lt n (low n t) in
     let b = cells-lt n (high n t) in
     cond-has (λ x. x < 2 ^ suc n) (eqb (low n t) (high n t)) (λ _. omega arith) (λ _. omega arith)
-
--- the table is constant 0 or constant 1
-unfoldable pub isConstant : ℕ → ℕ → Bool
-isConstant n t = eqb t 0 || eqb t (2 ^ (2 ^ n) - 1)
-
--- document 01, "Cells", to the letter: the same count with the rule for constants written apart
-unfoldable pub cellsWritten : ℕ → ℕ → ℕ
-cellsWritten zero t = zero
-cellsWritten (suc n) t =
-    let a = cellsWritten n (low n t) in
-    let b = suc (a + cellsWritten n (high n t)) in
-    let c = cond (eqb (low n t) (high n t)) a b in
-    cond (isConstant (suc n) t) zero c
 
 -- the halves of a constant are the constants of one input fewer
 constant-halves : (r t : ℕ) → (t ≡ 0) ⊎ (t ≡ 2 ^ (2 ^ suc r) - 1) → (low r t ≡ high r t) × ((low r t ≡ 0) ⊎ (low r t ≡ 2 ^ (2 ^ r) - 1))

@@ -11,7 +11,7 @@ use Rattle.table.specs.Inner.Ranks.{masked, tableSpace}
 use Rattle.table.specs.Inner.Pairs.{blockSpace}
 use Rattle.table.specs.Inner.Blocks.{threeSpace, noEntry, entryOf, blockOf, Shown, PickShown}
 use Rattle.table.proofs.Cells.{cells-lt}
-use Rattle.table.proofs.Halving.{upper, common, join, IsBest, least-best}
+use Rattle.table.proofs.Halving.{upper, common, join, BestTable, least-best}
 use Rattle.table.proofs.Ranks.{ShownPair, ShownTwice, lesser-shows}
 use Rattle.table.proofs.Masks.{least-low, least-high, least-common}
 
@@ -23,7 +23,7 @@ entry-le zeros ones = go (leastOf (cells 2) 2 (masked zeros ones)) (least-best 2
     some-le : (t : ℕ) → t < blockSpace → cells 2 t < 2 ^ 2 → cells 2 t * threeSpace + t * (blockSpace + 1) ≤ noEntry
     some-le t l h = omega arith
 
-    go : (o : Option ℕ) → IsBest 2 (masked zeros ones) o → entryOf o ≤ noEntry
+    go : (o : Option ℕ) → BestTable 2 (masked zeros ones) o → entryOf o ≤ noEntry
     go none b = omega arith
     go (some t) b = some-le t (b .inside) (cells-lt 2 t)
 
@@ -43,12 +43,12 @@ abbrev pub twoBlocks : (a b : ℕ) → ℕ
 twoBlocks a b = (a / threeSpace + 1) * threeSpace + a % blockSpace + b / blockSpace * blockSpace
 
 -- one block twice, and two blocks under a selector
-twice : (P : Proj) (o : Option ℕ) (c : ℕ) → IsBest 2 P o → c ≡ entryOf o → ShownTwice 2 threeSpace o c
+twice : (P : Proj) (o : Option ℕ) (c : ℕ) → BestTable 2 P o → c ≡ entryOf o → ShownTwice 2 threeSpace o c
 unfolding entryOf join
 twice P none c b e = omega arith
 twice P (some t) c b e = e ∙ ap (λ x. cells 2 t * threeSpace + x) (omega arith)
 
-pair : (P Q : Proj) (h l : Option ℕ) (a b : ℕ) → IsBest 2 Q h → IsBest 2 P l → a ≡ entryOf l → b ≡ entryOf h
+pair : (P Q : Proj) (h l : Option ℕ) (a b : ℕ) → BestTable 2 Q h → BestTable 2 P l → a ≡ entryOf l → b ≡ entryOf h
     → ShownPair 2 threeSpace h l (twoBlocks a b)
 unfolding entryOf join
 pair P Q none none a b bh bl ea eb = omega arith
@@ -80,12 +80,12 @@ twiceRank c = c * threeSpace + c % threeSpace
 abbrev pub pairRank : (a b : ℕ) → ℕ
 pairRank a b = (a / threeSpace + 1) * tableSpace + a % threeSpace + b * threeSpace
 
-twice3 : (P : Proj) (o : Option ℕ) (c : ℕ) → IsBest 3 P o → Shown 3 threeSpace o c → ShownTwice 3 tableSpace o (twiceRank c)
+twice3 : (P : Proj) (o : Option ℕ) (c : ℕ) → BestTable 3 P o → Shown 3 threeSpace o c → ShownTwice 3 tableSpace o (twiceRank c)
 unfolding join
 twice3 P none c b s = omega arith
 twice3 P (some t) c b s = let l : t < threeSpace = b .inside in omega arith
 
-pair3 : (P Q : Proj) (h l : Option ℕ) (a b : ℕ) → IsBest 3 Q h → IsBest 3 P l → Shown 3 threeSpace l a → Shown 3 threeSpace h b
+pair3 : (P Q : Proj) (h l : Option ℕ) (a b : ℕ) → BestTable 3 Q h → BestTable 3 P l → Shown 3 threeSpace l a → Shown 3 threeSpace h b
     → ShownPair 3 tableSpace h l (pairRank a b)
 unfolding join
 pair3 P Q none none a b bh bl sa sb = omega arith

@@ -41,9 +41,9 @@ pub record Best (r : ℕ) (P : Proj) (t : ℕ) : Type 0 where
   pub suited : T (suits r P t)
   pub first : (s : ℕ) → s < 2 ^ (2 ^ r) → T (suits r P s) → Lex (cells r) t s
 
-abbrev pub IsBest : ℕ → Proj → Option ℕ → Type 0
-IsBest r P none = (s : ℕ) → s < 2 ^ (2 ^ r) → T (suits r P s) → ⊥
-IsBest r P (some t) = Best r P t
+abbrev pub BestTable : ℕ → Proj → Option ℕ → Type 0
+BestTable r P none = (s : ℕ) → s < 2 ^ (2 ^ r) → T (suits r P s) → ⊥
+BestTable r P (some t) = Best r P t
 
 -- halves of a joined table
 module _ (r h l : ℕ) (lh : h < 2 ^ (2 ^ r)) (ll : l < 2 ^ (2 ^ r)) where
@@ -163,8 +163,8 @@ module _ (r : ℕ) (P : Proj) where
             (decide (eqb (low r s) (high r s)));
       }
 
-  pub step : (c h l : Option ℕ) → IsBest r (common r P) c → IsBest r (upper r P) h → IsBest r P l
-      → IsBest (suc r) P (closest (cells (suc r)) (joins r c c) (joins r h l))
+  pub step : (c h l : Option ℕ) → BestTable r (common r P) c → BestTable r (upper r P) h → BestTable r P l
+      → BestTable (suc r) P (closest (cells (suc r)) (joins r c c) (joins r h l))
   unfolding closest joins
   step none none l bc bh bl = λ s ls ss. bh (high r s) (high-lt r s ls) (suits-high r P s ss)
   step none (some h) none bc bh bl = λ s ls ss. bl (low r s) (low-lt r s) (suits-low r P s ss)
@@ -193,13 +193,13 @@ zero-suits : (P : Proj) (s : ℕ) → s < 2 → T (P 0 s) → T (suits 0 P s)
 unfolding suits all
 zero-suits P s h t = rw (bit-zero s h) t
 
-single : (P : Proj) → IsBest 0 P (cond (P 0 0) (some 0) (cond (P 0 1) (some 1) none))
+single : (P : Proj) → BestTable 0 P (cond (P 0 0) (some 0) (cond (P 0 1) (some 1) none))
 unfolding cells
 single P =
-    cond-has (IsBest 0 P) (P 0 0) (λ t. smallest 0 (omega arith) t (λ s ls ss. omega arith))
+    cond-has (BestTable 0 P) (P 0 0) (λ t. smallest 0 (omega arith) t (λ s ls ss. omega arith))
     (λ f.
     let no : (s : ℕ) → s < 2 → T (suits 0 P s) → s ≡ 0 → ⊥ = λ s l ss e. T-not (P 0 0) f (rw e at (suits-zero P s l ss)) in
-    cond-has (IsBest 0 P) (P 0 1) (λ t. smallest 1 (omega arith) t (λ s ls ss. ⊎-elim (λ e. absurd (no s ls ss e)) (λ e. omega arith) (two s ls)))
+    cond-has (BestTable 0 P) (P 0 1) (λ t. smallest 1 (omega arith) t (λ s ls ss. ⊎-elim (λ e. absurd (no s ls ss e)) (λ e. omega arith) (two s ls)))
     (λ g s ls ss. ⊎-elim (λ e. no s ls ss e) (λ e. T-not (P 0 1) g (rw e at (suits-zero P s ls ss))) (two s ls)))
   where
     -- no table of no input has a cell, so the smallest that suits is the best
@@ -208,16 +208,16 @@ single P =
         record { inside = l; suited = zero-suits P b l t; first = λ s ls ss. record { fewer = omega arith; smaller = λ _. f s ls ss } }
 
 -- the least table of all is the best
-pub least-best : (r : ℕ) (P : Proj) → IsBest r P (leastOf (cells r) r P)
+pub least-best : (r : ℕ) (P : Proj) → BestTable r P (leastOf (cells r) r P)
 unfolding leastOf
 least-best r P = go (least (cells r) (suits r P) (2 ^ (2 ^ r))) (least-is (cells r) (suits r P) (2 ^ (2 ^ r)))
   where
-    go : (o : Option ℕ) → Least (cells r) (suits r P) (2 ^ (2 ^ r)) o → IsBest r P o
+    go : (o : Option ℕ) → Least (cells r) (suits r P) (2 ^ (2 ^ r)) o → BestTable r P o
     go none h = h
     go (some t) h = record { inside = h .0; suited = h .1; first = λ s ls ss. record { fewer = h .2 s ls ss; smaller = h .3 s ls ss } }
 
 -- there is one best only
-pub best-only : (r : ℕ) (P : Proj) (o q : Option ℕ) → IsBest r P o → IsBest r P q → o ≡ q
+pub best-only : (r : ℕ) (P : Proj) (o q : Option ℕ) → BestTable r P o → BestTable r P q → o ≡ q
 best-only r P none none a b = refl
 best-only r P none (some t) a b = absurd (a t (b .inside) (b .suited))
 best-only r P (some s) none a b = absurd (b s (a .inside) (a .suited))

@@ -11,7 +11,7 @@ use Rattle.table.specs.Cells.{cells}
 use Rattle.table.specs.Pick.{Proj, leastOf}
 use Rattle.table.specs.Inner.Blocks.{noTable, Shown}
 use Rattle.table.proofs.Cells.{cells-lt, cells-same, cells-differ}
-use Rattle.table.proofs.Halving.{upper, common, suits-common, common-suits, join, joins, join-low, join-high, join-lt, Best, IsBest, least-best}
+use Rattle.table.proofs.Halving.{upper, common, suits-common, common-suits, join, joins, join-low, join-high, join-lt, Best, BestTable, least-best}
 use Rattle.table.proofs.Halving.{least-halves}
 use Rattle.table.proofs.Closer.{closer, closest, closer-rank, closer-self}
 
@@ -75,7 +75,7 @@ module _ (r w : ℕ) (P : Proj) (few : 2 ^ suc r ≤ noTable) (wide : 2 ^ (2 ^ s
       few-cells : (l h c : ℕ) → c ≡ l → cells r c ≤ suc (cells r l + cells r h)
       few-cells l h c d = omega (arith, ap (cells r) d)
 
-  go : (c h l : Option ℕ) (x y : ℕ) → IsBest r (common r P) c → IsBest r (upper r P) h → IsBest r P l → ShownTwice r w c x → ShownPair r w h l y
+  go : (c h l : Option ℕ) (x y : ℕ) → BestTable r (common r P) c → BestTable r (upper r P) h → BestTable r P l → ShownTwice r w c x → ShownPair r w h l y
       → Shown (suc r) w (closest (cells (suc r)) (joins r c c) (joins r h l)) (min x y)
   unfolding closest joins
   go none none l x y bc bh bl sx sy = omega arith

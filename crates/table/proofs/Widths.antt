@@ -11,7 +11,7 @@ use Rattle.table.specs.Inner.Ranks.{masked, pickOf, rank, tableSpace}
 use Rattle.table.specs.Inner.Pairs.{blockSpace, pairBits, zerosIn, onesIn}
 use Rattle.table.specs.Inner.Blocks.{oneSpace, threeSpace, entries, entryOf, blockOf, blockAt, zerosAt, onesAt, Blocks, Shown, PickShown, Covered}
 use Rattle.table.proofs.Count.{repeated}
-use Rattle.table.proofs.Halving.{join, IsBest, least-best}
+use Rattle.table.proofs.Halving.{join, BestTable, least-best}
 use Rattle.table.proofs.Masks.{least-repeated, pick-some}
 use Rattle.table.proofs.Entries.{digits}
 use Rattle.table.proofs.Pairs.{one-byte, two-bytes}
@@ -23,25 +23,25 @@ Asked e n w =
     Blocks e × (1 ≤ n) × (n ≤ maxInputs) × (zerosIn w < 2 ^ (2 ^ n)) × (onesIn w < 2 ^ (2 ^ n)) × Covered n (zerosIn w) (onesIn w)
 
 -- the pair's masks are of k inputs and cover every pattern
-abbrev Fit : (k w : ℕ) → Type 0
-Fit k w = (zerosIn w < 2 ^ (2 ^ k)) × (onesIn w < 2 ^ (2 ^ k)) × Covered k (zerosIn w) (onesIn w)
+abbrev WidthFits : (k w : ℕ) → Type 0
+WidthFits k w = (zerosIn w < 2 ^ (2 ^ k)) × (onesIn w < 2 ^ (2 ^ k)) × Covered k (zerosIn w) (onesIn w)
 
-pub fit : {t : List ℕ} {n k : ℕ} (w : ℕ) → n ≡ k → Asked t n w → Fit k w
-fit w e h = subst (λ m. Fit m w) e (h .3, h .4, h .5)
+pub fit : {t : List ℕ} {n k : ℕ} (w : ℕ) → n ≡ k → Asked t n w → WidthFits k w
+fit w e h = subst (λ m. WidthFits m w) e (h .3, h .4, h .5)
 
 -- the rank of the pick between the pair's masks
 abbrev rankIn : (n w : ℕ) → ℕ
 rankIn n w = rank n (pickOf n (zerosIn w) (onesIn w))
 
 -- the rank at n inputs is that at k, where n is k
-pub rank-at : {t : List ℕ} {n k x : ℕ} (w : ℕ) → n ≡ k → Asked t n w → (Fit k w → x ≡ rankIn k w) → x ≡ rankIn n w
+pub rank-at : {t : List ℕ} {n k x : ℕ} (w : ℕ) → n ≡ k → Asked t n w → (WidthFits k w → x ≡ rankIn k w) → x ≡ rankIn n w
 rank-at w e h f = rw e (f (fit w e h))
 
 inside : (n zeros ones : ℕ) → Covered n zeros ones → pickOf n zeros ones < 2 ^ (2 ^ n)
-inside n zeros ones h = subst (λ o. IsBest n (masked zeros ones) o) (pick-some n zeros ones h) (least-best n (masked zeros ones)) .inside
+inside n zeros ones h = subst (λ o. BestTable n (masked zeros ones) o) (pick-some n zeros ones h) (least-best n (masked zeros ones)) .inside
 
 -- one input, looked up as two: each mask stands twice in its half of the place
-pub one-place : (w : ℕ) → w < 2 ^ pairBits → Fit 1 w → w * (oneSpace + 1) < entries
+pub one-place : (w : ℕ) → w < 2 ^ pairBits → WidthFits 1 w → w * (oneSpace + 1) < entries
 one-place w l f = omega (arith, one-byte w l (omega (arith, f .0)) (omega (arith, f .1)), f .0, f .1)
 
 rank-one : (zeros ones x : ℕ) → zeros < oneSpace → ones < oneSpace → Covered 1 zeros ones → x ≡ blockOf (zeros * (oneSpace + 1)) (ones * (oneSpace + 1))
@@ -60,7 +60,7 @@ rank-one zeros ones x lz lo h e =
     let f : x ≡ (cells 1 t * 64 + t * 21) * oneSpace + t = omega arith in
     rw (d .0, ap (λ y. y % oneSpace) f ∙ digits-mod (cells 1 t * 64 + t * 21) lt)
 
-pub one-input : (w x : ℕ) → w < 2 ^ pairBits → x ≡ blockAt (w * (oneSpace + 1)) → Fit 1 w → x / threeSpace * tableSpace + x % oneSpace ≡ rankIn 1 w
+pub one-input : (w x : ℕ) → w < 2 ^ pairBits → x ≡ blockAt (w * (oneSpace + 1)) → WidthFits 1 w → x / threeSpace * tableSpace + x % oneSpace ≡ rankIn 1 w
 one-input w x l e f =
     let b = one-byte w l (omega (arith, f .0)) (omega (arith, f .1)) in
     let z : w * (oneSpace + 1) / blockSpace ≡ zerosIn w * (oneSpace + 1) = omega (arith, b, f .0, f .1) in
@@ -68,10 +68,10 @@ one-input w x l e f =
     rank-one (zerosIn w) (onesIn w) x (f .0) (f .1) (f .2) (e ∙ ap₂ blockOf z o)
 
 -- two inputs: the pair is a place
-pub two-place : (w : ℕ) → w < 2 ^ pairBits → Fit 2 w → w < entries
+pub two-place : (w : ℕ) → w < 2 ^ pairBits → WidthFits 2 w → w < entries
 two-place w l f = omega (arith, one-byte w l (f .0) (f .1), f .0, f .1)
 
-pub two-inputs : (w x : ℕ) → w < 2 ^ pairBits → x ≡ blockAt w → Fit 2 w → x / threeSpace * tableSpace + x % blockSpace ≡ rankIn 2 w
+pub two-inputs : (w x : ℕ) → w < 2 ^ pairBits → x ≡ blockAt w → WidthFits 2 w → x / threeSpace * tableSpace + x % blockSpace ≡ rankIn 2 w
 unfolding blockOf entryOf rank
 two-inputs w x l e f =
     let b = one-byte w l (f .0) (f .1) in
@@ -83,11 +83,11 @@ two-inputs w x l e f =
     rw (d .0, d .1)
 
 -- three inputs: the pair is two places
-pub three-place : (w : ℕ) → w < 2 ^ pairBits → Fit 3 w → w / entries < entries
+pub three-place : (w : ℕ) → w < 2 ^ pairBits → WidthFits 3 w → w / entries < entries
 three-place w l f = omega (arith, two-bytes w l (f .0) (f .1))
 
 pub three-inputs : (w x : ℕ) → w < 2 ^ pairBits → PickShown 3 threeSpace (zerosAt (w % entries) (w / entries)) (onesAt (w % entries) (w / entries)) x
-    → Fit 3 w → x / threeSpace * tableSpace + x % threeSpace ≡ rankIn 3 w
+    → WidthFits 3 w → x / threeSpace * tableSpace + x % threeSpace ≡ rankIn 3 w
 unfolding rank
 three-inputs w x l s f =
     let t = pickOf 3 (zerosIn w) (onesIn w) in
@@ -97,6 +97,6 @@ three-inputs w x l s f =
     omega arith
 
 -- four inputs: the number that shows the pick is its rank
-pub four-inputs : (w x : ℕ) → PickShown 4 tableSpace (zerosIn w) (onesIn w) x → Fit 4 w → x ≡ rankIn 4 w
+pub four-inputs : (w x : ℕ) → PickShown 4 tableSpace (zerosIn w) (onesIn w) x → WidthFits 4 w → x ≡ rankIn 4 w
 unfolding rank
 four-inputs w x s f = subst (λ o. Shown 4 tableSpace o x) (pick-some 4 (zerosIn w) (onesIn w) (f .2)) s

@@ -1,4 +1,5 @@
 -- What only inner functions use.
+pub mod CellsWritten
 pub mod Ranks
 pub mod Blocks
 pub mod Pairs

@@ -1,10 +1,10 @@
-// The numbers that have a bit. Inner: callers name a wire or an input that there is, and a bit.
+// The values that have a bit. Inner: the functions on sets of values name a wire that there is, and a bit.
 ghost use mathlib.Core.Path.{_≡_};
 ghost use Prim.Native.Nat.{_<_};
 ghost use Rattle.sheet.specs.Limits.{maxWires};
 ghost use Rattle.table.specs.Inner.Columns.{columnOf};
 
-// The values that have wire j at b; with b 1, the table of the input whose bit of a pattern is bit j.
+// The values that have wire j at b, as a set.
 pub fn column(j: u8, b: u8) -> u16
     requires { ⌜ (j < maxWires) × (b < 2) ⌝ }
     ensures { λ r. ⌜ r ≡ columnOf j b ⌝ }

@@ -10,10 +10,13 @@ ghost use Rattle.table.specs.Inner.Ranks.{pickOf, rank, tableSpace};
 ghost use Rattle.table.specs.Inner.Blocks.{entries, threeSpace, noEntry, blockAt, zerosAt, onesAt, Blocks, PickShown, Covered};
 ghost use Rattle.table.specs.Inner.Pairs.{zerosIn, onesIn};
 
+// A block is of two inputs: so many patterns.
+pub const BLOCK_PATTERNS: u8 = 4;
+
 // The tables of one input, of a block of two and of three inputs are the numbers below these: a table has a bit for each pattern.
 const ONE_SPACE: u32 = 4;
 
-const BLOCK_SPACE: u32 = 16;
+const BLOCK_SPACE: u32 = 1 << BLOCK_PATTERNS;
 
 pub const THREE_SPACE: u32 = 256;
 

@@ -40,7 +40,7 @@ fn answer_whole(s: &[u8]) -> usize
     let mut used: usize = 0;
     let mut at: usize = 0;
     while at < s.len() {
-        let next = at + drawn::records::record_length(s, at);
+        let next = at + samples::records::record_length(s, at);
         if s.len() < next {
             break;
         }

@@ -26,7 +26,7 @@ use Rattle.sheet.proofs.Fields.{limit-field, pattern-room, present-mark, presen
 use Rattle.unit.specs.Gates.{outputsFor}
 use Rattle.unit.specs.Relation.{permits, sameList, alike, unitRelation}
 use Rattle.unit.specs.Formed.{setOn}
-use Rattle.unit.specs.Inner.Parts.{Codes}
+use Rattle.unit.specs.Inner.Forming.{Codes}
 use Rattle.unit.proofs.Codings.{code-test}
 use Rattle.unit.proofs.Members.{told, told-is, told-test}
 

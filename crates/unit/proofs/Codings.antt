@@ -20,7 +20,7 @@ use Rattle.sheet.specs.Gathered.{outputAt}
 use Rattle.sheet.proofs.Fields.{outputs-field, output-field}
 use Rattle.unit.specs.Gates.{signalsOn, outputsFor}
 use Rattle.unit.specs.Relation.{sameList}
-use Rattle.unit.specs.Inner.Parts.{WasRead, Signals, codeOf}
+use Rattle.unit.specs.Inner.Forming.{WasRead, Signals, codeOf}
 use Rattle.unit.proofs.Signals.{AllBits, upTo-bits, gates-upTo}
 use Rattle.unit.proofs.Placed.{placed, wires-bits, signals-made, output-room}
 

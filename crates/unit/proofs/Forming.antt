@@ -20,7 +20,7 @@ use Rattle.reader.specs.Reading.{readingOf, replyTold}
 use Rattle.reader.proofs.Replies.{accepted-reply}
 use Rattle.reader.proofs.Sound.{sound}
 use Rattle.unit.specs.Formed.{relationIn, turnedAway, formedFrom, formedOf}
-use Rattle.unit.specs.Inner.Parts.{WasRead, checkedReply}
+use Rattle.unit.specs.Inner.Forming.{WasRead, checkedReply}
 use Rattle.unit.proofs.Told.{emptyIn, refused-empty, passes-whole}
 
 -- a reply that accepts comes from a sheet that was read

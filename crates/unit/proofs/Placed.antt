@@ -20,7 +20,7 @@ use Rattle.base.proofs.Each.{each-getD}
 use Rattle.reader.proofs.Wiring.{Wired}
 use Rattle.sheet.proofs.Fields.{inputs-field, wires-field, gates-field, outputs-field, kind-field, left-field, right-field, output-field}
 use Rattle.unit.specs.Gates.{signalsOn}
-use Rattle.unit.specs.Inner.Parts.{WasRead}
+use Rattle.unit.specs.Inner.Forming.{WasRead}
 use Rattle.unit.proofs.Signals.{AllBits, upTo, upTo-cong, gates-upTo}
 
 -- the gate in place i

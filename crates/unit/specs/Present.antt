@@ -1,10 +1,9 @@
 -- Document 01, "Unit sheet" and "Cells": the present first stage, as the sheet's own 02 commands tell it.
 use Prim.Native.Nat.{ℕ, zero, _^_}
 use mathlib.Core.List.{List}
-use lib.ListN.{getD}
 use Rattle.sheet.specs.Limits.{maxWires}
-use Rattle.table.specs.Bits.{bit, sum, ofBits, tabulate}
-use Rattle.table.specs.Cells.{cells}
+use Rattle.table.specs.Bits.{bit, ofBits, tabulate}
+use Rattle.table.specs.Cells.{cells, wires, total}
 use Rattle.sheet.specs.declared.Command.{Command}
 use Rattle.sheet.specs.Commands.{inputsOf, wiresOf}
 use Rattle.sheet.specs.Gathered.{presentOn}
@@ -20,5 +19,5 @@ presentTables (refused f) = tabulate maxWires (λ _. zero)
 
 -- the cells of these tables, wire by wire
 unfoldable pub presentCells : Reading → ℕ
-presentCells (holds cs) = sum (wiresOf cs) (λ j. cells (inputsOf cs) (getD (presentTables (holds cs)) j 0))
+presentCells (holds cs) = total (cells (inputsOf cs)) (wiresOf cs) (wires (presentTables (holds cs)))
 presentCells (refused f) = zero

@@ -6,7 +6,7 @@ ghost use lib.ListN.{getD};
 ghost use Rattle.sheet.specs.Limits.{maxWires};
 ghost use Rattle.table.specs.Bits.{bit};
 ghost use Rattle.unit.specs.Gates.{gateBit};
-ghost use Rattle.unit.specs.Inner.Parts.{WasRead, Signals, codeOf};
+ghost use Rattle.unit.specs.Inner.Forming.{WasRead, Signals, codeOf};
 
 // Room for a signal of each wire and of each gate.
 const MAX_SIGNALS: usize = Sheet::WIRES + Sheet::MAX_GATES as usize;

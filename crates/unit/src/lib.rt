@@ -8,7 +8,7 @@ ghost use mathlib.Core.Path.{_≡_};
 ghost use Rattle.relation.specs.Handed.{checkOf};
 ghost use Rattle.unit.specs.Cases.{formedReply};
 ghost use Rattle.unit.specs.Formed.{turnedAway, formedOf};
-ghost use Rattle.unit.specs.Inner.Parts.{checkedReply};
+ghost use Rattle.unit.specs.Inner.Forming.{checkedReply};
 
 mod gates; // gates.rt: signals and outputs for a wire value
 mod sets; // sets.rt: the relation, pattern by pattern

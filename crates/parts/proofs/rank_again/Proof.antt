@@ -1,9 +1,10 @@
 use Prim.Native.Nat.{_%_}
 use mathlib.Core.Path.{_≡_, ap, sym, _∙_}
 use native.Mathlib.Nat.{mod-eq-of-lt}
+use Rattle.sheet.specs.Limits.{maxWires}
 use Rattle.table.specs.Bits.{bit}
 use Rattle.relation.specs.Tests.{occurs}
-use Rattle.relation.specs.Inner.Masks.{member}
+use Rattle.relation.specs.Inner.Members.{member}
 use Rattle.parts.specs.Inner.Ranks.{tableIn}
 use Rattle.parts.specs.Inner.Parts.{rankAgain}
 use borrow.Author.Needs.{needs}
@@ -35,7 +36,7 @@ returns c =
     let b = c .before .before .bit-of in
     let e : b .result % 2 ≡ bit (tableIn (a .rank)) (a .p) =
     mod-eq-of-lt (b .ensures .1) ∙ b .ensures .0 ∙ ap (λ t. bit t (a .p)) (c .before .before .before .table-of .ensures) in
-    let h = sym (c .before .has .ensures ∙ ap (occurs 4 (member (a .set)) (a .j)) e) ∙ c .if1 .taken in
+    let h = sym (c .before .has .ensures ∙ ap (occurs maxWires (member (a .set)) (a .j)) e) ∙ c .if1 .taken in
     rw h
 
 returns-2 : tie.Need-returns-2
@@ -45,7 +46,7 @@ returns-2 c =
     let b = c .before .before .before .bit-of in
     let e : b .result % 2 ≡ bit (tableIn (a .rank)) (a .p) =
     mod-eq-of-lt (b .ensures .1) ∙ b .ensures .0 ∙ ap (λ t. bit t (a .p)) (c .before .before .before .before .table-of .ensures) in
-    let h = sym (c .before .before .has .ensures ∙ ap (occurs 4 (member (a .set)) (a .j)) e) ∙ c .before .if1 .left in
+    let h = sym (c .before .before .has .ensures ∙ ap (occurs maxWires (member (a .set)) (a .j)) e) ∙ c .before .if1 .left in
     rw h (c .pick .ensures)
 
 pub rank-again-spec : {M : Type 1} → statement M

@@ -7,7 +7,8 @@ use Rattle.table.specs.Bits.{tabulate, isOne}
 use Rattle.table.specs.Inner.Blocks.{Covered}
 use Rattle.table.specs.Inner.Pairs.{upperHalf, zerosIn, onesIn, paired}
 use Rattle.relation.specs.Tests.{occurs}
-use Rattle.relation.specs.Inner.Masks.{member, maskOf, cut}
+use Rattle.relation.specs.Inner.Members.{member}
+use Rattle.relation.specs.Inner.Masks.{maskOf, cut}
 
 -- the two masks of wire j's projection, and those of all wires
 unfoldable pub pairOf : List ℕ → ℕ → ℕ

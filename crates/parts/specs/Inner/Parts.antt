@@ -11,7 +11,9 @@ use Rattle.table.specs.Inner.Ranks.{pickOf, rank}
 use Rattle.table.specs.Inner.Pairs.{zerosIn, onesIn}
 use Rattle.relation.specs.Inner.Source.{WellDefined}
 use Rattle.relation.specs.Tests.{ofSets, occurs}
-use Rattle.relation.specs.Inner.Masks.{member, maskOf, NonePast}
+use Rattle.relation.specs.Inner.Members.{member}
+use Rattle.relation.specs.Inner.Masks.{maskOf}
+use Rattle.relation.specs.Inner.Narrowed.{NonePast}
 use Rattle.parts.specs.Inner.Pairs.{pairsOf}
 use Rattle.parts.specs.Inner.Ranks.{tableIn}
 

@@ -1,4 +1,4 @@
--- Picks as numbers: the table and the cells of a rank. Only `proofs/Packing` and `src/ranks.rt` know where in the number they stand.
+-- Picks as numbers: the table and the cells of a rank. Above the crate `table` only `proofs/Packing` and `src/ranks.rt` know where in the number they stand.
 use Prim.Native.Nat.{ℕ, _*_, _/_, _%_}
 use mathlib.Core.List.{List}
 use lib.ListN.{getD}

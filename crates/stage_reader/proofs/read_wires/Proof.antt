@@ -7,7 +7,6 @@ use borrow.Author.Needs.{needs}
 use lib.ListN.{length, drop, length-set}
 use Rattle.table.specs.Drawing.{drawnCells, got}
 use Rattle.sheet.specs.Limits.{maxWires, maxPatterns}
-use Rattle.stage.specs.Trees.{size}
 use Rattle.stage_reader.specs.Inner.Trees.{treeReply, stepOf}
 use Rattle.table.specs.Tree.{Tree}
 use Rattle.stage.specs.Read.{Read, wireAt, closed}

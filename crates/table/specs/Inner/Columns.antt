@@ -1,4 +1,4 @@
--- The numbers that have a bit: as a set of values those with a wire at a bit, as a table the input whose bit of a pattern it is.
+-- The values that have a wire at a bit, as a set.
 use Prim.Native.Nat.{ℕ}
 use lib.Dec.{eqb}
 use Rattle.sheet.specs.Limits.{maxValues}

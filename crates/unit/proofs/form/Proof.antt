@@ -1,7 +1,7 @@
 -- `form` meets its contract: the reading decides, and then the test of the relation.
 use mathlib.Core.Path.{ap, sym, _∙_}
 use Rattle.relation.specs.Handed.{checkOf}
-use Rattle.unit.specs.Inner.Parts.{checkedReply}
+use Rattle.unit.specs.Inner.Forming.{checkedReply}
 use Rattle.reader.proofs.Replies.{refused-reply}
 use Rattle.unit.proofs.Forming.{accepted-held, formed-refused, after-check}
 use borrow.Author.Needs.{needs}

@@ -14,7 +14,7 @@ use Rattle.sheet.specs.Limits.{maxWires}
 use Rattle.relation.specs.Source.{value}
 use Rattle.relation.specs.Tests.{ofSets}
 use Rattle.table.specs.Cells.{wires}
-use Rattle.relation.specs.Inner.Masks.{member}
+use Rattle.relation.specs.Inner.Members.{member}
 use Rattle.relation.proofs.Members.{member-sets}
 use Rattle.quote.proofs.audits.allowed_everywhere.Statement.{statement}
 use Rattle.quote.proofs.audits.allowed_everywhere.Tie as tie

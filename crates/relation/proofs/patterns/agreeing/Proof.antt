@@ -12,7 +12,8 @@ use Rattle.table.specs.Bits.{bit}
 use Rattle.table.proofs.Bits.{bit-cases}
 use Rattle.table.specs.Inner.Columns.{columnOf}
 use Rattle.sheet.specs.Limits.{maxPatterns}
-use Rattle.relation.specs.Inner.Masks.{withBit, agreed}
+use Rattle.relation.specs.Inner.Members.{withBit}
+use Rattle.relation.specs.Inner.Narrowed.{agreed}
 use Rattle.base.proofs.Tabulate.{filled-more, filled-tabulate}
 use Rattle.relation.proofs.patterns.agreeing.Statement.{statement}
 use Rattle.relation.proofs.patterns.agreeing.Tie as tie

@@ -7,7 +7,7 @@ use lib.Dec.{ltb}
 use lib.ListN.{length, getD, length-set}
 use borrow.Author.Needs.{needs}
 use Rattle.sheet.specs.Limits.{maxPatterns}
-use Rattle.relation.specs.Inner.Masks.{cleared}
+use Rattle.relation.specs.Inner.Narrowed.{cleared}
 use Rattle.base.proofs.Tabulate.{filled-more, filled-tabulate}
 use Rattle.relation.proofs.patterns.clear_past.Statement.{statement}
 use Rattle.relation.proofs.patterns.clear_past.Tie as tie

@@ -2,7 +2,7 @@
 use mathlib.Core.Path.{refl}
 use borrow.Author.Needs.{needs}
 use Rattle.table.specs.Bits.{bit}
-use Rattle.relation.specs.Inner.Masks.{member}
+use Rattle.relation.specs.Inner.Members.{member}
 use Rattle.relation.proofs.values.contains.Statement.{statement}
 use Rattle.relation.proofs.values.contains.Tie as tie
 

@@ -2,7 +2,7 @@
 use mathlib.Core.Path.{ap}
 use lib.Bits.{bitAnd}
 use borrow.Author.Needs.{needs}
-use Rattle.relation.specs.Inner.Masks.{withBit}
+use Rattle.relation.specs.Inner.Members.{withBit}
 use Rattle.relation.proofs.values.with_bit.Statement.{statement}
 use Rattle.relation.proofs.values.with_bit.Tie as tie
 

@@ -8,7 +8,7 @@ use lib.ListN.{getD, set, length-set}
 use lib.Seq.{set-getD}
 use Rattle.sheet.specs.Limits.{maxPatterns}
 use Rattle.relation.specs.Tests.{ofSets, openPairs}
-use Rattle.relation.specs.Inner.Masks.{withBit}
+use Rattle.relation.specs.Inner.Members.{withBit}
 use Rattle.search.specs.Inner.Conflicts.{Settled}
 use Rattle.search.specs.Inner.Tally.{stateOf}
 use Rattle.search.proofs.Carrying.{carried-tables, pattern-lt}

@@ -12,7 +12,7 @@ returns : tie.Need-returns
 returns c = simp (← c .before .count-out .ensures, c .if1 .taken)
 
 returns-2 : tie.Need-returns-2
-returns-2 c = simp (← c .before .before .count-out .ensures, c .before .if1 .left, ← c .count-out2 .ensures)
+returns-2 c = simp (← c .before .before .count-out .ensures, c .before .if1 .left) (c .count-out2 .ensures)
 
 pub sizes-out-spec : {M : Type 1} → statement M
 sizes-out-spec = tie.close (tie.spec count-out-requires count-out-requires-2 returns returns-2)

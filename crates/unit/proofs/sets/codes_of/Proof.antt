@@ -6,7 +6,7 @@ use lib.ListN.{length, getD, length-set}
 use borrow.Author.Needs.{needs}
 use Rattle.base.proofs.Tabulate.{filled-more}
 use Rattle.sheet.specs.Limits.{maxValues}
-use Rattle.unit.specs.Inner.Parts.{WasRead, codeOf}
+use Rattle.unit.specs.Inner.Forming.{WasRead, codeOf}
 use Rattle.unit.proofs.sets.codes_of.Statement.{statement}
 use Rattle.unit.proofs.sets.codes_of.Tie as tie
 

@@ -1,4 +1,0 @@
--- What the input of the trials holds, and what its replies are made of beside the report's parts.
-pub mod Records
-pub mod Lines
-pub mod Inner
