@@ -11,8 +11,8 @@ use Rattle.relation.specs.Families.{Family}
 use Rattle.branch_bound.specs.declared.State.{State}
 use Rattle.branch_bound.specs.Search.{Board, floor}
 
--- The answer's own stage drives what its tables do, keeps to the relation and has its cells; no compatible stage has fewer unless the search was stopped, and none has fewer than
--- the floor.
+-- The answer's own stage drives what its tables do, keeps to the relation and has its cells; no compatible stage has fewer unless the search was
+-- stopped, and none has fewer than the floor.
 pub record Smallest (D : Drawing) (b : Board) (budget : ℕ) (R : Rel) (s : State) (own : List (D .Shape)) : Type 0 where
   pub value-own : (p : ℕ) → p < 2 ^ b .n → drawnValue D (b .n) own p ≡ value (b .m) (wires (s .tables)) p
   pub family : Family D (b .n) (b .m) R own

@@ -40,8 +40,12 @@ unfoldable relations-opened : ℕ
 unfolding value ofSets keep agree occurs fits free freeWire compatible conflict emptyPattern isOne openPairs lowest relationOf widePattern checkOf
 relations-opened = 0
 
+unfoldable reply-opened : ℕ
+unfolding markOf answerOf refusedWith searchTested searchOf
+reply-opened = 0
+
 unfoldable search-opened : ℕ
-unfolding replyTables total pick picks floor left quick start split expand charge treat visit searchPart run tree markOf answerOf refusedWith searchTested searchOf
+unfolding replyTables total pick picks floor left quick start split expand charge treat visit searchPart run tree reply-opened
 search-opened = 0
 
 -- a stage, a quote,

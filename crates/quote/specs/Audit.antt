@@ -27,7 +27,8 @@ sizesApart = refusing secondRefusedOutcome (refusalAt sizesDiffer 0)
 unfoldable pub auditedStage : Relation → StageSheet Tree → Case
 auditedStage r (noStage f) = refusing secondRefusedOutcome f
 auditedStage r (got n m trees) =
-    cond (eqb n (r .n) && eqb m (r .m)) (cond (keepsTo r trees) (accepting fitsOutcome (drawnCells treeDrawing trees)) (accepting differsOutcome (drawnCells treeDrawing trees))) sizesApart
+    let cells = drawnCells treeDrawing trees in
+    cond (eqb n (r .n) && eqb m (r .m)) (cond (keepsTo r trees) (accepting fitsOutcome cells) (accepting differsOutcome cells)) sizesApart
 
 unfoldable pub auditedFrom : FormedReply → List ℕ → Case
 auditedFrom f stage =

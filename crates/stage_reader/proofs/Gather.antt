@@ -44,7 +44,8 @@ filled n tables j (x ∷ xs) = filled n (set tables j (tableOf n x)) (suc j) xs
 
 -- the reply of a sheet whose wires below j are gathered already
 unfoldable pub replyWith : List ℕ → ℕ → ℕ → StageSheet Tree → StageReply
-replyWith tables cells j (got n m trees) = record { n = n; m = m; tables = filled n tables j trees; cells = cells + drawnCells treeDrawing trees; answer = acceptedCase }
+replyWith tables cells j (got n m trees) =
+    record { n = n; m = m; tables = filled n tables j trees; cells = cells + drawnCells treeDrawing trees; answer = acceptedCase }
 replyWith tables cells j (noStage f) = refusedReply f
 
 -- one wire more is gathered
