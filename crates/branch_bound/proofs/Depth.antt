@@ -9,8 +9,8 @@ use Rattle.base.proofs.Tests.{cond-has₂}
 use Rattle.relation.specs.Source.{Rel}
 use Rattle.relation.specs.Inner.Source.{WellDefined}
 use Rattle.table.specs.Cells.{wires}
-use Rattle.relation.specs.Tests.{keep, free, freeWire, compatible, conflict, openPairs}
-use Rattle.relation.proofs.Decide.{free-both, conflict-is, freeWire-is}
+use Rattle.relation.specs.Tests.{keep, isOpen, openWire, compatible, conflict, openPairs}
+use Rattle.relation.proofs.Decide.{free-both, conflict-is, openWire-is}
 use Rattle.relation.proofs.Splits.{keep-well-defined, keep-closes}
 use Rattle.branch_bound.specs.declared.State.{State}
 use Rattle.branch_bound.specs.Search.{Board, pick, picks, floor, split, expand, charge, treat, visit, searchPart, charged, discarded, usedUp}
@@ -23,7 +23,7 @@ module _ (b : Board) (few : b .m ≤ maxWires) (budget : ℕ) where
   Same R f g = (P : Rel) (s : State) → openPairs (b .n) (b .m) P < openPairs (b .n) (b .m) R → WellDefined (b .n) (b .m) P → f P s ≡ g P s
 
   module _ (R : Rel) (ne : WellDefined (b .n) (b .m) R) (f g : Rel → State → State) (same : Same R f g) where
-    split-same : (p j : ℕ) (s : State) → p < 2 ^ b .n → j < b .m → T (free (b .m) (R p) j) → split b budget f R p j s ≡ split b budget g R p j s
+    split-same : (p j : ℕ) (s : State) → p < 2 ^ b .n → j < b .m → T (isOpen (b .m) (R p) j) → split b budget f R p j s ≡ split b budget g R p j s
     unfolding split
     split-same p j s lp lj t =
         let o = free-both (b .m) (R p) j t in
@@ -41,9 +41,9 @@ module _ (b : Board) (few : b .m ≤ maxWires) (budget : ℕ) where
         (λ h.
         let p = conflict (b .n) (b .m) R (wires (picks b R)) in
         let at = conflict-is (b .n) (b .m) R (wires (picks b R)) h in
-        let w = freeWire-is (b .n) (b .m) R (wires (picks b R)) ne
+        let w = openWire-is (b .n) (b .m) R (wires (picks b R)) ne
         (λ j l. rw (wires-tables (b .n) (b .m) few (pick b R) j l) (pick-fits b R ne j)) p (at .0) (at .1) in
-        split-same p (freeWire (b .m) (R p))
+        split-same p (openWire (b .m) (R p))
         (charged s) (at .0) (w .0) (w .1))))
 
   pub visit-more : (k l : ℕ) (R : Rel) (s : State) → openPairs (b .n) (b .m) R < k → openPairs (b .n) (b .m) R < l → WellDefined (b .n) (b .m) R

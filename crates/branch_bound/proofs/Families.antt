@@ -19,7 +19,7 @@ use Rattle.relation.specs.Families.{Family}
 use Rattle.relation.proofs.Decide.{value-cong}
 use Rattle.relation.proofs.Families.{drawnTables, family-stage, family-compatible, family-total, least-drives, least-family, least-total}
 use Rattle.branch_bound.specs.Search.{Board, totalOn, floor, run}
-use Rattle.branch_bound.specs.Promise.{Fair, Promise}
+use Rattle.branch_bound.specs.SearchPromise.{Fair, Promise}
 use Rattle.branch_bound.specs.TreeBoard.{tree}
 use Rattle.branch_bound.specs.Smallest.{Smallest}
 use Rattle.branch_bound.proofs.Treating.{run-promise}

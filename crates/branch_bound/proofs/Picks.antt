@@ -22,7 +22,7 @@ use Rattle.relation.proofs.Decide.{value-cong, value-is, compatible-fits, some-
 use Rattle.relation.proofs.Splits.{agree-part, agree-bit, agree-well-defined}
 use borrow.Author.Tests.{lt-ltb}
 use Rattle.branch_bound.specs.Search.{Board, replyTables, totalOn, pick, picks, floor, left, quick}
-use Rattle.branch_bound.specs.Promise.{Fair}
+use Rattle.branch_bound.specs.SearchPromise.{Fair}
 
 pub stage-cells-cong : (b : Board) (X Y : Tables) → ((j : ℕ) → j < b .m → X j ≡ Y j) → totalOn b X ≡ totalOn b Y
 unfolding total

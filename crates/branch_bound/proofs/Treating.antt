@@ -11,13 +11,13 @@ use Rattle.table.proofs.Bits.{bit-cases}
 use Rattle.relation.specs.Source.{Rel, Tables, Stage, Compatible, value}
 use Rattle.relation.specs.Inner.Source.{WellDefined, Part}
 use Rattle.table.specs.Cells.{wires}
-use Rattle.relation.specs.Tests.{keep, free, freeWire, compatible, conflict, openPairs}
-use Rattle.relation.proofs.Decide.{free-both, compatible-at, conflict-is, freeWire-is}
+use Rattle.relation.specs.Tests.{keep, isOpen, openWire, compatible, conflict, openPairs}
+use Rattle.relation.proofs.Decide.{free-both, compatible-at, conflict-is, openWire-is}
 use Rattle.relation.proofs.Splits.{keep-part, keep-well-defined, keep-compatible, keep-closes}
 use Rattle.branch_bound.specs.declared.State.{State}
 use Rattle.branch_bound.specs.Search.{Board, totalOn, pick, picks, floor, start, split, expand, charge, treat, visit, searchPart, run, charged}
 use Rattle.branch_bound.specs.Search.{discarded, usedUp}
-use Rattle.branch_bound.specs.Promise.{Fair, AnswerSoFar, Promise}
+use Rattle.branch_bound.specs.SearchPromise.{Fair, AnswerSoFar, Promise}
 use Rattle.branch_bound.proofs.Picks.{wires-tables, tables-long, quick-long, tables-stage, floor-picks, pick-stage, pick-fits, floor-le}
 use Rattle.branch_bound.proofs.Picks.{quick-compatible, quick-stage}
 
@@ -39,7 +39,7 @@ module _ (b : Board) (fair : Fair b) (budget : ℕ) (Q : Rel)
   Treats k on = (R : Rel) (s : State) → openPairs (b .n) (b .m) R < k → WellDefined (b .n) (b .m) R → Part R Q → AnswerSoFar b budget Q s → After R s (on R s)
 
   module _ (on : Rel → State → State) (R : Rel) (ne : WellDefined (b .n) (b .m) R) (part : Part R Q) where
-    split-treats : (k p j : ℕ) (s : State) → Treats k on → openPairs (b .n) (b .m) R < suc k → p < 2 ^ b .n → j < b .m → T (free (b .m) (R p) j)
+    split-treats : (k p j : ℕ) (s : State) → Treats k on → openPairs (b .n) (b .m) R < suc k → p < 2 ^ b .n → j < b .m → T (isOpen (b .m) (R p) j)
         → AnswerSoFar b budget Q s → After R s (split b budget on R p j s)
     unfolding split
     split-treats k p j s ih lk lp lj f sd =
@@ -90,10 +90,10 @@ module _ (b : Board) (fair : Fair b) (budget : ℕ) (Q : Rel)
         (λ h.
         let p = conflict (b .n) (b .m) R (wires (picks b R)) in
         let at = conflict-is (b .n) (b .m) R (wires (picks b R)) h in
-        let w = freeWire-is (b .n) (b .m) R (wires (picks b R)) ne
+        let w = openWire-is (b .n) (b .m) R (wires (picks b R)) ne
         (λ j l. rw (wires-tables (b .n) (b .m) (fair .few) (pick b R) j l) (pick-fits b R ne j)) p (at .0) (at .1) in
         let next = charged s in
-        let r = split-treats k p (freeWire (b .m) (R p)) next ih lk (at .0) (w .0) (w .1)
+        let r = split-treats k p (openWire (b .m) (R p)) next ih lk (at .0) (w .0) (w .1)
         (record { long = sd .long; stage = sd .stage; answer = sd .answer; counted = sd .counted; within = omega arith; spent = go }) in
         (r .0, record { down = r .1 .down; stays = r .1 .stays; best = r .1 .best }))
 

@@ -8,7 +8,7 @@ use Rattle.table.specs.Bits.{tabulate}
 use Rattle.table.specs.Pick.{orZero, leastOf}
 use Rattle.relation.specs.Source.{Rel, Tables}
 use Rattle.table.specs.Cells.{wires, total}
-use Rattle.relation.specs.Tests.{keep, agree, projection, freeWire, compatible, conflict, openPairs}
+use Rattle.relation.specs.Tests.{keep, agree, projection, openWire, compatible, conflict, openPairs}
 use Rattle.branch_bound.specs.declared.State.{State}
 
 -- What a search is over: n inputs, m wires, the cells of a table, and the number whose least decides a pick before the table's own.
@@ -80,7 +80,7 @@ module _ (b : Board) where
     expand on R s =
         let p = conflict (b .n) (b .m) R (wires (picks R)) in
         let best = improved (picks R) (floor R) (charged s) in
-        let t = split on R p (freeWire (b .m) (R p)) (charged s) in
+        let t = split on R p (openWire (b .m) (R p)) (charged s) in
         cond (compatible (b .n) (b .m) R (wires (picks R))) best t
 
     -- step 2: once the visits have reached the budget, the part is left

@@ -11,7 +11,7 @@ use Rattle.table.specs.Tree.{reduced}
 use Rattle.table.specs.Pick.{suits, nearer, least, orZero, leastOf}
 use Rattle.relation.specs.declared.Relation.{Relation}
 use Rattle.relation.specs.Source.{value}
-use Rattle.relation.specs.Tests.{ofSets, keep, agree, occurs, free, freeWire, compatible, conflict, emptyPattern, openPairs}
+use Rattle.relation.specs.Tests.{ofSets, keep, agree, occurs, isOpen, openWire, compatible, conflict, emptyPattern, openPairs}
 use Rattle.relation.specs.Inner.Source.{fits}
 use Rattle.relation.specs.Handed.{relationOf, widePattern, checkOf}
 use Rattle.branch_bound.specs.Reply.{bestOutcome, stoppedOutcome, SearchReply, markOf, answerOf, refusedWith, searchTested, searchOf}
@@ -37,7 +37,7 @@ unfolding bit all any sum ofBits tabulate low high cells reduced suits nearer le
 tables-opened = 0
 
 unfoldable relations-opened : ℕ
-unfolding value ofSets keep agree occurs fits free freeWire compatible conflict emptyPattern isOne openPairs lowest relationOf widePattern checkOf
+unfolding value ofSets keep agree occurs fits isOpen openWire compatible conflict emptyPattern isOne openPairs lowest relationOf widePattern checkOf
 relations-opened = 0
 
 unfoldable reply-opened : ℕ

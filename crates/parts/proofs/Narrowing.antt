@@ -19,7 +19,7 @@ use Rattle.table.specs.Inner.Ranks.{masked, pickOf, rank}
 use Rattle.table.proofs.Bits.{bit-lt, all-at, all-intro, tabulate-at, tabulate-cong}
 use Rattle.table.proofs.Halving.{BestTable, least-best}
 use Rattle.table.proofs.Masks.{least-shrink, pick-some}
-use Rattle.relation.specs.Tests.{ofSets, keep, occurs, free}
+use Rattle.relation.specs.Tests.{ofSets, keep, occurs, isOpen}
 use Rattle.relation.specs.Inner.Members.{member, withBit}
 use Rattle.relation.specs.Inner.Masks.{maskOf}
 use Rattle.relation.specs.Inner.Narrowed.{narrowed}
@@ -37,7 +37,7 @@ use Rattle.parts.proofs.PairCuts.{pair-cut}
 use Rattle.parts.proofs.Keeping.{narrow, cover, kept-pick, kept-least, rank-between}
 
 module _ {n m : ℕ} (sz : Sized n m) {sets : List ℕ} (ok : PartSets n m sets) {p j b : ℕ} (lp : p < 2 ^ n) (lj : j < m)
-    (free-there : T (free m (ofSets sets p) j)) (lb : b < 2) where
+    (free-there : T (isOpen m (ofSets sets p) j)) (lb : b < 2) where
   there : p < maxPatterns
   there = lt-of-lt-of-le lp (pow-mono {i = n} {j = maxInputs} (sz .n-most))
 

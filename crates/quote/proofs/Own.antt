@@ -24,7 +24,7 @@ use Rattle.branch_bound.specs.declared.State.{State}
 use Rattle.branch_bound.specs.Search.{floor, run}
 use Rattle.branch_bound.specs.TreeBoard.{tree}
 use Rattle.branch_bound.specs.Smallest.{Smallest}
-use Rattle.branch_bound.specs.Promise.{Promise}
+use Rattle.branch_bound.specs.SearchPromise.{Promise}
 use Rattle.branch_bound.proofs.Families.{fair, smallest}
 use Rattle.branch_bound.proofs.Treating.{run-promise}
 use Rattle.stage.specs.Trees.{treeDrawing}

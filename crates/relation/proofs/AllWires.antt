@@ -9,7 +9,7 @@ use Rattle.base.proofs.Tests.{test-ext}
 use Rattle.table.specs.Bits.{bit}
 use Rattle.table.proofs.Bits.{zero-bit, ofBits-short}
 use Rattle.relation.specs.Source.{value}
-use Rattle.relation.specs.Tests.{occurs, free}
+use Rattle.relation.specs.Tests.{occurs, isOpen}
 use Rattle.table.specs.Cells.{wires}
 use Rattle.relation.specs.Inner.Members.{member}
 use Rattle.relation.proofs.Decide.{occurs-intro, occurs-at}
@@ -22,8 +22,8 @@ occurs-all-wires m w j b h l =
     (λ t. let u = occurs-at maxWires (member w) j b t in occurs-intro m (member w) j b (u .0) (member-lt w (2 ^ m) (u .0) l (u .2)) (u .2) (u .3))
     (λ t. let u = occurs-at m (member w) j b t in occurs-intro maxWires (member w) j b (u .0) (value-place m (u .0) h (u .1)) (u .2) (u .3))
 
-pub free-all-wires : (m w j : ℕ) → m ≤ maxWires → w < 2 ^ (2 ^ m) → free maxWires (member w) j ≡ free m (member w) j
-unfolding free
+pub free-all-wires : (m w j : ℕ) → m ≤ maxWires → w < 2 ^ (2 ^ m) → isOpen maxWires (member w) j ≡ isOpen m (member w) j
+unfolding isOpen
 free-all-wires m w j h l = ap₂ (λ (x y : Bool). x && y) (occurs-all-wires m w j 0 h l) (occurs-all-wires m w j 1 h l)
 
 -- the value of as many tables as there can be wires, those past wire m - 1 being 0

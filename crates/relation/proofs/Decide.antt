@@ -13,7 +13,7 @@ use Rattle.table.specs.Pick.{suits}
 use Rattle.table.proofs.Bits.{all-at, all-intro, any-intro, any-at, sum-cong, bit-lt, bit-cases, ofBits-lt, bit-ofBits, bit-ext}
 use Rattle.relation.specs.Source.{Rel, Tables, Compatible, value}
 use Rattle.relation.specs.Inner.Source.{WellDefined, Projects, Open, fits}
-use Rattle.relation.specs.Tests.{occurs, free, freeWire, compatible, conflict, emptyPattern}
+use Rattle.relation.specs.Tests.{occurs, isOpen, openWire, compatible, conflict, emptyPattern}
 
 -- tables and their value
 module _ (m : ℕ) (X : Tables) (p : ℕ) where
@@ -76,20 +76,20 @@ module _ (n m : ℕ) (R : Rel) where
           (λ e. occurs-intro m (R p) j 1 (w .0) (w .1) (w .2) e)
           (bit-cases (w .0) j)
 
-pub free-both : (m : ℕ) (S : ℕ → Bool) (j : ℕ) → T (free m S j) → T (occurs m S j 0) × T (occurs m S j 1)
-unfolding free
+pub free-both : (m : ℕ) (S : ℕ → Bool) (j : ℕ) → T (isOpen m S j) → T (occurs m S j 0) × T (occurs m S j 1)
+unfolding isOpen
 free-both m S j t = (and-left (occurs m S j 0) (occurs m S j 1) t, and-right (occurs m S j 0) (occurs m S j 1) t)
 
 -- on a wire that is not free all values of a set have the bit that occurs
-same-bit : (m : ℕ) (S : ℕ → Bool) (j v b : ℕ) → (b ≡ 0) ⊎ (b ≡ 1) → v < 2 ^ m → T (S v) → T (occurs m S j b) → T (not (free m S j)) → bit v j ≡ b
-unfolding free
+same-bit : (m : ℕ) (S : ℕ → Bool) (j v b : ℕ) → (b ≡ 0) ⊎ (b ≡ 1) → v < 2 ^ m → T (S v) → T (occurs m S j b) → T (not (isOpen m S j)) → bit v j ≡ b
+unfolding isOpen
 same-bit m S j v b (inl e) l s o f =
     ⊎-elim (λ d. d ∙ sym e)
-    (λ d. absurd (T-not (free m S j) f (and-intro (occurs m S j 0) (occurs m S j 1) (rw e at o) (occurs-intro m S j 1 v l s d))))
+    (λ d. absurd (T-not (isOpen m S j) f (and-intro (occurs m S j 0) (occurs m S j 1) (rw e at o) (occurs-intro m S j 1 v l s d))))
     (bit-cases v j)
 same-bit m S j v b (inr e) l s o f =
     ⊎-elim
-    (λ d. absurd (T-not (free m S j) f (and-intro (occurs m S j 0) (occurs m S j 1) (occurs-intro m S j 0 v l s d) (rw e at o))))
+    (λ d. absurd (T-not (isOpen m S j) f (and-intro (occurs m S j 0) (occurs m S j 1) (occurs-intro m S j 0 v l s d) (rw e at o))))
     (λ d. d ∙ sym e)
     (bit-cases v j)
 
@@ -114,12 +114,12 @@ module _ (n m : ℕ) (R : Rel) (X : Tables) where
       (l, lowest-is (2 ^ n) f l)
 
   -- where tables that fit each wire conflict, some wire is open
-  pub freeWire-is : WellDefined n m R → ((j : ℕ) → j < m → T (fits n m R j (X j))) → (p : ℕ) → p < 2 ^ n → T (not (R p (value m X p)))
-      → (freeWire m (R p) < m) × T (free m (R p) (freeWire m (R p)))
-  unfolding freeWire
-  freeWire-is ne ft p l t =
+  pub openWire-is : WellDefined n m R → ((j : ℕ) → j < m → T (fits n m R j (X j))) → (p : ℕ) → p < 2 ^ n → T (not (R p (value m X p)))
+      → (openWire m (R p) < m) × T (isOpen m (R p) (openWire m (R p)))
+  unfolding openWire
+  openWire-is ne ft p l t =
       let w = ne p l in
-      let h : lowest m (free m (R p)) < m =
+      let h : lowest m (isOpen m (R p)) < m =
       ⊎-elim (λ y. y)
       (λ z. absurd
       (T-not (R p (value m X p)) t
@@ -127,15 +127,15 @@ module _ (n m : ℕ) (R : Rel) (X : Tables) where
       (λ j lj. same-bit m (R p) j (w .0) (bit (X j) p) (bit-cases (X j) p) (w .1) (w .2)
       (fits-at n m R j (X j) (ft j lj) p l) (z j lj)))
       (w .2))))
-      (lowest-or m (free m (R p))) in
-      (h, lowest-is m (free m (R p)) h)
+      (lowest-or m (isOpen m (R p))) in
+      (h, lowest-is m (isOpen m (R p)) h)
 
 -- the tests decide the definitions
 pub projects-test : (m : ℕ) (R : Rel) (j p b : ℕ) → Projects m R j p b ↔ T (occurs m (R p) j b)
 projects-test m R j p b = (λ w. occurs-intro m (R p) j b (w .0) (w .1) (w .2) (w .3), occurs-at m (R p) j b)
 
-pub open-test : (m : ℕ) (R : Rel) (p j : ℕ) → Open m R p j ↔ T (free m (R p) j)
-unfolding free
+pub open-test : (m : ℕ) (R : Rel) (p j : ℕ) → Open m R p j ↔ T (isOpen m (R p) j)
+unfolding isOpen
 open-test m R p j = (
   λ w. and-intro (occurs m (R p) j 0) (occurs m (R p) j 1) (projects-test m R j p 0 .0 (w .0)) (projects-test m R j p 1 .0 (w .1)),
   λ t. (projects-test m R j p 0 .1 (free-both m (R p) j t .0), projects-test m R j p 1 .1 (free-both m (R p) j t .1)),

@@ -10,7 +10,7 @@ use Rattle.table.specs.Bits.{bit, sum, isOne}
 use Rattle.table.proofs.Bits.{sum-le, sum-lt, sum-bound, bit-cases}
 use Rattle.relation.specs.Source.{Rel, Tables, Compatible, value}
 use Rattle.relation.specs.Inner.Source.{WellDefined, Part, StrictPart, Split, Open, fits}
-use Rattle.relation.specs.Tests.{keep, agree, occurs, free, openPairs}
+use Rattle.relation.specs.Tests.{keep, agree, occurs, isOpen, openPairs}
 use Rattle.table.proofs.BitColumns.{isOne-small}
 use Rattle.relation.proofs.Decide.{value-bit, occurs-intro, occurs-at, fits-at, free-both}
 
@@ -65,36 +65,36 @@ isOne-lt false false h t = absurd t
 pub open-bound : (n m : ℕ) (R : Rel) → openPairs n m R ≤ 2 ^ n * m
 unfolding openPairs
 open-bound n m R =
-    sum-bound (2 ^ n) m (λ p. sum m (λ j. isOne (free m (R p) j)))
-    (λ p l. omega (arith, sum-bound m 1 (λ j. isOne (free m (R p) j)) (λ j h. isOne-small (free m (R p) j))))
+    sum-bound (2 ^ n) m (λ p. sum m (λ j. isOne (isOpen m (R p) j)))
+    (λ p l. omega (arith, sum-bound m 1 (λ j. isOne (isOpen m (R p) j)) (λ j h. isOne-small (isOpen m (R p) j))))
 
-pub free-part : (m : ℕ) (S Q : ℕ → Bool) (j : ℕ) → ((v : ℕ) → T (S v) → T (Q v)) → T (free m S j) → T (free m Q j)
-unfolding free
+pub free-part : (m : ℕ) (S Q : ℕ → Bool) (j : ℕ) → ((v : ℕ) → T (S v) → T (Q v)) → T (isOpen m S j) → T (isOpen m Q j)
+unfolding isOpen
 free-part m S Q j h t =
     and-intro (occurs m Q j 0) (occurs m Q j 1) (occurs-part m S Q j 0 h (and-left (occurs m S j 0) (occurs m S j 1) t))
     (occurs-part m S Q j 1 h (and-right (occurs m S j 0) (occurs m S j 1) t))
 
 -- a split closes a pair
 module _ (n m : ℕ) (R : Rel) (p j b : ℕ) where
-  shut : T (free m (keep R p j b p) j) → ⊥
+  shut : T (isOpen m (keep R p j b p) j) → ⊥
   shut t =
       let o = free-both m (keep R p j b p) j t in
       let u = occurs-at m (keep R p j b p) j 0 (o .0) in
       let w = occurs-at m (keep R p j b p) j 1 (o .1) in
       omega (arith, keep-bit R p j b (u .0) (u .2), keep-bit R p j b (w .0) (w .2), u .3, w .3)
 
-  less : (q i : ℕ) → isOne (free m (keep R p j b q) i) ≤ isOne (free m (R q) i)
+  less : (q i : ℕ) → isOne (isOpen m (keep R p j b q) i) ≤ isOne (isOpen m (R q) i)
   less q i =
-      isOne-le (free m (keep R p j b q) i) (free m (R q) i) (free-part m (keep R p j b q) (R q) i (keep-part R p j b q))
+      isOne-le (isOpen m (keep R p j b q) i) (isOpen m (R q) i) (free-part m (keep R p j b q) (R q) i (keep-part R p j b q))
 
-  pub keep-closes : p < 2 ^ n → j < m → T (free m (R p) j) → openPairs n m (keep R p j b) < openPairs n m R
+  pub keep-closes : p < 2 ^ n → j < m → T (isOpen m (R p) j) → openPairs n m (keep R p j b) < openPairs n m R
   unfolding openPairs
   keep-closes hp hj t =
-      sum-lt (2 ^ n) (λ q. sum m (λ i. isOne (free m (keep R p j b q) i))) (λ q. sum m (λ i. isOne (free m (R q) i)))
-      (λ q l. sum-le m (λ i. isOne (free m (keep R p j b q) i)) (λ i. isOne (free m (R q) i)) (λ i h. less q i))
+      sum-lt (2 ^ n) (λ q. sum m (λ i. isOne (isOpen m (keep R p j b q) i))) (λ q. sum m (λ i. isOne (isOpen m (R q) i)))
+      (λ q l. sum-le m (λ i. isOne (isOpen m (keep R p j b q) i)) (λ i. isOne (isOpen m (R q) i)) (λ i h. less q i))
       p hp
-      (sum-lt m (λ i. isOne (free m (keep R p j b p) i)) (λ i. isOne (free m (R p) i)) (λ i h. less p i) j hj
-      (isOne-lt (free m (keep R p j b p) j) (free m (R p) j) shut t))
+      (sum-lt m (λ i. isOne (isOpen m (keep R p j b p) i)) (λ i. isOne (isOpen m (R p) i)) (λ i h. less p i) j hj
+      (isOne-lt (isOpen m (keep R p j b p) j) (isOpen m (R p) j) shut t))
 
 -- what is left once a wire has a table
 module _ (R : Rel) (j t : ℕ) where

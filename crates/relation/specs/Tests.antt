@@ -30,12 +30,12 @@ abbrev pub projection : ℕ → Rel → ℕ → Proj
 projection m R j p b = occurs m (R p) j b
 
 -- wire j is open in S: both bits occur
-unfoldable pub free : ℕ → (ℕ → Bool) → ℕ → Bool
-free m S j = occurs m S j 0 && occurs m S j 1
+unfoldable pub isOpen : ℕ → (ℕ → Bool) → ℕ → Bool
+isOpen m S j = occurs m S j 0 && occurs m S j 1
 
 -- the first wire that is open in S; m where there is none
-unfoldable pub freeWire : ℕ → (ℕ → Bool) → ℕ
-freeWire m S = lowest m (free m S)
+unfoldable pub openWire : ℕ → (ℕ → Bool) → ℕ
+openWire m S = lowest m (isOpen m S)
 
 -- the tables' value is allowed on every pattern
 unfoldable pub compatible : ℕ → ℕ → Rel → Tables → Bool
@@ -51,4 +51,4 @@ emptyPattern n m R = lowest (2 ^ n) (λ p. not (any (2 ^ m) (R p)))
 
 -- how many pairs of pattern and wire are open
 unfoldable pub openPairs : ℕ → ℕ → Rel → ℕ
-openPairs n m R = sum (2 ^ n) (λ p. sum m (λ j. isOne (free m (R p) j)))
+openPairs n m R = sum (2 ^ n) (λ p. sum m (λ j. isOne (isOpen m (R p) j)))

@@ -4,7 +4,7 @@ use table::columns::column;
 ghost use mathlib.Core.Path.{_≡_};
 ghost use Prim.Native.Nat.{_<_};
 ghost use Rattle.sheet.specs.Limits.{maxWires, maxValues};
-ghost use Rattle.relation.specs.Tests.{occurs, free};
+ghost use Rattle.relation.specs.Tests.{occurs, isOpen};
 ghost use Rattle.relation.specs.Inner.Members.{member, withBit};
 
 // The values of a set that have wire j at b.
@@ -26,7 +26,7 @@ pub fn has(set: u16, j: u8, b: u8) -> bool
 // Whether wire j is open in a set: both bits occur.
 pub fn is_open(set: u16, j: u8) -> bool
     requires { ⌜ j < maxWires ⌝ }
-    ensures { λ r. ⌜ r ≡ free maxWires (member set) j ⌝ }
+    ensures { λ r. ⌜ r ≡ isOpen maxWires (member set) j ⌝ }
 {
     if has(set, j, 0) {
         has(set, j, 1)

@@ -11,7 +11,7 @@ use Rattle.table.specs.Bits.{bit, ofBits}
 use Rattle.table.specs.Inner.Blocks.{Blocks}
 use Rattle.table.proofs.Bits.{sum-cong}
 use Rattle.relation.specs.Source.{Rel, value}
-use Rattle.relation.specs.Tests.{ofSets, keep, free, openPairs}
+use Rattle.relation.specs.Tests.{ofSets, keep, isOpen, openPairs}
 use Rattle.table.specs.Cells.{wires}
 use Rattle.relation.specs.Inner.Members.{member, withBit}
 use Rattle.relation.specs.Inner.Narrowed.{narrowed}
@@ -36,7 +36,7 @@ pub record Half (n m : ℕ) (S ws rs : List ℕ) (p j b w : ℕ) : Type 0 where
   pub carried : Carried n m S ws rs
   pub pattern : p < 2 ^ n
   pub wire : j < m
-  pub is-open : T (free m (ofSets S p) j)
+  pub is-open : T (isOpen m (ofSets S p) j)
   pub side : b < 2
   pub left : w ≡ withBit (getD S p 0) j b
 

@@ -14,11 +14,11 @@ use Rattle.base.proofs.Lowest.{lowest-at, lowest-below}
 use Rattle.table.specs.Bits.{tabulate}
 use Rattle.table.proofs.Bits.{tabulate-at, tabulate-length}
 use Rattle.relation.specs.Source.{Rel, Tables, value}
-use Rattle.relation.specs.Tests.{ofSets, free, freeWire, compatible, conflict}
+use Rattle.relation.specs.Tests.{ofSets, isOpen, openWire, compatible, conflict}
 use Rattle.table.specs.Cells.{wires}
 use Rattle.relation.specs.Inner.Members.{member}
 use Rattle.relation.specs.Inner.Side.{sideBySide, valueIn}
-use Rattle.relation.proofs.Decide.{compatible-at, compatible-test, conflict-is, freeWire-is}
+use Rattle.relation.proofs.Decide.{compatible-at, compatible-test, conflict-is, openWire-is}
 use Rattle.relation.proofs.Members.{member-sets}
 use Rattle.relation.proofs.AllWires.{free-all-wires, value-all-wires}
 use Rattle.relation.proofs.Side.{side-value}
@@ -44,15 +44,15 @@ tables-past m X j l =
 
 -- what a pair found tells
 pub place-told : (n m : ℕ) (R : Rel) (X : Tables) (p j : ℕ) → splitPlace n m R X ≡ Pair p j
-    → T (not (compatible n m R X)) × (conflict n m R X ≡ p) × (freeWire m (R p) ≡ j)
+    → T (not (compatible n m R X)) × (conflict n m R X ≡ p) × (openWire m (R p) ≡ j)
 unfolding splitPlace
 place-told n m R X p j e =
     ⊎-elim
     (λ t. let z : Nowhere ≡ Pair p j = rw (test-yes (compatible n m R X) t) at e in let y : _≡_ {A = ℕ} 0 1 = cc in absurd (omega arith))
     (λ t.
-    let z : Pair (conflict n m R X) (freeWire m (R (conflict n m R X))) ≡ Pair p j = rw (test-no (compatible n m R X) t) at e in
+    let z : Pair (conflict n m R X) (openWire m (R (conflict n m R X))) ≡ Pair p j = rw (test-no (compatible n m R X) t) at e in
     let ep : conflict n m R X ≡ p = cc in
-    let ej : freeWire m (R (conflict n m R X)) ≡ j = cc in
+    let ej : openWire m (R (conflict n m R X)) ≡ j = cc in
     (t, ep, rw ep at ej))
     (decide (compatible n m R X))
 
@@ -63,7 +63,7 @@ found-nowhere n m R X e =
     ⊎-elim (λ t. t)
     (λ t.
     let c = conflict n m R X in
-    let z : Pair c (freeWire m (R c)) ≡ Nowhere = rw (test-no (compatible n m R X) t) at e in
+    let z : Pair c (openWire m (R c)) ≡ Nowhere = rw (test-no (compatible n m R X) t) at e in
     let y : _≡_ {A = ℕ} 0 1 = cc in absurd (omega arith))
     (decide (compatible n m R X))
 
@@ -81,26 +81,26 @@ module _ {n m : ℕ} (sz : Sized n m) {sets : List ℕ} (ok : PartSets n m sets)
       ∙ value-all-wires m tables p (sz .m-most) (λ j l. ap (λ ts. wires ts j) are ∙ tables-past m (pick (tree n m) (ofSets sets)) j l)
       ∙ ap (λ ts. value m (wires ts) p) are)
 
-  pub free-test : (p j : ℕ) → free maxWires (member (getD sets p 0)) j ≡ free m (ofSets sets p) j
-  free-test p j = free-all-wires m (getD sets p 0) j (sz .m-most) (ok .small p) ∙ ap (λ S. free m S j) (sym (member-sets sets p))
+  pub free-test : (p j : ℕ) → isOpen maxWires (member (getD sets p 0)) j ≡ isOpen m (ofSets sets p) j
+  free-test p j = free-all-wires m (getD sets p 0) j (sz .m-most) (ok .small p) ∙ ap (λ S. isOpen m S j) (sym (member-sets sets p))
 
   -- every pick fits, so a pattern in conflict has an open wire
-  pub some-open : (p : ℕ) → p < 2 ^ n → T (not (ofSets sets p (value m (wires tables) p))) → ((j : ℕ) → j < m → T (not (free m (ofSets sets p) j))) → ⊥
+  pub some-open : (p : ℕ) → p < 2 ^ n → T (not (ofSets sets p (value m (wires tables) p))) → ((j : ℕ) → j < m → T (not (isOpen m (ofSets sets p) j))) → ⊥
   unfolding picks tree
   some-open p lp t h =
       let R = ofSets sets in
-      let w = freeWire-is n m R (wires tables) (ok .defined)
+      let w = openWire-is n m R (wires tables) (ok .defined)
       (λ j l. rw (are, wires-tables n m (sz .m-most) (pick (tree n m) R) j l) (pick-fits (tree n m) R (ok .defined) j)) p lp t in
-      T-not (free m (R p) (freeWire m (R p))) (h (freeWire m (R p)) (w .0)) (w .1)
+      T-not (isOpen m (R p) (openWire m (R p))) (h (openWire m (R p)) (w .0)) (w .1)
 
   pub none-open : ((p : ℕ) → p < 2 ^ n → T (ofSets sets p (value m (wires tables) p))) → splitPlace n m (ofSets sets) (wires tables) ≡ Nowhere
   unfolding splitPlace
   none-open h = rw (test-yes (compatible n m (ofSets sets) (wires tables)) (compatible-test n m (ofSets sets) (wires tables) h))
 
   pub pair-open : (p j : ℕ) → p < 2 ^ n → j < m → ((q : ℕ) → q < p → T (ofSets sets q (value m (wires tables) q)))
-      → T (not (ofSets sets p (value m (wires tables) p))) → ((i : ℕ) → i < j → T (not (free m (ofSets sets p) i))) → T (free m (ofSets sets p) j)
+      → T (not (ofSets sets p (value m (wires tables) p))) → ((i : ℕ) → i < j → T (not (isOpen m (ofSets sets p) i))) → T (isOpen m (ofSets sets p) j)
       → splitPlace n m (ofSets sets) (wires tables) ≡ Pair p j
-  unfolding splitPlace conflict freeWire
+  unfolding splitPlace conflict openWire
   pair-open p j lp lj before here below free-here =
       let R = ofSets sets in
       let X = wires tables in
@@ -108,18 +108,18 @@ module _ {n m : ℕ} (sz : Sized n m) {sets : List ℕ} (ok : PartSets n m sets)
       test-no (compatible n m R X) (not-T (compatible n m R X) (λ t. T-not (R p (value m X p)) here (compatible-at n m R X t p lp))) in
       let at : lowest (2 ^ n) (λ p. not (R p (value m X p))) ≡ p =
       lowest-at (2 ^ n) (λ p. not (R p (value m X p))) p lp here (λ q l. not-T (not (R q (value m X q))) (λ t. T-not (R q (value m X q)) t (before q l))) in
-      let wire : lowest m (free m (R p)) ≡ j = lowest-at m (free m (R p)) j lj free-here below in
+      let wire : lowest m (isOpen m (R p)) ≡ j = lowest-at m (isOpen m (R p)) j lj free-here below in
       rw (no, at, wire)
 
   -- what is found is an open pair
   pub found-open : {f : SplitPlace} → f ≡ splitPlace n m (ofSets sets) (wires tables) → {p j : ℕ} → f ≡ Pair p j
-      → (p < 2 ^ n) × (j < m) × T (free m (ofSets sets p) j)
+      → (p < 2 ^ n) × (j < m) × T (isOpen m (ofSets sets p) j)
   unfolding picks tree
   found-open ef {p} {j} e =
       let R = ofSets sets in
       let told = place-told n m R (wires tables) p j (sym ef ∙ e) in
       let at = rw (told .1) at (conflict-is n m R (wires tables) (told .0)) in
-      let w = freeWire-is n m R (wires tables) (ok .defined)
+      let w = openWire-is n m R (wires tables) (ok .defined)
       (λ j l. rw (are, wires-tables n m (sz .m-most) (pick (tree n m) R) j l) (pick-fits (tree n m) R (ok .defined) j)) p (at .0) (at .1) in
       let v = rw (told .2) at w in (at .0, v .0, v .1)
 

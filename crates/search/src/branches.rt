@@ -17,7 +17,7 @@ ghost use Prim.Native.Nat.{_<_, _≤_, _^_};
 ghost use lib.Dec.{T};
 ghost use lib.ListN.{length};
 ghost use Rattle.table.specs.Inner.Blocks.{Blocks};
-ghost use Rattle.relation.specs.Tests.{ofSets, free};
+ghost use Rattle.relation.specs.Tests.{ofSets, isOpen};
 ghost use Rattle.branch_bound.specs.Search.{split as splitOf, searchPart};
 ghost use Rattle.branch_bound.specs.TreeBoard.{tree};
 ghost use Rattle.parts.specs.Inner.Ranks.{tablesIn, floorIn};
@@ -82,7 +82,7 @@ fn split(
     j: u8,
     budget: u32,
 )
-    requires { ⌜ Blocks (now e) × Carried n m (now sets) pairs ranks × (p < 2 ^ n) × (j < m) × T (free m (ofSets (now sets) p) j)
+    requires { ⌜ Blocks (now e) × Carried n m (now sets) pairs ranks × (p < 2 ^ n) × (j < m) × T (isOpen m (ofSets (now sets) p) j)
         × Settled m (now sets) (tablesIn ranks) p × (length (now tally) ≡ 3) ⌝ }
     ensures { λ _. ⌜ (now (sets .exit) ≡ now (sets .entry))
         × (stateOf (now (best .exit)) (now (tally .exit))

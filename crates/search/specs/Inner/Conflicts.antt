@@ -4,7 +4,7 @@ use mathlib.Core.Bool.{cond}
 use mathlib.Core.List.{List}
 use lib.Dec.{T}
 use Rattle.relation.specs.Source.{Rel, Tables, value}
-use Rattle.relation.specs.Tests.{ofSets, compatible, conflict, freeWire}
+use Rattle.relation.specs.Tests.{ofSets, compatible, conflict, openWire}
 use Rattle.table.specs.Cells.{wires}
 use Rattle.search.specs.declared.SplitPlace.{SplitPlace}
 use Rattle.search.specs.declared.SplitPlace.the-variants.{Pair, Nowhere}
@@ -17,4 +17,4 @@ Settled m sets tables k = (q : ℕ) → q < k → T (ofSets sets q (value m (wir
 unfoldable pub splitPlace : ℕ → ℕ → Rel → Tables → SplitPlace
 splitPlace n m R X =
     let p = conflict n m R X in
-    cond (compatible n m R X) Nowhere (Pair p (freeWire m (R p)))
+    cond (compatible n m R X) Nowhere (Pair p (openWire m (R p)))

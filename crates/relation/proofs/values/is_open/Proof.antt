@@ -1,7 +1,7 @@
 -- `is_open` meets its contract.
 use mathlib.Core.Path.{sym, _∙_}
 use borrow.Author.Needs.{needs}
-use Rattle.relation.specs.Tests.{free}
+use Rattle.relation.specs.Tests.{isOpen}
 use Rattle.relation.proofs.values.is_open.Statement.{statement}
 use Rattle.relation.proofs.values.is_open.Tie as tie
 
@@ -12,11 +12,11 @@ has-requires-2 : tie.Need-has-requires-2
 has-requires-2 c κs = search needs
 
 returns : tie.Need-returns
-unfolding free
+unfolding isOpen
 returns c = rw (sym (c .before .before .has .ensures) ∙ c .before .if1 .taken) (c .has2 .ensures)
 
 returns-2 : tie.Need-returns-2
-unfolding free
+unfolding isOpen
 returns-2 c = rw (sym (c .before .has .ensures) ∙ c .if1 .left)
 
 pub is-open-spec : {M : Type 1} → statement M

@@ -15,14 +15,14 @@ use borrow.Author.Count.{below-more}
 use lib.Dec.{T}
 use lib.ListN.{getD}
 use Rattle.sheet.specs.Limits.{maxPatterns}
-use Rattle.relation.specs.Tests.{ofSets, free}
+use Rattle.relation.specs.Tests.{ofSets, isOpen}
 use Rattle.table.specs.Cells.{wires}
 use Rattle.search.proofs.Opening.{allowed-test, free-test, some-open, none-open, pair-open}
 use Rattle.search.proofs.conflicts.first_open.Statement.{statement}
 use Rattle.search.proofs.conflicts.first_open.Tie as tie
 
 abbrev Inv-loop : tie.InvT-loop
-Inv-loop n m from sets count side p j₀ set j = (j ≤ m) × ((i : ℕ) → i < j → T (not (free m (ofSets sets p) i)))
+Inv-loop n m from sets count side p j₀ set j = (j ≤ m) × ((i : ℕ) → i < j → T (not (isOpen m (ofSets sets p) i)))
 
 abbrev μ-loop : tie.MeasureT-loop
 μ-loop n m from sets count side p j₀ set j = m - j
