@@ -1,5 +1,6 @@
 -- Demand 3 of document 01, "Quote, audit, program": what a quote promises about stages that nobody drew.
--- It is told by the bytes of the sheet (`Rival`), the reply, and the bytes written, which the stage reader takes; nothing here names the search.
+-- It is told by the bytes of the sheet (`Rival`), the reply, and the bytes written, which the stage reader takes;
+-- of the search it names the two marks alone.
 -- It is stated over what a drawing is (`Drawing`).
 use Prim.Native.Nat.{ℕ, _≤_}
 use mathlib.Core.Path.{_≡_}

@@ -1,4 +1,5 @@
 // Truth tables of an input, and of a selector from the tables of its trees.
+// Inner functions: the reader of trees meets what they require, inputs that there are and tables of n inputs.
 ghost use mathlib.Core.Path.{_≡_};
 ghost use Prim.Native.Nat.{_^_, _<_, _≤_};
 ghost use Rattle.sheet.specs.Limits.{maxInputs};

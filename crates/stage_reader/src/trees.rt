@@ -1,4 +1,5 @@
 // The trees of a stage sheet, each read to its truth table and its selectors.
+// Inner functions: `read_stage` has tested the sizes before it calls them.
 use crate::due::due_number;
 use crate::due::misplaced_number;
 use crate::tables::select;

@@ -1,4 +1,5 @@
 // The bytes of a stage, stored part by part at the start of a buffer.
+// Inner functions: `write_stage` has tested sizes, tables and buffer before it calls them.
 use base::put;
 use sheet::Sheet;
 use sheet::limits::patterns_of;

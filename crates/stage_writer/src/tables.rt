@@ -1,4 +1,5 @@
 // The tables of a stage that is to be written: whether they are in range, their cells, and how long the stage will be.
+// Inner functions: `write_stage` has tested the sizes before it calls them, and the tables before it counts their cells.
 use sheet::Sheet;
 use sheet::limits::bits_past;
 use table::cell_counts::count;

@@ -1,5 +1,6 @@
 // Text put into a lent buffer at a place, each call with the place after it. Bytes that find no room are dropped: the place moves on all the same, so that the
 // last place is the length that the whole text needs. What is required is there for the sums alone: no text ends past `lastPlace`.
+// Inner functions: the report and the drawn cases' program stay below it.
 use base::byte_at;
 use base::put;
 ghost use mathlib.Core.Path.{_≡_};
