@@ -6,8 +6,10 @@ use native.Mathlib.Omega.{arith}
 use Rattle.base.specs.declared.Refusal.{Refusal}
 use Rattle.base.specs.declared.Verdict.{Verdict}
 use Rattle.base.specs.declared.Verdict.the-variants.{Accepted, Refused}
+use Rattle.base.specs.declared.Written.{Written}
+use Rattle.base.specs.declared.Written.the-variants.{Length, Refused as NotWritten}
 use Rattle.base.specs.Refusals.{refusalAt}
-use Rattle.base.specs.Cases.{Case, acceptedCase, refusing, refusedCase, isRefused, verdictCase}
+use Rattle.base.specs.Cases.{Case, acceptedCase, refusing, refusedCase, isRefused, verdictCase, writtenCase}
 
 pub accepted-refused : {A : Type 0} (f : Refusal) → acceptedCase ≡ refusedCase f → A
 accepted-refused f e = absurd (omega (arith, ap (λ (c : Case). c .outcome) e))
@@ -32,3 +34,14 @@ verdict-back (Refused f) = refl
 
 pub verdict-one : (v w : Verdict) → verdictCase v ≡ verdictCase w → v ≡ w
 verdict-one = case-one verdictCase verdictOf verdict-back
+
+-- and so does that of what was written
+abbrev written-back : Case → Written
+written-back c = cond (isRefused c) (NotWritten (refusalAt (c .number) (c .place))) (Length (c .value))
+
+written-undo : (a : Written) → written-back (writtenCase a) ≡ a
+written-undo (Length k) = refl
+written-undo (NotWritten f) = refl
+
+pub written-one : (a b : Written) → writtenCase a ≡ writtenCase b → a ≡ b
+written-one = case-one writtenCase written-back written-undo

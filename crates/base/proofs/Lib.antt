@@ -4,3 +4,5 @@ pub mod Each
 pub mod Table
 pub mod Tabulate
 pub mod Cases
+pub mod Stores
+pub mod Buffers

@@ -6,6 +6,8 @@ use lib.Dec.{leb}
 use Rattle.base.specs.declared.Refusal.{Refusal}
 use Rattle.base.specs.declared.Verdict.{Verdict}
 use Rattle.base.specs.declared.Verdict.the-variants.{Accepted, Refused}
+use Rattle.base.specs.declared.Written.{Written}
+use Rattle.base.specs.declared.Written.the-variants.{Length, Refused as NotWritten}
 
 -- the outcome, which tells a case from the other cases of its enum; the number and the place of its refusal, 0 where it refuses nothing;
 -- and its own value (cells, a length), 0 where it has none
@@ -47,3 +49,8 @@ isRefused c = leb refusedOutcome (c .outcome)
 abbrev pub verdictCase : Verdict → Case
 verdictCase Accepted = acceptedCase
 verdictCase (Refused f) = refusedCase f
+
+-- the value of what was written is its length
+abbrev pub writtenCase : Written → Case
+writtenCase (Length k) = accepting acceptedOutcome k
+writtenCase (NotWritten f) = refusedCase f

@@ -49,7 +49,7 @@ empty = 10
 abbrev pub notAscending : ℕ
 notAscending = 11
 
--- too little room for the stage
+-- too little room for what is to be written
 abbrev pub shortBuffer : ℕ
 shortBuffer = 12
 

@@ -1,4 +1,4 @@
-// What every format shares: refusals, whether something is accepted, and total access to bytes.
+// What every format shares: refusals, whether something is accepted, whether it was written, and total access to bytes.
 ghost use mathlib.Core.Path.{_≡_};
 ghost use lib.ListN.{getD, set};
 ghost use Rattle.base.specs.Refusals.{refusalAt};
@@ -48,6 +48,12 @@ impl Refusal {
 // Whether what was handed in is accepted.
 pub enum Verdict {
     Accepted,
+    Refused(Refusal),
+}
+
+// The length of what was written to a lent buffer, or why nothing was.
+pub enum Written {
+    Length(usize),
     Refused(Refusal),
 }
 

@@ -12,9 +12,9 @@ use Rattle.search.specs.declared.Mark.the-variants.{Refused}
 use Rattle.search.specs.Cases.{markCase, searchReply}
 use Rattle.branch_bound.specs.Reply.{searchOf}
 use Rattle.base.specs.declared.Verdict.the-variants.{Accepted, Refused as SheetRefused}
-use Rattle.stage_writer.specs.declared.Written.{Written}
-use Rattle.stage_writer.specs.declared.Written.the-variants.{Length, Refused as NotWritten}
-use Rattle.stage_writer.specs.Cases.{writtenCase}
+use Rattle.base.specs.declared.Written.{Written}
+use Rattle.base.specs.declared.Written.the-variants.{Length, Refused as NotWritten}
+use Rattle.base.specs.Cases.{writtenCase}
 use Rattle.stage.specs.Trees.{treeDrawing}
 use Rattle.stage.specs.Written.{writtenOf, bufferAfter}
 use Rattle.unit.specs.declared.Formed.{Formed}

@@ -29,7 +29,8 @@ use Rattle.sheet.specs.Limits.{maxPatterns}
 use Rattle.table.specs.Drawing.{got, drawnCells}
 use Rattle.stage.specs.Trees.{treeDrawing}
 use Rattle.stage.specs.Read.{readStage}
-use Rattle.stage.specs.Written.{stageOf, writtenOf, bufferWith, bufferAfter}
+use Rattle.base.specs.Buffers.{bufferWith}
+use Rattle.stage.specs.Written.{stageOf, writtenOf, bufferAfter}
 use Rattle.unit.specs.Rival.{Rival}
 use Rattle.unit.proofs.Rivals.{commands-only}
 use Rattle.quote.specs.Quote.{noQuote, withStage, searched, bufferSearched}

@@ -1,10 +1,10 @@
 // The quote: the sheet is read, its relation searched, and the stage written at the start of the lent buffer.
 use crate::Quoted;
 use base::Refusal;
+use base::Written;
 use relation::Relation;
 use search::Answer;
 use search::Mark;
-use stage_writer::Written;
 use stage_writer::write_stage;
 ghost use mathlib.Core.Path.{_≡_};
 ghost use lib.ListN.{length};

@@ -1,6 +1,6 @@
 -- As many commands as there are bytes are enough: any more give the same reading.
 use mathlib.Core.Path.{_≡_, refl, sym}
-use mathlib.Core.List.{List}
+use mathlib.Core.List.{List, []}
 use Prim.Native.Nat.{ℕ, zero, suc, _+_, _≤_, _<_}
 use native.Mathlib.Omega.{arith}
 use lib.ListN.{length}
@@ -9,7 +9,7 @@ use Rattle.base.specs.Refusals.{refusalAt, cutShort}
 use Rattle.sheet.specs.declared.Command.{Command}
 use Rattle.reader.specs.Reader.{nextOf}
 use Rattle.sheet.specs.Judged.{Reading, refused}
-use Rattle.reader.specs.Reading.{Passage, over, on, oneCommand, continued, readingFrom}
+use Rattle.reader.specs.Reading.{Passage, over, on, oneCommand, continued, readingFrom, readingOf}
 use Rattle.reader.proofs.Passages.{PassageTells, passage-tells}
 
 -- where nothing is left, the command that is due is cut short
@@ -38,3 +38,8 @@ readingAt s at before = readingFrom (length s) s at before
 pub reading-step : (s : List ℕ) (at : ℕ) (before : List Command) → readingAt s at before ≡ continued (readingAt s) (oneCommand s at before)
 unfolding readingAt readingFrom
 reading-step s at before = enough (length s) (suc (length s)) s at before (omega arith) (omega arith)
+
+-- the whole sheet is read from its start, before any command
+pub reading-whole : (s : List ℕ) → readingOf s ≡ readingAt s 0 []
+unfolding readingAt readingOf
+reading-whole s = refl

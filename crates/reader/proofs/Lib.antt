@@ -12,3 +12,4 @@ pub mod Enough
 pub mod Rows
 pub mod FirstRefusals
 pub mod Numbers
+pub mod ReadBack

@@ -9,7 +9,7 @@ use text::put_text;
 ghost use Prim.Native.Nat.{_≤_};
 ghost use lib.ListN.{length};
 ghost use Rattle.quote.specs.Cases.{quoteReply};
-ghost use Rattle.text.specs.Inner.Put.{PutWithin};
+ghost use Rattle.base.specs.Inner.Put.{PutWithin};
 ghost use Rattle.report.specs.Lines.{longestReport, longestWord, resultLines, judgedLine};
 ghost use Rattle.report.specs.Inner.Lengths.{longestJudged};
 

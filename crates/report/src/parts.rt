@@ -10,7 +10,7 @@ ghost use mathlib.Core.Path.{_≡_};
 ghost use Prim.Native.Nat.{_+_, _≤_, min};
 ghost use lib.ListN.{length};
 ghost use Rattle.stage.specs.Bytes.{longestStage};
-ghost use Rattle.text.specs.Inner.Put.{PutWithin, lastPlace};
+ghost use Rattle.base.specs.Inner.Put.{PutWithin, lastPlace};
 ghost use Rattle.report.specs.Lines.{longestCounts, longestPairs, longestWord, countsOf, stagePairs, refusalText, refusalLine};
 ghost use Rattle.report.specs.Inner.Lengths.{longestRefusal, longestRefusalLine};
 

@@ -7,7 +7,7 @@ ghost use mathlib.Core.Path.{_≡_};
 ghost use Prim.Native.Nat.{_+_, _*_, _≤_};
 ghost use lib.ListN.{length};
 ghost use Rattle.sheet.specs.Limits.{maxPatterns, maxWires};
-ghost use Rattle.text.specs.Inner.Put.{lastPlace};
+ghost use Rattle.base.specs.Inner.Put.{lastPlace};
 ghost use Rattle.samples.specs.Inner.Records.{fourAt, numbersAt, partOf, recordLength, twoAt};
 ghost use Rattle.samples.specs.Inner.Lengths.{longestPart, longestRecord};
 

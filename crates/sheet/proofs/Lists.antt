@@ -9,11 +9,16 @@ use borrow.Author.Tests.{eq-eqb, ne-eqb}
 use Rattle.sheet.specs.declared.Command.{Command}
 use Rattle.sheet.specs.Commands.{isEmpty, collect, about}
 
+-- the commands of two lists
+pub collect-append {ℓ} : {A : Type ℓ} (says : Command → List A) (cs ds : List Command) → collect says (cs ++ ds) ≡ collect says cs ++ collect says ds
+unfolding collect
+collect-append says [] ds = refl
+collect-append says (c ∷ cs) ds = rw (collect-append says cs ds) (sym (append-assoc (says c) (collect says cs) (collect says ds)))
+
 -- one command more
 pub collect-snoc {ℓ} : {A : Type ℓ} (says : Command → List A) (cs : List Command) (c : Command) → collect says (cs ++ c ∷ []) ≡ collect says cs ++ says c
 unfolding collect
-collect-snoc says [] c = append-nil (says c)
-collect-snoc says (x ∷ cs) c = rw (collect-snoc says cs c) (sym (append-assoc (says x) (collect says cs) (says c)))
+collect-snoc says cs c = collect-append says cs (c ∷ []) ∙ ap (λ x. collect says cs ++ x) (append-nil (says c))
 
 -- a command that says nothing of a kind changes nothing of it
 pub silent {ℓ} : {A : Type ℓ} (says : Command → List A) (before : List Command) (c : Command)

@@ -1,6 +1,7 @@
 -- Unit sheets: limits, commands, and what the commands come to.
 pub mod Limits
 pub mod Commands
+pub mod Bytes
 pub mod Gathered
 pub mod Judged
 pub mod Cases

@@ -1,14 +1,13 @@
 -- Laws of what the writer answers, test by test, and of the buffer that it leaves.
 use Prim.Native.Nat.{ℕ, _^_, _<_, _≤_}
-use mathlib.Core.Path.{_≡_, refl, _∙_}
+use mathlib.Core.Path.{_≡_}
 use mathlib.Core.Bool.{true, false}
 use mathlib.Core.Logic.{⊎-elim}
-use mathlib.Core.List.{List, _++_}
+use mathlib.Core.List.{List}
 use native.Mathlib.Omega.{arith}
-use native.Mathlib.Nat.{zero-add}
 use lib.Dec.{nleb→lt}
-use lib.ListN.{length, getD, drop}
-use lib.Seq.{sets, sets-eq}
+use lib.ListN.{length, getD}
+use lib.Seq.{sets}
 use borrow.Author.Tests.{lt-ltb, le-ltb}
 use Rattle.base.specs.Cases.{accepting, acceptedOutcome, refusedCase}
 use Rattle.base.specs.Refusals.{refusalAt, outOfRange, shortBuffer}
@@ -16,6 +15,7 @@ use Rattle.sheet.specs.Limits.{sizesOut, isBeyond}
 use Rattle.base.specs.declared.Refusal.{Refusal}
 use Rattle.base.proofs.Tests.{decide}
 use Rattle.base.proofs.Lowest.{lowest-below}
+use Rattle.base.proofs.Buffers.{short-refused as fitted-short, room-accepted as fitted-room, buffer-kept as kept, buffer-stored as stored}
 use Rattle.stage.specs.Written.{stageOf, firstOut, writtenOf, bufferAfter}
 
 -- what the writer answers, test by test
@@ -32,11 +32,11 @@ module _ (n m : ℕ) (tables : List ℕ) (room : ℕ) where
     module _ (in-range : m ≤ firstOut n m tables) where
       pub short-refused : room < length (stageOf n m tables) → writtenOf n m tables room ≡ refusedCase (refusalAt shortBuffer (length (stageOf n m tables)))
       unfolding writtenOf
-      short-refused h = rw (sizes, le-ltb _ _ in-range, lt-ltb _ _ h)
+      short-refused h = rw (sizes, le-ltb _ _ in-range) (fitted-short (stageOf n m tables) room h)
 
       pub room-accepted : length (stageOf n m tables) ≤ room → writtenOf n m tables room ≡ accepting acceptedOutcome (length (stageOf n m tables))
       unfolding writtenOf
-      room-accepted h = rw (sizes, le-ltb _ _ in-range, le-ltb _ _ h)
+      room-accepted h = rw (sizes, le-ltb _ _ in-range) (fitted-room (stageOf n m tables) room h)
 
 -- where no wire's table is too large, every wire's table is in range
 pub tables-in : (n m : ℕ) (tables : List ℕ) → m ≤ firstOut n m tables → (j : ℕ) → j < m → getD tables j 0 < 2 ^ (2 ^ n)
@@ -47,18 +47,14 @@ tables-in n m tables h j l =
     (λ u. nleb→lt (2 ^ (2 ^ n)) (getD tables j 0) u)
     (decide (isBeyond (2 ^ n) (getD tables j 0)))
 
--- a run of bytes stored at the start of a buffer that is long enough: the bytes, and what was behind their places
-pub front : (l b s : List ℕ) → length s ≤ length l → b ≡ sets l 0 s → b ≡ s ++ drop (length s) l
-front l b s h e = e ∙ sets-eq s l 0 (rw (zero-add (length s)) h) ∙ simp zero-add
-
 -- the buffer after a refusal, and after a stage was written
 module _ (n m : ℕ) (tables b : List ℕ) where
   pub buffer-kept : (f : Refusal) → writtenOf n m tables (length b) ≡ refusedCase f → b ≡ bufferAfter n m tables b
   unfolding bufferAfter
-  buffer-kept f e = rw e refl
+  buffer-kept f e = kept (stageOf n m tables) b f e
 
   pub buffer-written : (c : List ℕ) → writtenOf n m tables (length b) ≡ accepting acceptedOutcome (length (stageOf n m tables))
       → length (stageOf n m tables) ≤ length b
       → c ≡ sets b 0 (stageOf n m tables) → c ≡ bufferAfter n m tables b
   unfolding bufferAfter
-  buffer-written c e h s = rw e (front b c (stageOf n m tables) h s)
+  buffer-written c e h s = stored (stageOf n m tables) b c e h s

@@ -1,11 +1,12 @@
 -- Document 01, "Stage sheet" and "Refusals": what the stage writer answers, and what the lent buffer holds then.
 use Prim.Native.Nat.{ℕ, _^_}
 use mathlib.Core.Bool.{cond}
-use mathlib.Core.List.{List, _++_, map}
+use mathlib.Core.List.{List, map}
 use lib.Dec.{ltb}
-use lib.ListN.{length, getD, take, drop}
-use Rattle.base.specs.Cases.{Case, accepting, acceptedOutcome, refusedCase, isRefused}
-use Rattle.base.specs.Refusals.{refusalAt, outOfRange, shortBuffer}
+use lib.ListN.{length, getD, take}
+use Rattle.base.specs.Cases.{Case, refusedCase}
+use Rattle.base.specs.Refusals.{refusalAt, outOfRange}
+use Rattle.base.specs.Buffers.{fitted, bufferWith}
 use Rattle.sheet.specs.Limits.{sizesOut, isBeyond}
 use Rattle.base.specs.Lowest.{lowest}
 use Rattle.table.specs.Tree.{Tree, reduced}
@@ -29,12 +30,8 @@ unfoldable pub writtenOf : ℕ → ℕ → List ℕ → ℕ → Case
 writtenOf n m tables room =
     cond (sizesOut n m) (refusedCase (refusalAt outOfRange 0))
     (cond (ltb (firstOut n m tables) m) (refusedCase (refusalAt outOfRange (firstOut n m tables)))
-    (cond (ltb room (length (stageOf n m tables))) (refusedCase (refusalAt shortBuffer (length (stageOf n m tables))))
-    (accepting acceptedOutcome (length (stageOf n m tables)))))
+    (fitted (stageOf n m tables) room))
 
--- the stage in front and the rest of the buffer unchanged behind it; after a refusal the buffer is as it was
-abbrev pub bufferWith : List ℕ → List ℕ → Case → List ℕ
-bufferWith stage buffer c = cond (isRefused c) buffer (stage ++ drop (c .value) buffer)
-
+-- what the buffer holds then
 unfoldable pub bufferAfter : ℕ → ℕ → List ℕ → List ℕ → List ℕ
 bufferAfter n m tables buffer = bufferWith (stageOf n m tables) buffer (writtenOf n m tables (length buffer))

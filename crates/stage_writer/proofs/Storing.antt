@@ -11,29 +11,23 @@ use Rattle.sheet.specs.Limits.{maxInputs, maxWires}
 use Rattle.table.specs.Tree.{Tree, sel, reduced}
 use Rattle.stage.specs.Bytes.{treeBytes, wireBytes, wiresBytes, stageBytes, longestStage}
 use Rattle.stage.proofs.Lengths.{stage-length-most}
-use Rattle.stage_writer.specs.Inner.Stores.{StoredAt}
+use Rattle.base.specs.Inner.Put.{Put}
+use Rattle.base.proofs.Stores.{put-then}
 use Rattle.stage.specs.Written.{stageTrees, stageOf}
 
 -- two stores, one after the other
-pub two-stored : (l b1 b2 : List ℕ) (at x y : ℕ) → b1 ≡ set l at x → b2 ≡ set b1 (at + 1) y → b2 ≡ sets l at (x ∷ y ∷ [])
-two-stored l b1 b2 at x y e1 e2 = let s : suc at ≡ at + 1 = omega arith in cc
+pub two-stored : (l b1 b2 : List ℕ) (at x y : ℕ) → b1 ≡ set l at x → b2 ≡ set b1 (at + 1) y → Put l at (x ∷ y ∷ []) b2 (at + 2)
+two-stored l b1 b2 at x y e1 e2 = record { stored = let s : suc at ≡ at + 1 = omega arith in cc; past = refl }
 
 -- a run of stores done, and what remains of it
-pub stored-on : (l b x y g : List ℕ) (at next : ℕ) → StoredAt at next x l b → sets l at (x ++ y) ≡ g → sets b next y ≡ g
-stored-on l b x y g at next e h = cc (sets-append l at x y, e .0, e .1)
-
--- two runs of stores, one after the other
-pub both-stored : (l b c x y : List ℕ) (at next past : ℕ) → StoredAt at next x l b → StoredAt next past y b c → StoredAt at past (x ++ y) l c
-both-stored l b c x y at next past e f =
-    (f .0 ∙ stored-on l b x y (sets l at (x ++ y)) at next e refl, omega (arith, e .1, f .1, length-append x y))
+pub stored-on : (l b x y g : List ℕ) (at next : ℕ) → Put l at x b next → sets l at (x ++ y) ≡ g → sets b next y ≡ g
+stored-on l b x y g at next e h = cc (sets-append l at x y, e .stored, e .past)
 
 -- what the three calls of a selector leave
-pub selector-stored : (l b1 b2 b3 : List ℕ) (z o : Tree) (at k first second past : ℕ) → StoredAt at first (0x22 ∷ k ∷ []) l b1
-    → StoredAt first second (treeBytes z) b1 b2 → StoredAt second past (treeBytes o) b2 b3 → StoredAt at past (treeBytes (sel k z o)) l b3
+pub selector-stored : {l b1 b2 b3 : List ℕ} (z o : Tree) {at : ℕ} (k : ℕ) {first second past : ℕ} → Put l at (0x22 ∷ k ∷ []) b1 first
+    → Put b1 first (treeBytes z) b2 second → Put b2 second (treeBytes o) b3 past → Put l at (treeBytes (sel k z o)) b3 past
 unfolding treeBytes
-selector-stored l b1 b2 b3 z o at k first second past e f g =
-    both-stored l b1 b3 (0x22 ∷ k ∷ []) (treeBytes z ++ treeBytes o) at first past e
-    (both-stored b1 b2 b3 (treeBytes z) (treeBytes o) first second past f g)
+selector-stored z o k e f g = put-then e (put-then f g)
 
 -- the wires from j on
 abbrev pub wiresFrom : ℕ → ℕ → ℕ → List ℕ → List ℕ
@@ -62,7 +56,7 @@ module _ (n m j : ℕ) (tables : List ℕ) (fits : m ≤ length tables) where
 
 -- what the calls that write a stage leave
 pub stage-stored : (l b1 b2 b3 b4 b5 tables : List ℕ) (n m at : ℕ) → b1 ≡ set l 0 0x20 → b2 ≡ set b1 1 n → b3 ≡ set b2 2 m
-    → StoredAt 3 at (wiresBytes 0 (stageTrees n m tables)) b3 b4 → b5 ≡ set b4 at 0x2F → b5 ≡ sets l 0 (stageOf n m tables)
+    → Put b3 3 (wiresBytes 0 (stageTrees n m tables)) b4 at → b5 ≡ set b4 at 0x2F → b5 ≡ sets l 0 (stageOf n m tables)
 unfolding stageOf stageBytes
 stage-stored l b1 b2 b3 b4 b5 tables n m at e1 e2 e3 e4 e5 =
-    cc (sets-append (set (set (set l 0 0x20) 1 n) 2 m) 3 (wiresBytes 0 (stageTrees n m tables)) (0x2F ∷ []), e4 .0, e4 .1)
+    cc (sets-append (set (set (set l 0 0x20) 1 n) 2 m) 3 (wiresBytes 0 (stageTrees n m tables)) (0x2F ∷ []), e4 .stored, e4 .past)

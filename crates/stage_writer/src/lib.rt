@@ -1,5 +1,6 @@
 // The stage writer: the reduced tree of each wire's table, at the start of a lent buffer.
 use base::Refusal;
+use base::Written;
 use sheet::Sheet;
 use sheet::limits::sizes_out;
 use stores::put_sheet;
@@ -9,16 +10,10 @@ use tables::stage_length;
 ghost use mathlib.Core.Path.{_≡_};
 ghost use lib.ListN.{length};
 ghost use Rattle.stage.specs.Written.{writtenOf, bufferAfter};
-ghost use Rattle.stage_writer.specs.Cases.{writtenCase};
+ghost use Rattle.base.specs.Cases.{writtenCase};
 
 mod stores; // the bytes
 mod tables; // the tables that are handed in
-
-// The length of the stage that was written, or why none was.
-pub enum Written {
-    Length(usize),
-    Refused(Refusal),
-}
 
 // Writes a stage at the start of a buffer and changes nothing behind it; a refusal changes nothing at all.
 pub fn write_stage(n: u8, m: u8, tables: [u16; Sheet::WIRES], buffer: &mut [u8]) -> Written

@@ -11,7 +11,7 @@ ghost use lib.Seq.{sets};
 ghost use Rattle.sheet.specs.Limits.{maxInputs, maxWires};
 ghost use Rattle.table.specs.Tree.{reduced};
 ghost use Rattle.stage.specs.Bytes.{constantByte, treeBytes, wireBytes, wiresBytes, longestStage};
-ghost use Rattle.stage_writer.specs.Inner.Stores.{StoredAt};
+ghost use Rattle.base.specs.Inner.Put.{Put};
 ghost use Rattle.stage.specs.Written.{stageTrees, stageOf};
 
 // The number of tables of v inputs: what halves a table of one input more.
@@ -33,7 +33,7 @@ fn constant(t: u16) -> u8
 // The bound on the place is only there for the sums: no stage is longer.
 fn put_command(buffer: &mut [u8], at: usize, command: u8, operand: u8) -> usize
     requires { ⌜ at + 2 ≤ longestStage ⌝ }
-    ensures { λ r. ⌜ StoredAt at r (command ∷ operand ∷ []) (now (buffer .entry)) (now (buffer .exit)) ⌝ }
+    ensures { λ r. ⌜ Put (now (buffer .entry)) at (command ∷ operand ∷ []) (now (buffer .exit)) r ⌝ }
 {
     put(buffer, at, command);
     put(buffer, at + 1, operand);
@@ -43,7 +43,7 @@ fn put_command(buffer: &mut [u8], at: usize, command: u8, operand: u8) -> usize
 // Writes the reduced tree of a table of w inputs, which stand after k others, and hands back the place after it.
 fn put_tree(buffer: &mut [u8], at: usize, w: u8, k: u8, t: u16) -> usize
     requires { ⌜ (w + k ≤ maxInputs) × (at + length (treeBytes (reduced w k t)) ≤ longestStage) ⌝ }
-    ensures { λ r. ⌜ StoredAt at r (treeBytes (reduced w k t)) (now (buffer .entry)) (now (buffer .exit)) ⌝ }
+    ensures { λ r. ⌜ Put (now (buffer .entry)) at (treeBytes (reduced w k t)) (now (buffer .exit)) r ⌝ }
 {
     if w == 0 {
         put(buffer, at, constant(t));
@@ -66,7 +66,7 @@ fn put_tree(buffer: &mut [u8], at: usize, w: u8, k: u8, t: u16) -> usize
 // Writes wire j's part of a stage, and hands back the place after it.
 fn put_wire(buffer: &mut [u8], at: usize, n: u8, j: u8, t: u16) -> usize
     requires { ⌜ (n ≤ maxInputs) × (at + length (wireBytes j (reduced n 0 t)) ≤ longestStage) ⌝ }
-    ensures { λ r. ⌜ StoredAt at r (wireBytes j (reduced n 0 t)) (now (buffer .entry)) (now (buffer .exit)) ⌝ }
+    ensures { λ r. ⌜ Put (now (buffer .entry)) at (wireBytes j (reduced n 0 t)) (now (buffer .exit)) r ⌝ }
 {
     let tree_at = put_command(buffer, at, 0x21, j);
     put_tree(buffer, tree_at, n, 0, t)
@@ -75,7 +75,7 @@ fn put_wire(buffer: &mut [u8], at: usize, n: u8, j: u8, t: u16) -> usize
 // Writes the wires of a stage from place 3 on, and hands back the place after them.
 fn put_wires(buffer: &mut [u8], n: u8, m: u8, tables: [u16; Sheet::WIRES]) -> usize
     requires { ⌜ (n ≤ maxInputs) × (m ≤ maxWires) ⌝ }
-    ensures { λ r. ⌜ StoredAt 3 r (wiresBytes 0 (stageTrees n m tables)) (now (buffer .entry)) (now (buffer .exit)) ⌝ }
+    ensures { λ r. ⌜ Put (now (buffer .entry)) 3 (wiresBytes 0 (stageTrees n m tables)) (now (buffer .exit)) r ⌝ }
 {
     let mut at: usize = 3;
     let mut j: u8 = 0;

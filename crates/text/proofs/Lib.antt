@@ -1,4 +1,3 @@
-pub mod Stores
 pub mod Decimal
 pub mod Pairs
 pub mod Rows

@@ -1,3 +1,2 @@
--- Numbers and bytes as printed text, and, in `Inner`, what only the functions that put it need.
+-- Numbers and bytes as printed text.
 pub mod Text
-pub mod Inner

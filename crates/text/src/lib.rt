@@ -7,7 +7,7 @@ ghost use mathlib.Core.Path.{_≡_};
 ghost use mathlib.Core.List.{[], _∷_};
 ghost use Prim.Native.Nat.{_+_, _*_, _≤_, _<_};
 ghost use lib.ListN.{length, take};
-ghost use Rattle.text.specs.Inner.Put.{Put, PutWithin, lastPlace};
+ghost use Rattle.base.specs.Inner.Put.{Put, PutWithin, lastPlace};
 ghost use Rattle.text.specs.Text.{decimal, hexDigit, hexPair, hexPairs, longestDecimal, named};
 
 // The most digits of a number.

@@ -2,6 +2,7 @@
 // Inner functions: the main loop meets what `put_reply` requires, and the functions here what the others do: bounds that are there for the sums alone.
 use base::Refusal;
 use base::Verdict;
+use base::Written;
 use base::byte_at;
 use quote::Audited;
 use quote::Quoted;
@@ -23,14 +24,13 @@ use search::Mark;
 use sheet::Sheet;
 use stage_reader::StageRead;
 use stage_reader::read_stage;
-use stage_writer::Written;
 use stage_writer::write_stage;
 use text::put_byte;
 use text::put_named;
 use text::put_text;
 ghost use Prim.Native.Nat.{_+_, _≤_};
 ghost use lib.ListN.{length};
-ghost use Rattle.text.specs.Inner.Put.{lastPlace};
+ghost use Rattle.base.specs.Inner.Put.{lastPlace};
 ghost use Rattle.report.specs.Lines.{longestPairs, longestWord};
 ghost use Rattle.samples.specs.Inner.Lengths.{longestKept, longestNumberLine, longestRecord, longestReply};
 

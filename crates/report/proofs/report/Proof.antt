@@ -1,7 +1,7 @@
 -- `report` meets its contract: the lines by the mark of the reply.
 use native.Mathlib.Omega.{arith}
 use Rattle.report.specs.Lines.{countsOf, resultLines, linesOf}
-use Rattle.text.proofs.Stores.{put-start}
+use Rattle.base.proofs.Stores.{put-start}
 use borrow.Author.Needs.{needs}
 use Rattle.report.proofs.report.Statement.{statement}
 use Rattle.report.proofs.report.Tie as tie

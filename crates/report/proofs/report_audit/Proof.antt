@@ -1,6 +1,6 @@
 -- `report_audit` meets its contract: the line by the case of the reply.
 use native.Mathlib.Omega.{arith}
-use Rattle.text.proofs.Stores.{put-start}
+use Rattle.base.proofs.Stores.{put-start}
 use borrow.Author.Needs.{needs}
 use Rattle.report.proofs.report_audit.Statement.{statement}
 use Rattle.report.proofs.report_audit.Tie as tie

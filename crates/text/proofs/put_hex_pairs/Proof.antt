@@ -5,9 +5,9 @@ use native.Mathlib.Omega.{arith}
 use borrow.Author.Needs.{needs}
 use lib.ListN.{length, take, drop}
 use lib.Seq.{take-all}
-use Rattle.text.specs.Inner.Put.{Put}
+use Rattle.base.specs.Inner.Put.{Put}
 use Rattle.text.specs.Text.{furtherPairs}
-use Rattle.text.proofs.Stores.{put-then, put-none}
+use Rattle.base.proofs.Stores.{put-then, put-none}
 use Rattle.text.proofs.Pairs.{hex-length, pairs-none, pairs-first, further-none, further-step}
 use Rattle.text.proofs.put_hex_pairs.Statement.{statement}
 use Rattle.text.proofs.put_hex_pairs.Tie as tie

@@ -2,7 +2,7 @@
 use native.Mathlib.Omega.{arith}
 use lib.ListN.{length}
 use Rattle.text.specs.Text.{named}
-use Rattle.text.proofs.Stores.{puts, at-most}
+use Rattle.base.proofs.Stores.{puts, at-most}
 use borrow.Author.Needs.{needs}
 use Rattle.text.proofs.put_named.Statement.{statement}
 use Rattle.text.proofs.put_named.Tie as tie

@@ -5,8 +5,8 @@ use native.Mathlib.Omega.{arith}
 use native.Mathlib.Numerals.{add-one}
 use lib.ListN.{length, take}
 use lib.Seq.{take-suc, take-all}
-use Rattle.text.specs.Inner.Put.{Put}
-use Rattle.text.proofs.Stores.{put-then, put-none}
+use Rattle.base.specs.Inner.Put.{Put}
+use Rattle.base.proofs.Stores.{put-then, put-none}
 use Rattle.text.proofs.put_text.Statement.{statement}
 use Rattle.text.proofs.put_text.Tie as tie
 

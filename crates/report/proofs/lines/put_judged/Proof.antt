@@ -1,7 +1,7 @@
 -- `put_judged` meets its contract: the word, the cells after their name, and the end of the line.
 use native.Mathlib.Omega.{arith}
 use Rattle.report.specs.Lines.{longestWord, judgedLine}
-use Rattle.text.proofs.Stores.{puts, at-most}
+use Rattle.base.proofs.Stores.{puts, at-most}
 use borrow.Author.Needs.{needs}
 use Rattle.report.proofs.lines.put_judged.Statement.{statement}
 use Rattle.report.proofs.lines.put_judged.Tie as tie

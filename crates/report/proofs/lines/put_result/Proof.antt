@@ -1,7 +1,7 @@
 -- `put_result` meets its contract: the counts, the word of the mark, the pairs of the stage, and the end of the line.
 use native.Mathlib.Omega.{arith}
 use Rattle.report.specs.Lines.{longestWord, resultLines}
-use Rattle.text.proofs.Stores.{puts, at-most}
+use Rattle.base.proofs.Stores.{puts, at-most}
 use borrow.Author.Needs.{needs}
 use Rattle.report.proofs.lines.put_result.Statement.{statement}
 use Rattle.report.proofs.lines.put_result.Tie as tie

@@ -1,6 +1,6 @@
 -- `put_counts` meets its contract: three numbers, each after its name.
 use Rattle.report.specs.Lines.{countsOf}
-use Rattle.text.proofs.Stores.{puts}
+use Rattle.base.proofs.Stores.{puts}
 use borrow.Author.Needs.{needs}
 use Rattle.report.proofs.parts.put_counts.Statement.{statement}
 use Rattle.report.proofs.parts.put_counts.Tie as tie

@@ -1,6 +1,6 @@
 -- `put_refusal` meets its contract: two numbers, each after its name.
 use Rattle.report.specs.Lines.{refusalText}
-use Rattle.text.proofs.Stores.{puts}
+use Rattle.base.proofs.Stores.{puts}
 use borrow.Author.Needs.{needs}
 use Rattle.report.proofs.parts.put_refusal.Statement.{statement}
 use Rattle.report.proofs.parts.put_refusal.Tie as tie

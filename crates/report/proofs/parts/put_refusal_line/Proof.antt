@@ -1,7 +1,7 @@
 -- `put_refusal_line` meets its contract: the word for what is refused, the refusal, and the end of the line.
 use native.Mathlib.Omega.{arith}
 use Rattle.report.specs.Lines.{longestWord, refusalLine}
-use Rattle.text.proofs.Stores.{puts, at-most}
+use Rattle.base.proofs.Stores.{puts, at-most}
 use borrow.Author.Needs.{needs}
 use Rattle.report.proofs.parts.put_refusal_line.Statement.{statement}
 use Rattle.report.proofs.parts.put_refusal_line.Tie as tie

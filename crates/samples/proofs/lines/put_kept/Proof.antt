@@ -1,6 +1,6 @@
 -- `put_kept` meets its contract: the text by the test of the buffer.
 use native.Mathlib.Omega.{arith}
-use Rattle.text.proofs.Stores.{at-most}
+use Rattle.base.proofs.Stores.{at-most}
 use Rattle.samples.specs.Inner.Lengths.{longestKept}
 use borrow.Author.Needs.{needs}
 use Rattle.samples.proofs.lines.put_kept.Statement.{statement}

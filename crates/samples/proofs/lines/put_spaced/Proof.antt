@@ -1,7 +1,7 @@
 -- `put_spaced` meets its contract: the number, then the space.
 use native.Mathlib.Omega.{arith}
 use Rattle.samples.specs.Inner.Lines.{spacedText}
-use Rattle.text.proofs.Stores.{puts, at-most}
+use Rattle.base.proofs.Stores.{puts, at-most}
 use borrow.Author.Needs.{needs}
 use Rattle.samples.proofs.lines.put_spaced.Statement.{statement}
 use Rattle.samples.proofs.lines.put_spaced.Tie as tie

@@ -1,6 +1,6 @@
 -- `put_tables` meets its contract: four numbers, each with its space.
 use Rattle.samples.specs.Inner.Lines.{tablesText}
-use Rattle.text.proofs.Stores.{puts}
+use Rattle.base.proofs.Stores.{puts}
 use borrow.Author.Needs.{needs}
 use Rattle.samples.proofs.lines.put_tables.Statement.{statement}
 use Rattle.samples.proofs.lines.put_tables.Tie as tie

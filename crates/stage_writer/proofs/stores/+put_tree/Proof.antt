@@ -69,7 +69,7 @@ module _ (t : ℕ) where
   returns c =
       let p = c .before .before in
       let z = p .before .before .before in
-      (simp (z .if1 .taken, ← p .before .constant .ensures) (p .put .ensures), simp (z .if1 .taken))
+      record { stored = simp (z .if1 .taken, ← p .before .constant .ensures) (p .put .ensures); past = simp (z .if1 .taken) }
 
   sub-v : Of lts.Need-sub-v
   sub-v c = omega arith
@@ -119,13 +119,13 @@ module _ (t : ℕ) where
   put-tree-requires-2 : Of lts.Need-put-tree-requires-2
   put-tree-requires-2 c κs =
       let p = c .before .before .before in
-      omega (arith, p .put-command .ensures .1, both-fit (p .before .before))
+      omega (arith, p .put-command .ensures .past, both-fit (p .before .before))
 
   put-tree-requires-3 : Of lts.Need-put-tree-requires-3
   put-tree-requires-3 c κs =
       let z = c .before .before .before in
       let p = z .before .before .before .before in
-      omega (arith, z .put-tree2 .ensures .1, p .put-command .ensures .1, both-fit (p .before .before))
+      omega (arith, z .put-tree2 .ensures .past, p .put-command .ensures .past, both-fit (p .before .before))
 
   length-kept-2 : Of lts.Need-same-length-2
   length-kept-2 c = c .before .before .put-tree .kept .0
@@ -150,7 +150,7 @@ module _ (t : ℕ) where
       → c .put-command .last .0
       ≡ sets (c .before .before .before .before .before .before .args .buffer .now) (c .before .before .before .before .before .before .args .at)
       (0x22 ∷ (c .before .before .before .before .before .before .args .k + 1) ∷ [])
-  selector-there c = c .put-command .ensures .0
+  selector-there c = c .put-command .ensures .stored
 
   length-kept-3 : Of lts.Need-same-length-3
   length-kept-3 c =
@@ -166,8 +166,8 @@ module _ (t : ℕ) where
       let h = e .before in
       let a = h .before .before .before .args in
       rw (reduced-two (a .w) (a .k) (a .t) _ (h .before .if1 .left) (h .half-of .ensures) (e .if2 .left))
-      (selector-stored (a .buffer .now) _ _ _ (for-zero h) (for-one h) (a .at) (a .k + 1) _ _ _
-      (selector-there p, p .put-command .ensures .1) (z .put-tree2 .ensures) (o .put-tree3 .ensures))
+      (selector-stored (for-zero h) (for-one h) (a .k + 1)
+      (record { stored = selector-there p; past = p .put-command .ensures .past }) (z .put-tree2 .ensures) (o .put-tree3 .ensures))
 
   pub meets : {M : Type 1} → lts.Closed claims here put-tree.Post M
   meets =

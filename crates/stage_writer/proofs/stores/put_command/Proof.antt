@@ -1,4 +1,3 @@
-use mathlib.Core.Path.{refl}
 use borrow.Author.Needs.{needs}
 use Rattle.stage_writer.proofs.Storing.{two-stored}
 use Rattle.stage_writer.proofs.stores.put_command.Statement.{statement}
@@ -24,7 +23,7 @@ returns c =
     let second = c .before .before in
     let first = second .before .before .before .before in
     let a = first .before .before .before .args in
-    (two-stored (a .buffer .now) _ _ (a .at) (a .command) (a .operand) (first .put .ensures) (second .put2 .ensures), refl)
+    two-stored (a .buffer .now) _ _ (a .at) (a .command) (a .operand) (first .put .ensures) (second .put2 .ensures)
 
 pub put-command-spec : {M : Type 1} → statement M
 put-command-spec =

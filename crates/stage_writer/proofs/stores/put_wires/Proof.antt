@@ -65,7 +65,7 @@ loop-again c =
       omega arith,
       p .put-wire .kept .0 ∙ l .inv .1,
       stored-on (l .buffer) _ x y _ (l .at) _ (p .put-wire .ensures) (rw step at (l .inv .2)),
-      omega (arith, l .inv, p .put-wire .ensures .1, ap length step, length-append x y),
+      omega (arith, l .inv, p .put-wire .ensures .past, ap length step, length-append x y),
     )
 
 same-length : tie.Need-same-length Inv-loop μ-loop
@@ -77,7 +77,7 @@ returns c =
     let s = c .before .before .before in
     let a = s .args in
     let e = wires-end (a .n) (a .m) (l .j) (a .t4) (within s) (c .loop-test .left) in
-    (rw e at (l .inv .2), omega (arith, l .inv, ap length e))
+    record { stored = rw e at (l .inv .2); past = omega (arith, l .inv, ap length e) }
 
 pub put-wires-spec : {M : Type 1} → statement M
 put-wires-spec =

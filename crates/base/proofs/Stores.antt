@@ -1,12 +1,12 @@
 -- Laws of text put into a buffer: one text after another, and text at its start.
 use Rattle.base.proofs.Tabulate.{sets-append}
 use Prim.Native.Nat.{ℕ, _+_, _≤_}
 use mathlib.Core.Path.{_≡_, refl}
 use mathlib.Core.List.{List, [], _++_}
 use native.Mathlib.Omega.{arith}
 use lib.ListN.{length, length-append}
 use lib.Seq.{sets}
-use Rattle.text.specs.Inner.Put.{Put, PutWithin}
+use Rattle.base.specs.Inner.Put.{Put, PutWithin}
 
 -- no text
 pub put-none : {l : List ℕ} {at : ℕ} → Put l at [] l at

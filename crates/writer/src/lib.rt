@@ -1,0 +1,82 @@
+// Writing unit sheets: a command as bytes, put into a lent buffer at a place.
+// Inner functions: who writes a sheet stays at places that a usize holds.
+use base::put;
+use sheet::Command;
+ghost use mathlib.Core.Path.{_≡_};
+ghost use Prim.Native.Nat.{_+_, _/_, _%_, _<_, _≤_};
+ghost use lib.ListN.{length, take};
+ghost use Rattle.base.specs.Inner.Put.{Put, placeRange};
+ghost use Rattle.sheet.specs.Bytes.{commandBytes, longestCommand};
+
+// No command has more bytes than this.
+const LONGEST_COMMAND: usize = 4;
+
+// A command as bytes: its own at the front, and how many they are.
+struct Encoded {
+    bytes: [u8; LONGEST_COMMAND],
+    length: usize,
+}
+
+fn low_byte(w: u16) -> u8
+    ensures { λ r. ⌜ r ≡ w % 256 ⌝ }
+{
+    (w % 256) as u8
+}
+
+fn high_byte(w: u16) -> u8
+    ensures { λ r. ⌜ r ≡ w / 256 ⌝ }
+{
+    (w / 256) as u8
+}
+
+// The bytes of a command.
+fn encode(c: Command) -> Encoded
+    ensures { λ r. ⌜ (take (r .length) (r .bytes) ≡ commandBytes c) × (r .length ≤ longestCommand) ⌝ }
+{
+    match c {
+        Command::End => Encoded {
+            bytes: [0x00, 0, 0, 0],
+            length: 1,
+        },
+        Command::Sizes { n, m } => Encoded {
+            bytes: [0x01, n, m, 0],
+            length: 3,
+        },
+        Command::Row { p, v } => Encoded {
+            bytes: [0x02, p, v, 0],
+            length: 3,
+        },
+        Command::DontCare { p } => Encoded {
+            bytes: [0x03, p, 0, 0],
+            length: 2,
+        },
+        Command::Gate { kind, a, b } => Encoded {
+            bytes: [0x04, kind, a, b],
+            length: 4,
+        },
+        Command::Output { s } => Encoded {
+            bytes: [0x05, s, 0, 0],
+            length: 2,
+        },
+        Command::Limit { p, set } => Encoded {
+            bytes: [0x06, p, low_byte(set), high_byte(set)],
+            length: 4,
+        },
+    }
+}
+
+// Puts a command, and hands back the place after it. Bytes that find no room are dropped.
+pub fn put_command(out: &mut [u8], at: usize, c: Command) -> usize
+    requires { ⌜ at + length (commandBytes c) < placeRange ⌝ }
+    ensures { λ r. ⌜ Put (now (out .entry)) at (commandBytes c) (now (out .exit)) r ⌝ }
+{
+    let encoded = encode(c);
+    let bytes = encoded.bytes;
+    let length = encoded.length;
+    let mut i: usize = 0;
+    while i < length {
+        put(out, at + i, bytes[i]);
+        i += 1;
+    }
+    at + length
+}
