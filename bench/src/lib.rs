@@ -20,15 +20,24 @@ mod c {
             reply: *mut u64,
         ) -> u32;
 
+        pub fn dagmetzi_clean(
+            sheet: *const u8,
+            sheet_length: usize,
+            buffer: *mut u8,
+            buffer_length: usize,
+            reply: *mut u64,
+        ) -> u32;
+
         pub fn dagmetzi_search(n: u8, m: u8, sets: *const u16, budget: u32, tables: *mut u16, reply: *mut u64) -> u32;
     }
 }
 
-/// Outcomes of a search and of a quote, of an audit, and of a refusal.
+/// Outcomes of a search and of a quote, of an audit, of a clean copy, and of a refusal.
 pub const BEST: u64 = 0;
 pub const STOPPED: u64 = 1;
 pub const FITS: u64 = 0;
 pub const DIFFERS: u64 = 1;
+pub const WRITTEN: u64 = 0;
 pub const REFUSED: u64 = 2;
 pub const STAGE_REFUSED: u64 = 3;
 
@@ -69,6 +78,15 @@ pub fn audit(sheet: &[u8], stage: &[u8]) -> Told {
     // SAFETY: as above.
     let refusal =
         unsafe { c::dagmetzi_audit(sheet.as_ptr(), sheet.len(), stage.as_ptr(), stage.len(), reply.as_mut_ptr()) };
+    told(refusal, reply)
+}
+
+pub fn clean(sheet: &[u8], buffer: &mut [u8]) -> Told {
+    let mut reply = [FILL; 6];
+    // SAFETY: as above.
+    let refusal = unsafe {
+        c::dagmetzi_clean(sheet.as_ptr(), sheet.len(), buffer.as_mut_ptr(), buffer.len(), reply.as_mut_ptr())
+    };
     told(refusal, reply)
 }
 

@@ -1,9 +1,10 @@
 //! The library through the C boundary against the independent solver: the same replies, and the same bytes in what was
 //! lent.
 
-use bench::{Told, BEST, DIFFERS, FITS, LENT_TABLE, REFUSED, STAGE_REFUSED, STOPPED};
+use bench::{Told, BEST, DIFFERS, FITS, LENT_TABLE, REFUSED, STAGE_REFUSED, STOPPED, WRITTEN};
 use trials::audit::Audit;
 use trials::case::Case;
+use trials::clean::LONGEST_COPY;
 use trials::draw::relations::{half_dense, junk_past_the_last, malformed, sets};
 use trials::fast;
 use trials::pick::Picker;
@@ -33,6 +34,10 @@ fn found(cells: u32, floor: u32, visits: u32, stopped: bool, length: usize) -> T
     }
 }
 
+fn written(length: usize) -> Told {
+    Told { refusal: 0, outcome: WRITTEN, cells: 0, floor: 0, visits: 0, length: length as u64, place: 0 }
+}
+
 /// The reply and the tables that the tuned search gives, or the refusal, which leaves the tables as they were lent.
 fn searched(n: u8, m: u8, sets: &[u16; 16], budget: u32) -> (Told, [u16; 4]) {
     match handed(n, m, sets) {
@@ -44,14 +49,27 @@ fn searched(n: u8, m: u8, sets: &[u16; 16], budget: u32) -> (Told, [u16; 4]) {
     }
 }
 
+/// What a call tells, and what it leaves in a buffer of that length.
+fn lent(room: usize, call: impl FnOnce(&mut [u8]) -> Told) -> (Told, Vec<u8>) {
+    let mut buffer = vec![FILL; room];
+    let told = call(&mut buffer);
+    (told, buffer)
+}
+
 /// The reply and the buffer that the independent quote gives.
 fn quoted(sheet: &[u8], budget: u32, room: usize, picker: &mut Picker) -> (Told, Vec<u8>) {
-    let mut buffer = vec![FILL; room];
-    let told = match trials::quote::quote(sheet, budget, &mut buffer, picker) {
+    lent(room, |buffer| match trials::quote::quote(sheet, budget, buffer, picker) {
         Ok(q) => found(q.answer.cells, q.answer.floor, q.answer.visits, q.answer.stopped, q.length),
         Err(r) => refused(REFUSED, &r),
-    };
-    (told, buffer)
+    })
+}
+
+/// The reply and the buffer that the independent clean copy gives.
+fn cleaned(sheet: &[u8], room: usize) -> (Told, Vec<u8>) {
+    lent(room, |buffer| match trials::clean::clean(sheet, buffer) {
+        Ok(length) => written(length),
+        Err(r) => refused(REFUSED, &r),
+    })
 }
 
 fn audited(sheet: &[u8], stage: &[u8]) -> Told {
@@ -66,9 +84,11 @@ fn audited(sheet: &[u8], stage: &[u8]) -> Told {
 }
 
 fn library_quote(sheet: &[u8], budget: u32, room: usize) -> (Told, Vec<u8>) {
-    let mut buffer = vec![FILL; room];
-    let told = bench::quote(sheet, budget, &mut buffer);
-    (told, buffer)
+    lent(room, |buffer| bench::quote(sheet, budget, buffer))
+}
+
+fn library_clean(sheet: &[u8], room: usize) -> (Told, Vec<u8>) {
+    lent(room, |buffer| bench::clean(sheet, buffer))
 }
 
 /// All sizes, well-defined and malformed relations, with anything past the last pattern.
@@ -95,6 +115,15 @@ fn searches_agree() {
     }
 }
 
+/// Sheet A, its own clean copy, at buffers of every length about it.
+#[test]
+fn sheet_a_is_its_own_copy() {
+    for room in [0, 1, 27, 28, 29, LONGEST_COPY, 5_000] {
+        assert_eq!(library_clean(&A, room), cleaned(&A, room));
+    }
+    assert_eq!(library_clean(&A, 28), (written(28), A.to_vec()));
+}
+
 /// Sheet A at buffers of every length about its stage's, and an audit of the stage written.
 #[test]
 fn sheet_a_agrees() {
@@ -107,7 +136,7 @@ fn sheet_a_agrees() {
     assert_eq!(bench::audit(&A, &buffer[..16]), found(2, 0, 0, false, 0));
 }
 
-/// Every quote, audit and search among the cases drawn for the program.
+/// Every quote, audit, search and clean copy among the cases drawn for the program.
 #[test]
 fn drawn_cases_agree() {
     let mut picker = Picker::new();
@@ -123,9 +152,13 @@ fn drawn_cases_agree() {
             Case::Search { n, m, budget, sets } => {
                 assert_eq!(bench::search(*n, *m, sets, *budget), searched(*n, *m, sets, *budget), "{case:?}");
             }
+            Case::Clean { room, sheet } => {
+                let room = usize::from(*room);
+                assert_eq!(library_clean(sheet, room), cleaned(sheet, room), "{case:?}");
+            }
             Case::Write { .. } | Case::Read { .. } => continue,
         }
         held += 1;
     }
-    assert!(held > 15_000, "only {held} cases");
+    assert!(held > 20_000, "only {held} cases");
 }

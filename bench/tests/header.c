@@ -1,5 +1,6 @@
-/* A caller in C: sheet A quoted, its stage audited, its relation searched, as the header declares the calls.
- * Prints what each call returns and the numbers of its reply, then the stage and the tables. */
+/* A caller in C: sheet A quoted, its stage audited, its relation searched, its clean copy written, as the header
+ * declares the calls. Prints what each call returns and the numbers of its reply, then the stage, the tables and the
+ * copy. */
 #include "../../include/dagmetzi.h"
 #include <stdio.h>
 
@@ -11,22 +12,30 @@ static void print_reply(uint32_t refusal, const uint64_t reply[DAGMETZI_NUMBERS]
     printf("\n");
 }
 
+static void print_bytes(const uint8_t *bytes, uint64_t length) {
+    for (uint64_t i = 0; i < length; i++) {
+        printf("%02x ", bytes[i]);
+    }
+    printf("\n");
+}
+
 int main(void) {
     const uint8_t sheet[] = {0x01, 0x02, 0x02, 0x02, 0x00, 0x01, 0x02, 0x01, 0x00, 0x02, 0x02, 0x00, 0x02, 0x03,
                              0x02, 0x04, 0x02, 0x00, 0x01, 0x04, 0x00, 0x02, 0x01, 0x05, 0x02, 0x05, 0x03, 0x00};
     const uint16_t sets[DAGMETZI_PATTERNS] = {2, 9, 9, 4};
-    uint8_t buffer[DAGMETZI_LONGEST_STAGE] = {0};
+    uint8_t stage[DAGMETZI_LONGEST_STAGE] = {0};
+    uint8_t copy[DAGMETZI_LONGEST_COPY] = {0};
     uint16_t tables[DAGMETZI_WIRES];
     uint64_t reply[DAGMETZI_NUMBERS];
-    uint64_t length;
+    uint64_t stage_length;
 
-    print_reply(dagmetzi_quote(sheet, sizeof sheet, 10000, buffer, sizeof buffer, reply), reply);
-    length = reply[DAGMETZI_LENGTH];
-    print_reply(dagmetzi_audit(sheet, sizeof sheet, buffer, (size_t)length, reply), reply);
+    print_reply(dagmetzi_quote(sheet, sizeof sheet, 10000, stage, sizeof stage, reply), reply);
+    stage_length = reply[DAGMETZI_LENGTH];
+    print_reply(dagmetzi_audit(sheet, sizeof sheet, stage, (size_t)stage_length, reply), reply);
     print_reply(dagmetzi_search(2, 2, sets, 10000, tables, reply), reply);
-    for (uint64_t i = 0; i < length; i++) {
-        printf("%02x ", buffer[i]);
-    }
-    printf("\n%u %u %u %u\n", tables[0], tables[1], tables[2], tables[3]);
-    return 0;
+    print_reply(dagmetzi_clean(sheet, sizeof sheet, copy, sizeof copy, reply), reply);
+    print_bytes(stage, stage_length);
+    printf("%u %u %u %u\n", tables[0], tables[1], tables[2], tables[3]);
+    print_bytes(copy, reply[DAGMETZI_LENGTH]);
+    return reply[DAGMETZI_OUTCOME] != DAGMETZI_WRITTEN;
 }

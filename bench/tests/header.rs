@@ -4,6 +4,7 @@
 use bench::Told;
 use std::path::{Path, PathBuf};
 use std::process::{Command, Output};
+use trials::clean::LONGEST_COPY;
 use trials::rows::A;
 
 /// A as a relation.
@@ -13,14 +14,20 @@ fn line(t: &Told) -> String {
     format!("{} {} {} {} {} {} {}\n", t.refusal, t.outcome, t.cells, t.floor, t.visits, t.length, t.place)
 }
 
+fn bytes_line(bytes: &[u8]) -> String {
+    bytes.iter().map(|b| format!("{b:02x} ")).collect::<String>() + "\n"
+}
+
 fn expected() -> String {
     let mut buffer = [0; 196];
     let quote = bench::quote(&A, 10_000, &mut buffer);
     let stage = &buffer[..quote.length as usize];
     let (search, tables) = bench::search(2, 2, &A_SETS, 10_000);
-    let bytes: String = stage.iter().map(|b| format!("{b:02x} ")).collect();
+    let mut copy = [0; LONGEST_COPY];
+    let clean = bench::clean(&A, &mut copy);
+    let replies = [quote, bench::audit(&A, stage), search, clean].map(|told| line(&told)).concat();
     let tables = tables.map(|t| t.to_string()).join(" ");
-    line(&quote) + &line(&bench::audit(&A, stage)) + &line(&search) + &bytes + "\n" + &tables + "\n"
+    replies + &bytes_line(stage) + &tables + "\n" + &bytes_line(&copy[..clean.length as usize])
 }
 
 fn run(command: &mut Command) -> Output {

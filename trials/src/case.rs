@@ -8,6 +8,7 @@
 //! * `S` search: n (1), m (1), budget (4), sixteen sets (2 each).
 //! * `W` write a stage: n (1), m (1), buffer length (1), four tables (2 each).
 //! * `R` read a stage: length (2), stage.
+//! * `C` clean a sheet: buffer length (2, at most 320), sheet length (2), sheet.
 //!
 //! Replies, a line each (a quote that is not refused has two):
 //!
@@ -16,13 +17,14 @@
 //! * `A`: "fits C", "differs C", "sheet refused N at P", "stage refused N at P".
 //! * `S`: "T0 T1 T2 T3 cells C floor F visits V best" (or "stopped"); or
 //!   "refused N at P".
-//! * `W`: "LENGTH PAIRS +"; or "refused N at P +".
+//! * `W`, `C`: "LENGTH PAIRS +"; or "refused N at P +".
 //! * `R`: "N M T0 T1 T2 T3 cells C"; or "refused N at P".
 //!
 //! Buffers start filled with EE. The + says that every byte of the buffer past
-//! the stage (on a refusal: every byte) still is EE.
+//! the stage or the copy (on a refusal: every byte) still is EE.
 
 use crate::audit::{audit, Audit};
+use crate::clean::clean;
 use crate::pick::Picker;
 use crate::quote::quote;
 use crate::refusal::Refusal;
@@ -40,6 +42,7 @@ pub enum Case {
     Search { n: u8, m: u8, budget: u32, sets: [u16; 16] },
     Write { n: u8, m: u8, room: u8, tables: [u16; 4] },
     Read { stage: Vec<u8> },
+    Clean { room: u16, sheet: Vec<u8> },
 }
 
 /// Whom a refusal belongs to, or what came out.
@@ -66,6 +69,7 @@ impl Case {
             Case::Search { .. } => b'S',
             Case::Write { .. } => b'W',
             Case::Read { .. } => b'R',
+            Case::Clean { .. } => b'C',
         }
     }
 
@@ -98,6 +102,11 @@ impl Case {
                 out.extend(length(stage));
                 out.extend(stage);
             }
+            Case::Clean { room, sheet } => {
+                out.extend(room.to_le_bytes());
+                out.extend(length(sheet));
+                out.extend(sheet);
+            }
         }
     }
 
@@ -107,8 +116,9 @@ impl Case {
             Case::Quote { budget, room, sheet } => quote_reply(sheet, *budget, *room, picker),
             Case::Audit { sheet, stage } => audit_reply(sheet, stage),
             Case::Search { n, m, budget, sets } => search_reply(*n, *m, *budget, sets, picker),
-            Case::Write { n, m, room, tables } => write_reply(*n, *m, *room, tables),
+            Case::Write { n, m, room, tables } => write_reply((*room).into(), |b| stage::write(*n, *m, tables, b)),
             Case::Read { stage } => read_reply(stage),
+            Case::Clean { room, sheet } => write_reply((*room).into(), |b| clean(sheet, b)),
         }
     }
 }
@@ -147,6 +157,10 @@ pub fn read_records(mut bytes: &[u8]) -> Vec<Case> {
             b'R' => {
                 let length = number(it, 2) as usize;
                 Case::Read { stage: take(it, length).to_vec() }
+            }
+            b'C' => {
+                let (room, length) = (number(it, 2) as u16, number(it, 2) as usize);
+                Case::Clean { room, sheet: take(it, length).to_vec() }
             }
             kind => panic!("no kind {kind}"),
         });
@@ -187,18 +201,25 @@ fn numbers(tables: &[u16; 4]) -> String {
     format!("{a} {b} {c} {d}")
 }
 
+/// What was written at the start of a buffer, and whether the rest stayed.
+fn written(buffer: &[u8], length: usize) -> String {
+    let (start, later) = buffer.split_at(length);
+    format!("{} {}", pairs(start), untouched(later))
+}
+
+/// The refusal, and whether the buffer stayed.
+fn unwritten(buffer: &[u8], r: Refusal) -> Reply {
+    Reply { text: format!("{} {}\n", refused(&r), untouched(buffer)), outcome: Outcome::Refused(r) }
+}
+
 fn quote_reply(sheet: &[u8], budget: u32, room: u8, picker: &mut Picker) -> Reply {
     let mut buffer = vec![FILL; room.into()];
     match quote(sheet, budget, &mut buffer, picker) {
         Ok(q) => {
-            let (stage, later) = buffer.split_at(q.length);
-            let text = format!("{}\n{} {}\n", found(&q.answer), pairs(stage), untouched(later));
+            let text = format!("{}\n{}\n", found(&q.answer), written(&buffer, q.length));
             Reply { text, outcome: Outcome::Found(q.answer) }
         }
-        Err(r) => {
-            let text = format!("{} {}\n", refused(&r), untouched(&buffer));
-            Reply { text, outcome: Outcome::Refused(r) }
-        }
+        Err(r) => unwritten(&buffer, r),
     }
 }
 
@@ -224,18 +245,12 @@ fn search_reply(n: u8, m: u8, budget: u32, sets: &[u16; 16], picker: &mut Picker
     }
 }
 
-fn write_reply(n: u8, m: u8, room: u8, tables: &[u16; 4]) -> Reply {
-    let mut buffer = vec![FILL; room.into()];
-    match stage::write(n, m, tables, &mut buffer) {
-        Ok(length) => {
-            let (stage, later) = buffer.split_at(length);
-            let text = format!("{length} {} {}\n", pairs(stage), untouched(later));
-            Reply { text, outcome: Outcome::Written }
-        }
-        Err(r) => {
-            let text = format!("{} {}\n", refused(&r), untouched(&buffer));
-            Reply { text, outcome: Outcome::Refused(r) }
-        }
+/// A writer of stages or of copies, lent a buffer of that length.
+fn write_reply(room: usize, write: impl FnOnce(&mut [u8]) -> Result<usize, Refusal>) -> Reply {
+    let mut buffer = vec![FILL; room];
+    match write(&mut buffer) {
+        Ok(length) => Reply { text: format!("{length} {}\n", written(&buffer, length)), outcome: Outcome::Written },
+        Err(r) => unwritten(&buffer, r),
     }
 }
 

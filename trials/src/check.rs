@@ -1,19 +1,23 @@
-//! What must hold of every search among the cases, told by the second solver.
+//! What must hold of the cases: of every search, told by the second solver; of
+//! every clean copy, told by the sheet's own commands.
 
+use crate::arrange::arrange;
 use crate::case::{Case, Outcome};
+use crate::clean::{clean, copy};
 use crate::least::{least, price_list};
-use crate::refusal::EMPTY;
+use crate::refusal::{Refusal, EMPTY, SHORT_BUFFER};
 use crate::relation::sets_of;
 use crate::search::Answer;
-use crate::sheet::{self, all_values};
+use crate::sheet::{self, all_values, Unit};
 use crate::{fast, relation};
 
-/// How many searches were held against the second solver, and how many were
-/// too long for it.
+/// How many searches were held against the second solver, how many were too
+/// long for it, and how many copies were held against their sheets.
 #[derive(Default)]
 pub struct Checked {
     pub held: usize,
     pub left: usize,
+    pub copies: usize,
 }
 
 pub struct Checker {
@@ -28,12 +32,36 @@ impl Default for Checker {
 }
 
 impl Checker {
+    /// Panics where something fails that must hold of this case.
+    pub fn check(&mut self, case: &Case, outcome: &Outcome) {
+        match case {
+            Case::Clean { room, sheet } => self.check_clean((*room).into(), sheet, outcome),
+            _ => self.check_search(case, outcome),
+        }
+    }
+
+    /// Document 02, E1: what reading refuses, then 12 at the copy's length, and
+    /// nothing else. The copy is looked at even where the buffer is too short.
+    fn check_clean(&mut self, room: usize, sheet: &[u8], outcome: &Outcome) {
+        let expected = match sheet::read(sheet) {
+            Ok(unit) => {
+                let length = hold_copy(sheet, &unit);
+                self.checked.copies += 1;
+                if room < length {
+                    Outcome::Refused(Refusal { number: SHORT_BUFFER, place: length })
+                } else {
+                    Outcome::Written
+                }
+            }
+            Err(r) => Outcome::Refused(r),
+        };
+        assert_eq!(*outcome, expected, "a clean copy of {sheet:?} in {room} bytes");
+    }
+
     /// * best: the cells are the least there are;
     /// * always: floor <= least <= cells;
     /// * refusal 10 just where no function is compatible.
-    ///
-    /// Panics where one fails.
-    pub fn check(&mut self, case: &Case, outcome: &Outcome) {
+    fn check_search(&mut self, case: &Case, outcome: &Outcome) {
         let Some((n, m, sets)) = sets_of_case(case) else { return };
         let empty = matches!(outcome, Outcome::Refused(r) if r.number == EMPTY);
         let answer = match outcome {
@@ -55,6 +83,22 @@ impl Checker {
             same_as_fast(answer, n, &sets, *budget);
         }
     }
+}
+
+/// The copy holds what the sheet holds, its relation or refusal 10 with it, and
+/// has nothing left to clean: it and the sheet come out alike. Gives its length.
+fn hold_copy(sheet: &[u8], unit: &Unit) -> usize {
+    let copy = copy(unit);
+    assert_eq!(copy, arrange(sheet), "not the commands in order: {sheet:?}");
+    let again = sheet::read(&copy).expect("a copy is read");
+    assert_eq!(again, *unit, "read otherwise: {sheet:?}");
+    assert_eq!(relation::of_unit(&again), relation::of_unit(unit), "another relation: {sheet:?}");
+    for cleaned in [sheet, &copy] {
+        let mut exact = vec![0; copy.len()];
+        assert_eq!(clean(cleaned, &mut exact), Ok(copy.len()), "cleaned to another length: {cleaned:?}");
+        assert_eq!(exact, copy, "cleaned to other bytes: {cleaned:?}");
+    }
+    copy.len()
 }
 
 fn hold(answer: &Answer, least: u32, case: &Case) {

@@ -1,9 +1,11 @@
-//! An independent reading of document 01, used to check the project's own
-//! program from outside.
+//! An independent reading of document 01 and of the requests of document 02
+//! that have landed, used to check the project's own program from outside.
 //!
 //! * `sheet`, `unit`, `relation`, `cells`, `pick`, `search`, `stage`, `quote`,
 //!   `audit`: document 01, one subject each, as literally as it is written.
+//! * `clean`: document 02, E1; `buffer`: how all writers treat what is lent.
 //! * `least`: a second solver that tries every function, free of the search.
+//! * `arrange`: a second way to the clean copy, free of reader and writer.
 //! * `fast`: the same search as `search`, tuned for speed, for the benchmark.
 //! * `random`, `draw`, `rows`, `plan`: the cases, from a fixed seed.
 //! * `case`, `check`: a case's record and reply, and what must hold of it.
@@ -12,10 +14,13 @@
 // Patterns and wires are numbers here; loops go over the numbers.
 #![allow(clippy::needless_range_loop)]
 
+pub mod arrange;
 pub mod audit;
+pub mod buffer;
 pub mod case;
 pub mod cells;
 pub mod check;
+pub mod clean;
 pub mod draw;
 pub mod fast;
 pub mod least;

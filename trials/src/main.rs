@@ -4,11 +4,11 @@
 
 use std::path::Path;
 use std::process::ExitCode;
-use trials::check::Checker;
+use trials::check::{Checked, Checker};
 use trials::pick::Picker;
 use trials::plan::cases;
 use trials::program::Outcomes;
-use trials::tally::Tally;
+use trials::tally::tallied;
 
 fn main() -> ExitCode {
     let arguments: Vec<String> = std::env::args().skip(1).collect();
@@ -24,7 +24,7 @@ fn main() -> ExitCode {
     }
 }
 
-/// Every reply is held against the second solver before anything is written.
+/// Every reply is checked before anything is written.
 fn write(directory: &Path) -> ExitCode {
     let mut picker = Picker::new();
     let mut checker = Checker::default();
@@ -49,17 +49,10 @@ fn write(directory: &Path) -> ExitCode {
 }
 
 fn count() -> ExitCode {
-    let mut picker = Picker::new();
-    let mut checker = Checker::default();
-    let mut tally = Tally::default();
-    for case in cases() {
-        let outcome = case.reply(&mut picker).outcome;
-        checker.check(&case, &outcome);
-        tally.add(&case, &outcome);
-    }
+    let (tally, Checked { held, left, copies }) = tallied();
     print!("{}", tally.report());
-    let (held, left) = (checker.checked.held, checker.checked.left);
     println!("searches held against the second solver: {held}, too long for it: {left}");
+    println!("clean copies held against their sheets: {copies}");
     ExitCode::SUCCESS
 }
 
@@ -75,9 +68,12 @@ fn program(path: &Path) -> ExitCode {
     for fault in outcomes.faults.iter().take(10) {
         eprintln!("{fault}");
     }
-    let Outcomes { quotes, audits, complaints, faults } = outcomes;
-    println!("program: {quotes} quotes, {audits} audits, {complaints} complaints, {} not as expected", faults.len());
-    if faults.is_empty() {
+    let Outcomes { quotes, audits, copies, complaints, faults } = outcomes;
+    let faults = faults.len();
+    println!(
+        "program: {quotes} quotes, {audits} audits, {copies} copies, {complaints} complaints, {faults} not as expected"
+    );
+    if faults == 0 {
         ExitCode::SUCCESS
     } else {
         ExitCode::FAILURE

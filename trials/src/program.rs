@@ -1,18 +1,23 @@
 //! Runs the built program as a process, and compares what it writes with the
 //! replies worked out here. This looks at what the proofs leave to the library:
 //! that the program opens and reads what it is told, and what it says where it
-//! cannot. Document 01 has the quote; the audit's words are the project's own:
-//! `audit SHEET STAGE` prints "fits cells C", "differs cells C",
-//! "sheet refused N at P" or "stage refused N at P".
+//! cannot. Document 01 has the quote; the other words are the project's own:
+//!
+//! * `audit SHEET STAGE` prints "fits cells C", "differs cells C",
+//!   "sheet refused N at P" or "stage refused N at P".
+//! * `clean SHEET` prints the copy of document 02, E1, as hex pairs; or
+//!   "refused N at P".
 
 use crate::audit::{audit, Audit};
 use crate::case::{found, pairs, refused, Case, Outcome};
 use crate::check::Checker;
+use crate::clean::{clean, LONGEST_COPY};
+use crate::draw::sheets::longest_draft;
 use crate::pick::Picker;
 use crate::plan::cases;
 use crate::quote::quote;
 use crate::random::Random;
-use crate::refusal::{Refusal, TOO_LONG};
+use crate::refusal::{refuse, Refusal, TOO_LONG};
 use crate::rows::{A, A_STAGE};
 use crate::stage::bytes_of;
 use std::ffi::{OsStr, OsString};
@@ -31,12 +36,14 @@ const LONGEST_STAGE: usize = 196;
 /// Of the drawn cases, one in so many is run: some hundreds of each kind.
 const ONE_QUOTE_IN: usize = 24;
 const ONE_AUDIT_IN: usize = 11;
+const ONE_COPY_IN: usize = 9;
 
 /// What was run, and what did not come out as expected.
 #[derive(Default)]
 pub struct Outcomes {
     pub quotes: usize,
     pub audits: usize,
+    pub copies: usize,
     pub complaints: usize,
     pub faults: Vec<String>,
 }
@@ -79,7 +86,7 @@ impl Bench {
 
     /// A part of the drawn cases of `plan`.
     fn drawn(&mut self) -> Result<()> {
-        let (mut quotes, mut audits) = (0, 0);
+        let (mut quotes, mut audits, mut copies) = (0, 0, 0);
         for case in cases() {
             match case {
                 Case::Quote { sheet, .. } => {
@@ -94,6 +101,12 @@ impl Bench {
                         self.audit(&sheet, &stage)?;
                     }
                 }
+                Case::Clean { sheet, .. } => {
+                    copies += 1;
+                    if copies % ONE_COPY_IN == 1 {
+                        self.clean(&sheet)?;
+                    }
+                }
                 _ => {}
             }
         }
@@ -102,7 +115,8 @@ impl Bench {
 
     /// Sheets and stages around the longest, and far longer ones.
     fn lengths(&mut self) -> Result<()> {
-        let mut sheets = vec![vec![], A.to_vec(), long_sheet()];
+        let full = longest_draft(&mut self.rng).sheet(&mut self.rng);
+        let mut sheets = vec![vec![], A.to_vec(), long_sheet(), full];
         let mut stages = vec![vec![], A_STAGE.to_vec(), longest_stage()];
         for length in [LONGEST_SHEET - 1, LONGEST_SHEET, LONGEST_SHEET + 1, 5_000, 70_000] {
             sheets.extend([self.grown(&long_sheet(), length), self.grown(&A, length), self.grown(&[], length)]);
@@ -119,6 +133,7 @@ impl Bench {
         }
         for sheet in &sheets {
             self.quote(sheet)?;
+            self.clean(sheet)?;
             self.audit(sheet, &A_STAGE)?;
             self.audit(sheet, &self.grown_by_one(&A_STAGE))?;
         }
@@ -139,6 +154,9 @@ impl Bench {
             let output = self.piped(&[], &A, size)?;
             self.expect("a quote in pieces", &output, &quoted);
             self.outcomes.quotes += 1;
+            let output = self.piped(&["clean".into(), "/dev/stdin".into()], &A, size)?;
+            self.expect("a copy in pieces", &output, &clean_line(&A));
+            self.outcomes.copies += 1;
             self.put("stage", &A_STAGE)?;
             let output = self.piped(&["audit".into(), "/dev/stdin".into(), "stage".into()], &A, size)?;
             self.expect("an audit in pieces", &output, &audit_line(&A, &A_STAGE));
@@ -152,17 +170,45 @@ impl Bench {
         self.put("sheet", &A)?;
         self.put("stage", &A_STAGE)?;
         std::fs::create_dir(self.folder.join("folder"))?;
-        for word in ["frob", "Audit", "audit ", "audits", "audi", "-h", "--help", "quote"] {
+        self.unknown_words()?;
+        self.wrong_counts()?;
+        self.unreadable_names()?;
+        // A name is bytes, not text.
+        let name = OsString::from_vec(vec![0xFF, 0x20, 0xC3]);
+        std::fs::write(self.folder.join(&name), A)?;
+        let output = self.command(&["audit".into(), name.clone(), "stage".into()]).output()?;
+        self.expect("a name that is no text", &output, &audit_line(&A, &A_STAGE));
+        self.outcomes.audits += 1;
+        let output = self.command(&["clean".into(), name]).output()?;
+        self.expect("a name that is no text", &output, &clean_line(&A));
+        self.outcomes.copies += 1;
+        // A folder as standard input.
+        let output = self.command(&[]).stdin(File::open(&self.folder)?).output()?;
+        self.expect_complaint("a folder as input", &output, "dagmetzi: cannot read standard input: ");
+        Ok(())
+    }
+
+    fn unknown_words(&mut self) -> Result<()> {
+        let near_a_word = ["Audit", "audit ", "audits", "audi", "Clean", "clean ", "cleans", "clea"];
+        for word in near_a_word.into_iter().chain(["frob", "-h", "--help", "quote"]) {
             self.complains(&[word], &format!("dagmetzi: unknown word {word}: "))?;
             self.complains(&[word, "sheet", "stage"], &format!("dagmetzi: unknown word {word}: "))?;
         }
         self.complains(&[""], "dagmetzi: unknown word (empty): ")?;
-        self.complains(&["a\nb"], "dagmetzi: unknown word a?b: ")?;
-        for names in
-            [&["audit"][..], &["audit", "sheet"], &["audit", "sheet", "stage", "stage"], &["audit", "", "", ""]]
-        {
-            self.complains(names, "dagmetzi: wrong number of names for audit: ")?;
+        self.complains(&["a\nb"], "dagmetzi: unknown word a?b: ")
+    }
+
+    fn wrong_counts(&mut self) -> Result<()> {
+        for names in [&[][..], &["sheet"], &["sheet", "stage", "stage"], &["", "", ""]] {
+            self.complains(&[&["audit"], names].concat(), "dagmetzi: wrong number of names for audit: ")?;
         }
+        for names in [&[][..], &["sheet", "sheet"], &["missing", "sheet"], &["", ""], &["sheet", "stage", "stage"]] {
+            self.complains(&[&["clean"], names].concat(), "dagmetzi: wrong number of names for clean: ")?;
+        }
+        Ok(())
+    }
+
+    fn unreadable_names(&mut self) -> Result<()> {
         let longest = "n".repeat(4_096);
         let longer = "n".repeat(4_097);
         let long = "n".repeat(256);
@@ -181,18 +227,9 @@ impl Bench {
             self.complains(&["audit", name, "stage"], &message)?;
             self.complains(&["audit", "sheet", name], &message)?;
             self.complains(&["audit", name, "missing too"], &message)?;
+            self.complains(&["clean", name], &message)?;
         }
-        self.complains(&[&longer], "dagmetzi: cannot take an argument that long: ")?;
-        // A name is bytes, not text.
-        let name = OsString::from_vec(vec![0xFF, 0x20, 0xC3]);
-        std::fs::write(self.folder.join(&name), A)?;
-        let output = self.command(&["audit".into(), name, "stage".into()]).output()?;
-        self.expect("a name that is no text", &output, &audit_line(&A, &A_STAGE));
-        self.outcomes.audits += 1;
-        // A folder as standard input.
-        let output = self.command(&[]).stdin(File::open(&self.folder)?).output()?;
-        self.expect_complaint("a folder as input", &output, "dagmetzi: cannot read standard input: ");
-        Ok(())
+        self.complains(&[&longer], "dagmetzi: cannot take an argument that long: ")
     }
 
     // How it is run.
@@ -233,16 +270,25 @@ impl Bench {
     }
 
     /// Names as they stand in the folder, or from the root on.
+    fn named<const N: usize>(&mut self, names: [&str; N]) -> [OsString; N] {
+        let folder = if self.rng.once_in(2) { PathBuf::new() } else { self.folder.clone() };
+        names.map(|name| folder.join(name).into())
+    }
+
+    fn clean(&mut self, sheet: &[u8]) -> Result<()> {
+        self.put("sheet", sheet)?;
+        let [name] = self.named(["sheet"]);
+        let output = self.command(&["clean".into(), name]).output()?;
+        self.expect(&format!("copy of {}", pairs(sheet)), &output, &clean_line(sheet));
+        self.outcomes.copies += 1;
+        Ok(())
+    }
+
     fn audit(&mut self, sheet: &[u8], stage: &[u8]) -> Result<()> {
         self.put("sheet", sheet)?;
         self.put("stage", stage)?;
-        let names = if self.rng.once_in(2) {
-            [PathBuf::from("sheet"), "stage".into()]
-        } else {
-            ["sheet", "stage"].map(|n| self.folder.join(n))
-        };
-        let arguments = ["audit".into(), names[0].clone().into(), names[1].clone().into()];
-        let output = self.command(&arguments).output()?;
+        let [sheet_name, stage_name] = self.named(["sheet", "stage"]);
+        let output = self.command(&["audit".into(), sheet_name, stage_name]).output()?;
         self.expect(&format!("audit of {} by {}", pairs(stage), pairs(sheet)), &output, &audit_line(sheet, stage));
         self.outcomes.audits += 1;
         Ok(())
@@ -259,8 +305,8 @@ impl Bench {
 
     /// The search behind it is held against the second solver.
     fn quote_lines(&mut self, sheet: &[u8]) -> String {
-        if sheet.len() > LONGEST_SHEET {
-            return format!("{}\n", refused(&too_long()));
+        if let Err(r) = taken(sheet) {
+            return format!("{}\n", refused(&r));
         }
         let mut stage = [0; LONGEST_STAGE];
         let (outcome, lines) = match quote(sheet, BUDGET, &mut stage, &mut self.picker) {
@@ -307,14 +353,24 @@ impl Bench {
     }
 }
 
-fn too_long() -> Refusal {
-    Refusal { number: TOO_LONG, place: LONGEST_SHEET }
+/// A sheet that is too long is refused before anything else is looked at.
+fn taken(sheet: &[u8]) -> std::result::Result<&[u8], Refusal> {
+    if sheet.len() > LONGEST_SHEET {
+        return refuse(TOO_LONG, LONGEST_SHEET);
+    }
+    Ok(sheet)
 }
 
-/// A sheet that is too long is refused before the stage is looked at.
+fn clean_line(sheet: &[u8]) -> String {
+    let mut copy = [0; LONGEST_COPY];
+    match taken(sheet).and_then(|sheet| clean(sheet, &mut copy)) {
+        Ok(length) => format!("{}\n", pairs(&copy[..length])),
+        Err(r) => format!("{}\n", refused(&r)),
+    }
+}
+
 fn audit_line(sheet: &[u8], stage: &[u8]) -> String {
-    let audited = if sheet.len() > LONGEST_SHEET { Audit::SheetRefused(too_long()) } else { audit(sheet, stage) };
-    match audited {
+    match taken(sheet).map_or_else(Audit::SheetRefused, |sheet| audit(sheet, stage)) {
         Audit::Judged { fits: true, cells } => format!("fits cells {cells}\n"),
         Audit::Judged { fits: false, cells } => format!("differs cells {cells}\n"),
         Audit::SheetRefused(r) => format!("sheet {}\n", refused(&r)),
@@ -351,5 +407,10 @@ mod tests {
         assert_eq!(audit_line(&A, &longest_stage()), "stage refused 13 at 0\n");
         assert_eq!(audit_line(&A, &[]), "stage refused 1 at 0\n");
         assert_eq!(audit_line(&[0; LONGEST_SHEET + 1], &[]), "sheet refused 14 at 4096\n");
+        assert_eq!(clean_line(&A), format!("{}\n", pairs(&A)));
+        assert_eq!(clean_line(&long_sheet()), clean_line(&A));
+        assert_eq!(clean_line(&[]), "refused 1 at 0\n");
+        assert_eq!(clean_line(&[0; LONGEST_SHEET]), "refused 5 at 0\n");
+        assert_eq!(clean_line(&[0; LONGEST_SHEET + 1]), "refused 14 at 4096\n");
     }
 }

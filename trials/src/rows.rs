@@ -1,4 +1,5 @@
-//! The rows of document 01's "Bench sheets", first among the cases.
+//! The rows of document 01's "Bench sheets", first among the cases, and what
+//! document 02, E1, makes of those sheets.
 
 use crate::case::Case;
 
@@ -65,6 +66,19 @@ pub fn rows() -> Vec<(&'static str, Case)> {
     rows
 }
 
+/// Sheet A is its own clean copy; a limit comes before the gates.
+pub fn clean_rows() -> Vec<(&'static str, Case)> {
+    vec![
+        ("A cleaned", clean(260, &A)),
+        ("A cleaned with 27 bytes", clean(27, &A)),
+        ("A cleaned with 28 bytes", clean(28, &A)),
+        ("A with 06 02 02 00 cleaned", clean(260, &before_the_end(&A, &[0x06, 0x02, 0x02, 0x00]))),
+        ("A with 06 02 0F 00 cleaned", clean(260, &before_the_end(&A, &[0x06, 0x02, 0x0F, 0x00]))),
+        ("empty sheet cleaned", clean(260, &[])),
+        ("lone 00 cleaned", clean(260, &[0x00])),
+    ]
+}
+
 pub const A_STAGE: [u8; 16] =
     [0x20, 0x02, 0x02, 0x21, 0x00, 0x22, 0x01, 0x24, 0x23, 0x21, 0x01, 0x22, 0x02, 0x23, 0x24, 0x2F];
 
@@ -88,6 +102,10 @@ fn read(stage: &[u8]) -> Case {
 
 fn write(n: u8, m: u8, room: u8, tables: [u16; 4]) -> Case {
     Case::Write { n, m, room, tables }
+}
+
+fn clean(room: u16, sheet: &[u8]) -> Case {
+    Case::Clean { room, sheet: sheet.to_vec() }
 }
 
 fn search(n: u8, m: u8, budget: u32, few: &[u16]) -> Case {
@@ -122,8 +140,8 @@ mod tests {
     use crate::pick::Picker;
 
     fn reply(name: &str) -> String {
-        let rows = rows();
-        let (_, case) = rows.iter().find(|(n, _)| *n == name).unwrap_or_else(|| panic!("no row {name}"));
+        let mut rows = rows().into_iter().chain(clean_rows());
+        let (_, case) = rows.find(|(n, _)| *n == name).unwrap_or_else(|| panic!("no row {name}"));
         case.reply(&mut Picker::new()).text
     }
 
@@ -142,6 +160,18 @@ mod tests {
         assert_eq!(reply("A's stage written"), format!("16 {A_LINE} +\n"));
         assert_eq!(reply("A with 06 02 02 00"), "refused 10 at 2 +\n");
         assert_eq!(reply("A with 06 02 02 00 audited"), "sheet refused 10 at 2\n");
+    }
+
+    #[test]
+    fn a_cleaned() {
+        const ROWS: &str = "01 02 02 02 00 01 02 01 00 02 02 00 02 03 02";
+        const UNIT: &str = "04 02 00 01 04 00 02 01 05 02 05 03 00";
+        let itself = format!("28 {ROWS} {UNIT} +\n");
+        assert_eq!(reply("A cleaned"), itself);
+        assert_eq!(reply("A cleaned with 28 bytes"), itself);
+        assert_eq!(reply("A cleaned with 27 bytes"), "refused 12 at 28 +\n");
+        assert_eq!(reply("A with 06 02 02 00 cleaned"), format!("32 {ROWS} 06 02 02 00 {UNIT} +\n"));
+        assert_eq!(reply("A with 06 02 0F 00 cleaned"), itself);
     }
 
     #[test]
@@ -180,5 +210,7 @@ mod tests {
         assert_eq!(reply("lone 00"), "refused 5 at 0 +\n");
         assert_eq!(reply("01 05 01"), "refused 3 at 0 +\n");
         assert_eq!(reply("01 04 04"), "refused 1 at 3 +\n");
+        assert_eq!(reply("empty sheet cleaned"), "refused 1 at 0 +\n");
+        assert_eq!(reply("lone 00 cleaned"), "refused 5 at 0 +\n");
     }
 }

@@ -64,7 +64,7 @@ pub fn all_values(m: u32) -> u16 {
 }
 
 /// How many operand bytes follow a first byte; `None` for an unknown one.
-fn operand_count(first: u8) -> Option<usize> {
+pub fn operand_count(first: u8) -> Option<usize> {
     match first {
         0x00 => Some(0),
         0x01 | 0x02 => Some(2),

@@ -1,5 +1,6 @@
 //! Document 01, "Stage sheet": the writer and the reader.
 
+use crate::buffer::put;
 use crate::cells::{full, halves, stage_cells};
 use crate::refusal::*;
 
@@ -100,12 +101,7 @@ pub fn write(n: u8, m: u8, tables: &[u16; 4], buffer: &mut [u8]) -> Result<usize
             return refuse(OUT_OF_RANGE, j);
         }
     }
-    let bytes = bytes_of(n, m, tables);
-    if buffer.len() < bytes.len() {
-        return refuse(SHORT_BUFFER, bytes.len());
-    }
-    buffer[..bytes.len()].copy_from_slice(&bytes);
-    Ok(bytes.len())
+    put(&bytes_of(n, m, tables), buffer)
 }
 
 /// What may come at a place of a stage sheet.

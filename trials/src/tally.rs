@@ -1,14 +1,22 @@
 //! Counts the cases by kind and by refusal number.
 
 use crate::case::{Case, Outcome};
+use crate::check::{Checked, Checker};
+use crate::pick::Picker;
+use crate::plan::cases;
 use std::fmt::Write;
 
-const KINDS: &[u8; 5] = b"QASWR";
+const KINDS: &[u8; 6] = b"QASWRC";
+
+/// The row of a kind.
+fn row(kind: u8) -> usize {
+    KINDS.iter().position(|&k| k == kind).expect("a known kind")
+}
 
 #[derive(Default)]
 pub struct Tally {
     /// By kind, by refusal number; 0: accepted.
-    refused: [[usize; 14]; 5],
+    refused: [[usize; 14]; KINDS.len()],
     best: usize,
     stopped: usize,
     fits: usize,
@@ -19,9 +27,22 @@ pub struct Tally {
     sizes: [[usize; 5]; 5],
 }
 
+/// All cases, each of them checked.
+pub fn tallied() -> (Tally, Checked) {
+    let mut picker = Picker::new();
+    let mut checker = Checker::default();
+    let mut tally = Tally::default();
+    for case in cases() {
+        let outcome = case.reply(&mut picker).outcome;
+        checker.check(&case, &outcome);
+        tally.add(&case, &outcome);
+    }
+    (tally, checker.checked)
+}
+
 impl Tally {
     pub fn add(&mut self, case: &Case, outcome: &Outcome) {
-        let row = KINDS.iter().position(|&k| k == case.kind()).expect("a known kind");
+        let row = row(case.kind());
         let number = match outcome {
             Outcome::Refused(r) | Outcome::StageRefused(r) => r.number.into(),
             _ => 0,
@@ -54,17 +75,22 @@ impl Tally {
         self.refused.iter().map(|row| row[number]).sum()
     }
 
+    pub fn refusals_of(&self, kind: u8, number: usize) -> usize {
+        self.refused[row(kind)][number]
+    }
+
     pub fn report(&self) -> String {
         let mut out = String::new();
         let mut line = |text: String| writeln!(out, "{text}").expect("a string takes all");
         line(format!("{} cases", self.cases()));
-        line(format!("{:>9}{:>7}{:>7}{:>7}{:>7}{:>7}{:>7}", "", "Q", "A", "S", "W", "R", "all"));
+        let kinds: String = KINDS.iter().map(|&kind| format!("{:>7}", char::from(kind))).collect();
+        line(format!("{:>9}{kinds}{:>7}", "", "all"));
         for number in 0..14 {
             let name = if number == 0 { "accepted".to_string() } else { format!("refused {number}") };
-            let by_kind: String = (0..5).map(|k| format!("{:>7}", self.refused[k][number])).collect();
+            let by_kind: String = self.refused.iter().map(|row| format!("{:>7}", row[number])).collect();
             line(format!("{name:<10}{}{:>7}", &by_kind[1..], self.refusals(number)));
         }
-        let totals: String = (0..5).map(|k| format!("{:>7}", self.refused[k].iter().sum::<usize>())).collect();
+        let totals: String = self.refused.iter().map(|row| format!("{:>7}", row.iter().sum::<usize>())).collect();
         line(format!("{:<9}{totals}{:>7}", "all", self.cases()));
         line(format!("audits: fits {} differs {}", self.fits, self.differs));
         line(format!("searches: best {} stopped {}", self.best, self.stopped));

@@ -1,11 +1,12 @@
 -- Laws of text put into a buffer: one text after another, and text at its start.
 use Rattle.base.proofs.Tabulate.{sets-append}
-use Prim.Native.Nat.{ℕ, _+_, _≤_}
+use Prim.Native.Nat.{ℕ, _+_, _<_, _≤_}
 use mathlib.Core.Path.{_≡_, refl}
 use mathlib.Core.List.{List, [], _++_}
+use native.Mathlib.Numerals.{add-one}
 use native.Mathlib.Omega.{arith}
-use lib.ListN.{length, length-append}
-use lib.Seq.{sets}
+use lib.ListN.{length, getD, set, take, length-append}
+use lib.Seq.{sets, take-suc}
 use Rattle.base.specs.Inner.Put.{Put, PutWithin}
 
 -- no text
@@ -19,7 +20,12 @@ put-then {l} {b} {c} {x} {y} {at} {next} {r} p q =
       past = omega (arith, p .past, q .past, length-append x y);
     }
 
--- the same with bounds on what is put
+-- one byte more of a text
+pub put-next : (l b c xs : List ℕ) (at i : ℕ) → Put l at (take i xs) b (at + i) → c ≡ set b (at + i) (getD xs i 0) → i < length xs
+    → Put l at (take (i + 1) xs) c (at + (i + 1))
+put-next l b c xs at i p e h = rw (add-one i, take-suc xs i 0 h) (put-then p (record { stored = e; past = omega arith }))
+
+-- two texts, with bounds on what is put
 pub puts : {l b c x y : List ℕ} {at next r j k : ℕ} → PutWithin j l at x b next → PutWithin k b next y c r → PutWithin (j + k) l at (x ++ y) c r
 puts p q = record { put = put-then (p .put) (q .put); short = omega (arith, p .short, q .short) }
 

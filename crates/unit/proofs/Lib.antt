@@ -9,3 +9,4 @@ pub mod Told
 pub mod Forming
 pub mod Rivals
 pub mod Rows
+pub mod Alike

@@ -51,12 +51,12 @@ same-gate : (k a b : ℕ) (g : LogicGate) → k ≡ g .kind → a ≡ g .left �
 same-gate k a b g e l r = rw (e, l, r)
 
 module _ (cs : List Command) (s : Sound cs) where
-  gate-is : (i : ℕ) → i < length (gatesOf cs) → gateOf (gathered cs) i ≡ gateAt i cs
+  pub gate-is : (i : ℕ) → i < length (gatesOf cs) → gateOf (gathered cs) i ≡ gateAt i cs
   gate-is i h =
       let b : i < maxGates = lt-of-lt-of-le h (s .gates .few) in
       same-gate _ _ _ (gateAt i cs) (kind-field cs i b) (left-field cs i b) (right-field cs i b)
 
-  placed-all : Placed (gathered cs)
+  pub placed-all : Placed (gathered cs)
   placed-all =
       record {
         few-inputs = rw (inputs-field cs) (s .sizes .n-most);

@@ -5,7 +5,7 @@ use sheet::Command;
 ghost use mathlib.Core.Path.{_≡_};
 ghost use Prim.Native.Nat.{_+_, _/_, _%_, _<_, _≤_};
 ghost use lib.ListN.{length, take};
-ghost use Rattle.base.specs.Inner.Put.{Put, placeRange};
+ghost use Rattle.base.specs.Inner.Put.{PutWithin, placeRange};
 ghost use Rattle.sheet.specs.Bytes.{commandBytes, longestCommand};
 
 // No command has more bytes than this.
@@ -31,7 +31,7 @@ fn high_byte(w: u16) -> u8
 
 // The bytes of a command.
 fn encode(c: Command) -> Encoded
-    ensures { λ r. ⌜ (take (r .length) (r .bytes) ≡ commandBytes c) × (r .length ≤ longestCommand) ⌝ }
+    ensures { λ r. ⌜ (take (r .length) (r .bytes) ≡ commandBytes c) × (r .length ≡ length (commandBytes c)) × (r .length ≤ longestCommand) ⌝ }
 {
     match c {
         Command::End => Encoded {
@@ -68,7 +68,7 @@ fn encode(c: Command) -> Encoded
 // Puts a command, and hands back the place after it. Bytes that find no room are dropped.
 pub fn put_command(out: &mut [u8], at: usize, c: Command) -> usize
     requires { ⌜ at + length (commandBytes c) < placeRange ⌝ }
-    ensures { λ r. ⌜ Put (now (out .entry)) at (commandBytes c) (now (out .exit)) r ⌝ }
+    ensures { λ r. ⌜ PutWithin longestCommand (now (out .entry)) at (commandBytes c) (now (out .exit)) r ⌝ }
 {
     let encoded = encode(c);
     let bytes = encoded.bytes;

@@ -1,6 +1,7 @@
 //! What the cases are drawn from.
 
 pub mod damage;
+pub mod limits;
 pub mod relations;
 pub mod sheet_faults;
 pub mod sheets;

@@ -2,7 +2,7 @@
 
 use super::{sizes, Commands};
 use crate::random::Random;
-use crate::sheet::{all_values, Gate, Unit};
+use crate::sheet::{all_values, Gate, Unit, MOST_GATES, MOST_OUTPUTS};
 use crate::unit::{answer, gate};
 
 /// What is to be said, before an order is chosen.
@@ -44,6 +44,18 @@ pub fn hard_draft_of(rng: &mut Random, n: u8, m: u8) -> Draft {
     }
     it.limits = limits(rng, &it);
     it
+}
+
+/// As much as a sheet can say: a value and a limit for each pattern of four
+/// inputs, and no gate or output more.
+pub fn longest_draft(rng: &mut Random) -> Draft {
+    let m = rng.within(1, 4) as u8;
+    let gates = gates(rng, m, MOST_GATES, MOST_GATES, &ALL);
+    let made = m + gates.len() as u8;
+    let outputs = (0..MOST_OUTPUTS).map(|_| signal(rng, made)).collect();
+    let rows = (0..16).map(|_| Some(rng.below(1 << m) as u8)).collect();
+    let limits = (0..16).map(|p| (p, all_values(m.into()) & !(1 << rng.below(1 << m)))).collect();
+    Draft { n: 4, m, gates, outputs, rows, limits }
 }
 
 type SecondStage = (Vec<[u8; 3]>, Vec<u8>);

@@ -1,10 +1,9 @@
+-- `encode` meets its contract: in each arm the command is the one matched.
+use mathlib.Core.Path.{refl}
+use native.Mathlib.Omega.{arith}
 use borrow.Author.Needs.{needs}
 use Rattle.writer.proofs.encode.Statement.{statement}
 use Rattle.writer.proofs.encode.Tie as tie
-use Rattle.writer.proofs.encode.Reads as reads
-use Rattle.writer.proofs.encode.Lts as lts
-use Rattle.writer.proofs.high_byte.Reads as high-byte-reads
-use Rattle.writer.proofs.low_byte.Reads as low-byte-reads
 
 enum-told : tie.Need-enum-told
 enum-told c = search needs
@@ -37,22 +36,23 @@ returns : tie.Need-returns
 returns c = search needs
 
 returns-2 : tie.Need-returns-2
-returns-2 c = ?
+returns-2 c = rw (c .before .c .given .1) (refl, refl, omega arith)
 
 returns-3 : tie.Need-returns-3
-returns-3 c = ?
+returns-3 c = rw (c .before .c2 .given .1) (refl, refl, omega arith)
 
 returns-4 : tie.Need-returns-4
-returns-4 c = ?
+returns-4 c = rw (c .before .c3 .given .1) (refl, refl, omega arith)
 
 returns-5 : tie.Need-returns-5
-returns-5 c = ?
+returns-5 c = rw (c .before .c4 .given .1) (refl, refl, omega arith)
 
 returns-6 : tie.Need-returns-6
-returns-6 c = ?
+returns-6 c = rw (c .before .c5 .given .1) (refl, refl, omega arith)
 
 returns-7 : tie.Need-returns-7
-returns-7 c = ?
+returns-7 c =
+    rw (c .before .before .before .c6 .given .1, ← c .before .low-byte .ensures, ← c .high-byte .ensures) (refl, refl, omega arith)
 
 pub encode-spec : {M : Type 1} → statement M
 encode-spec =

@@ -1,48 +1,62 @@
+-- `put_command` meets its contract. The loop's invariant: the bytes passed are put.
+use Prim.Native.Nat.{_+_, _-_, _≤_}
+use mathlib.Core.Path.{_≡_, refl, ap, _∙_}
+use native.Mathlib.Omega.{arith}
+use borrow.Author.Needs.{needs}
+use lib.ListN.{length as count, take}
+use Rattle.base.specs.Inner.Put.{Put}
+use Rattle.base.proofs.Stores.{put-next}
 use Rattle.writer.proofs.put_command.Statement.{statement}
 use Rattle.writer.proofs.put_command.Tie as tie
-use Rattle.writer.proofs.put_command.Reads as reads
-use Rattle.writer.proofs.put_command.Lts as lts
-use Rattle.base.proofs.put.Reads as put-reads
-use Rattle.writer.proofs.encode.Reads as encode-reads
 
 abbrev Inv-loop : tie.InvT-loop
-Inv-loop out₀ at bytes length i₀ out i = ?
+Inv-loop out₀ at bytes length i₀ out i = (i ≤ length) × (count out ≡ count out₀) × Put out₀ at (take i bytes) out (at + i)
 
 abbrev μ-loop : tie.MeasureT-loop
-μ-loop out₀ at bytes length i₀ out i = ?
+μ-loop out₀ at bytes length i₀ out i = length - i
 
 encode-requires : tie.Need-encode-requires Inv-loop μ-loop
-encode-requires c κs = ?
+encode-requires c κs = search needs
 
 loop-holds : tie.Need-loop-holds Inv-loop μ-loop
-loop-holds c = ?
+loop-holds c = (omega arith, refl, record { stored = refl; past = refl })
 
 add-put : tie.Need-add-put Inv-loop μ-loop
-add-put c = ?
+add-put c = omega arith
 
 array-read-put : tie.Need-array-read-put Inv-loop μ-loop
-array-read-put c = ?
+array-read-put c = omega arith
 
 put-requires : tie.Need-put-requires Inv-loop μ-loop
-put-requires c κs = ?
+put-requires c κs = search needs
 
 add-i : tie.Need-add-i Inv-loop μ-loop
-add-i c = ?
+add-i c = omega arith
 
 loop-less : tie.Need-loop-less Inv-loop μ-loop
-loop-less c = ?
+loop-less c = omega arith
 
 loop-again : tie.Need-loop-again Inv-loop μ-loop
-loop-again c = ?
+loop-again c =
+    let p = c .before .before in
+    let l = p .before .before .before .loop in
+    let e = p .before .before .before .before .before .encode in
+    let a = p .before .before .before .before .before .before .before .args in
+    let k : count (e .result .bytes) ≡ 4 = search needs in
+    (omega arith, p .put .kept .0 ∙ l .inv .1, put-next _ _ _ (e .result .bytes) (a .at) (l .i) (l .inv .2) (p .put .ensures) (omega arith))
 
 add-result : tie.Need-add-result Inv-loop μ-loop
-add-result c = ?
+add-result c = omega arith
 
 same-length : tie.Need-same-length Inv-loop μ-loop
-same-length c = ?
+same-length c = c .before .loop .inv .1
 
 returns : tie.Need-returns Inv-loop μ-loop
-returns c = ?
+returns c =
+    let l = c .before .loop in
+    let e = c .before .before .before .encode in
+    let whole : l .i ≡ e .result .length = omega arith in
+    record { put = rw (← e .ensures .0, ← whole) (l .inv .2); short = omega arith }
 
 pub put-command-spec : {M : Type 1} → statement M
 put-command-spec =

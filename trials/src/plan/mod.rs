@@ -1,4 +1,8 @@
-//! All cases, in order: the bench rows, then what is drawn from the seed.
+//! All cases, in order: the bench rows, then what is drawn from the seed. What
+//! a request of document 02 adds comes behind what was there before it, so that
+//! earlier cases stay as they are.
+
+mod clean;
 
 use crate::case::Case;
 use crate::draw::damage::damage;
@@ -60,6 +64,7 @@ pub fn cases() -> Vec<Case> {
     many(WRITES, &mut Planner::write);
     many(READS, &mut Planner::read);
     many(FAULTY_READS, &mut Planner::faulty_read);
+    cases.extend(clean::cases(&mut planner));
     cases
 }
 
@@ -107,20 +112,25 @@ impl Planner {
         budget
     }
 
-    /// A buffer length around the need.
+    /// A buffer length around a stage's.
     fn room(&mut self, need: usize) -> u8 {
+        self.room_around(need, 196, 255) as u8
+    }
+
+    /// A buffer length around the need; `longest` is the longest need there is.
+    fn room_around(&mut self, need: usize, longest: usize, most: usize) -> usize {
         let rng = &mut self.rng;
         let room = match rng.below(12) {
-            0..=3 => 255,
+            0..=3 => most,
             4 | 5 => need,
             6 => need - 1,
             7 => need + 1,
             8 => rng.within(need.saturating_sub(4), need + 4),
             9 => rng.below(need),
-            10 => rng.within(need, 255),
-            _ => rng.of(&[0, 1, need / 2, 196]),
+            10 => rng.within(need, most),
+            _ => rng.of(&[0, 1, need / 2, longest]),
         };
-        room.min(255) as u8
+        room.min(most)
     }
 
     // Quotes.
@@ -207,8 +217,17 @@ impl Planner {
         }
     }
 
+    /// A sheet with faults, or commands without a plan.
+    fn any_faulty_sheet(&mut self) -> Vec<u8> {
+        if self.rng.once_in(12) {
+            soup(&mut self.rng)
+        } else {
+            self.faulty_sheet()
+        }
+    }
+
     fn faulty_quote(&mut self) -> Case {
-        let sheet = if self.rng.once_in(12) { soup(&mut self.rng) } else { self.faulty_sheet() };
+        let sheet = self.any_faulty_sheet();
         self.quote_of(sheet)
     }
 
@@ -438,27 +457,23 @@ impl Planner {
 mod tests {
     use super::*;
     use crate::case::read_records;
-    use crate::check::Checker;
-    use crate::pick::Picker;
-    use crate::tally::Tally;
+    use crate::tally::tallied;
 
-    /// Every case is held against the second solver; there are enough cases,
-    /// and enough of every refusal.
+    /// Every case holds; there are enough cases, and enough of every refusal
+    /// that the calls have.
     #[test]
     fn every_case_holds() {
-        let mut picker = Picker::new();
-        let mut checker = Checker::default();
-        let mut tally = Tally::default();
-        for case in cases() {
-            let outcome = case.reply(&mut picker).outcome;
-            checker.check(&case, &outcome);
-            tally.add(&case, &outcome);
-        }
+        let (tally, checked) = tallied();
         assert!(tally.cases() >= 20_000);
         for number in 0..14 {
             assert!(tally.refusals(number) >= 100, "refusal {number}: {}", tally.refusals(number));
         }
-        assert!(checker.checked.held > 5_000);
+        for number in 0..14 {
+            let met = tally.refusals_of(b'C', number);
+            let is_its_own = !matches!(number, 10 | 11 | 13);
+            assert!(if is_its_own { met >= 50 } else { met == 0 }, "refusal {number} of a clean copy: {met}");
+        }
+        assert!(checked.held > 5_000 && checked.copies > 1_500);
     }
 
     #[test]
