@@ -24,9 +24,9 @@ extern "C" {
 /* The numbers of a reply, by index. */
 enum {
     DAGMETZI_OUTCOME = 0, /* one of the outcomes below */
-    DAGMETZI_CELLS = 1,   /* cells of the stage: found, written, or audited */
-    DAGMETZI_FLOOR = 2,   /* no stage has fewer cells than this; 0 in an audit */
-    DAGMETZI_VISITS = 3,  /* parts expanded by the search, at most the budget; 0 in an audit */
+    DAGMETZI_CELLS = 1,   /* cells of the stage: found, written, or audited; 0 for a copy */
+    DAGMETZI_FLOOR = 2,   /* no stage has fewer cells than this; 0 in an audit and for a copy */
+    DAGMETZI_VISITS = 3,  /* parts expanded by the search, at most the budget; 0 in an audit and for a copy */
     DAGMETZI_LENGTH = 4,  /* bytes written at the start of `buffer`; 0 in a search and in an audit */
     DAGMETZI_PLACE = 5,   /* the place that a refusal names */
     DAGMETZI_NUMBERS = 6
@@ -38,6 +38,7 @@ enum {
     DAGMETZI_STOPPED = 1,      /* search, quote: the budget was used up first */
     DAGMETZI_FITS = 0,         /* audit: the stage keeps to the sheet */
     DAGMETZI_DIFFERS = 1,      /* audit: on some pattern it does not */
+    DAGMETZI_WRITTEN = 0,      /* clean: the copy was written */
     DAGMETZI_REFUSED = 2,      /* the sheet, the relation or the buffer is refused */
     DAGMETZI_STAGE_REFUSED = 3 /* audit: the stage is refused */
 };
@@ -55,7 +56,7 @@ enum {
     DAGMETZI_MISSING_ROW = 9,    /* a pattern with no value that is not impossible; place: the lowest */
     DAGMETZI_EMPTY = 10,         /* no value is left for a pattern; place: the lowest */
     DAGMETZI_NOT_ASCENDING = 11, /* a selector input that is not above its parent's */
-    DAGMETZI_SHORT_BUFFER = 12,  /* the buffer is shorter than the stage; place: the length needed */
+    DAGMETZI_SHORT_BUFFER = 12,  /* the buffer is shorter than the stage or the copy; place: the length needed */
     DAGMETZI_SIZES_DIFFER = 13   /* audit: the stage has another n or m than the sheet; place 0 */
 };
 
@@ -63,8 +64,9 @@ enum {
 #define DAGMETZI_PATTERNS 16
 #define DAGMETZI_WIRES 4
 
-/* No stage has more bytes than this: a buffer of this length is never too short. */
+/* No stage has more bytes than this, and no copy of a sheet more than that: a buffer of this length is never too short. */
 #define DAGMETZI_LONGEST_STAGE 196
+#define DAGMETZI_LONGEST_COPY 260
 
 /* The smallest stage of a unit sheet, or the best found under the budget, written at the start of `buffer`; later bytes
  * stay. */
@@ -81,6 +83,12 @@ uint32_t dagmetzi_audit(const uint8_t *sheet, size_t sheet_length, const uint8_t
  * as it was. */
 uint32_t dagmetzi_search(uint8_t n, uint8_t m, const uint16_t sets[DAGMETZI_PATTERNS], uint32_t budget,
                          uint16_t tables[DAGMETZI_WIRES], uint64_t reply[DAGMETZI_NUMBERS]);
+
+/* The clean copy of a unit sheet, written at the start of `buffer`; later bytes stay. It says what the sheet says, in one
+ * order: two sheets that say the same have the same copy, and a copy is its own copy. A sheet on which no stage is
+ * possible (10 in a quote) is copied like any other. */
+uint32_t dagmetzi_clean(const uint8_t *sheet, size_t sheet_length, uint8_t *buffer, size_t buffer_length,
+                        uint64_t reply[DAGMETZI_NUMBERS]);
 
 #ifdef __cplusplus
 }

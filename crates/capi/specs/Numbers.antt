@@ -7,7 +7,7 @@ use Rattle.base.specs.Cases.{Case, isRefused}
 use Rattle.branch_bound.specs.Reply.{SearchReply, searchOf}
 use Rattle.quote.specs.Cases.{QuoteReply}
 
--- outcome, cells, floor, visits, length of the stage, place of the refusal
+-- outcome, cells, floor, visits, length of what was written, place of the refusal
 abbrev pub quoteNumbers : QuoteReply → List ℕ
 quoteNumbers q = q .mark .outcome ∷ q .cells ∷ q .floor ∷ q .visits ∷ q .length ∷ q .mark .place ∷ []
 
@@ -26,3 +26,7 @@ searchHanded n m sets budget = searchOf (record { n = n; m = m; sets = sets }) b
 -- the tables lent, after a search: a refusal leaves them as they were
 abbrev pub tablesAfter : SearchReply → List ℕ → List ℕ
 tablesAfter a lent = cond (isRefused (a .mark)) lent (a .tables)
+
+-- the value of a copy is its length
+abbrev pub copyNumbers : Case → List ℕ
+copyNumbers c = c .outcome ∷ 0 ∷ 0 ∷ 0 ∷ c .value ∷ c .place ∷ []

@@ -1,4 +1,5 @@
-// The library for C and Rust: the search, the quote and the audit over numbers and slices. `include/dagmetzi.h` declares what is exported here.
+// The library for C and Rust: the search, the quote, the audit and clean copies over numbers and slices. `include/dagmetzi.h` declares what is exported here.
+use clean::clean;
 use quote::audit;
 use quote::quote;
 use relation::Relation;
@@ -7,17 +8,21 @@ use sheet::Sheet;
 use told::audit_told;
 use told::audited_cells;
 use told::mark_told;
+use told::written_length;
+use told::written_told;
 ghost use mathlib.Core.Path.{_≡_};
 ghost use lib.ListN.{length};
 ghost use Rattle.stage.specs.Trees.{treeDrawing};
 ghost use Rattle.quote.specs.Quote.{quotedOf, bufferQuoted};
 ghost use Rattle.quote.specs.Promised.{Promised};
 ghost use Rattle.quote.specs.Audit.{auditedOf};
-ghost use Rattle.capi.specs.Numbers.{quoteNumbers, searchHanded, searchNumbers, tablesAfter, auditNumbers};
+ghost use Rattle.clean.specs.Cleaned.{cleanedOf, bufferCleaned};
+ghost use Rattle.clean.specs.CleanCopy.{Cleaned};
+ghost use Rattle.capi.specs.Numbers.{quoteNumbers, searchHanded, searchNumbers, tablesAfter, auditNumbers, copyNumbers};
 
 mod told; // a case of an answer as numbers
 
-// The numbers of a reply: outcome, cells, floor, visits, length of the stage, place of the refusal; 0 where a call has no such number.
+// The numbers of a reply: outcome, cells, floor, visits, length of what was written, place of the refusal; 0 where a call has no such number.
 pub const REPLY_NUMBERS: usize = 6;
 
 // The search of a relation: `sets` has the sets of values of its patterns. The refusal's number, or 0; a refusal leaves `tables` as they were.
@@ -95,5 +100,24 @@ pub extern "C" fn dagmetzi_audit(
     let told = audit_told(audited);
     let cells = audited_cells(audited);
     *reply = [told.outcome, cells as u64, 0, 0, 0, told.place];
+    told.number
+}
+
+// The clean copy of a unit sheet, written at the start of `buffer`. The refusal's number, or 0; a refusal leaves `buffer` as it was.
+#[no_mangle]
+pub extern "C" fn dagmetzi_clean(
+    sheet: &[u8],
+    buffer: &mut [u8],
+    reply: &mut [u64; REPLY_NUMBERS],
+) -> u32
+    ensures refusal { λ r. ⌜ r ≡ cleanedOf (now (sheet .entry)) (length (now (buffer .entry))) .number ⌝ }
+    ensures numbers { λ _. ⌜ now (reply .exit) ≡ copyNumbers (cleanedOf (now (sheet .entry)) (length (now (buffer .entry)))) ⌝ }
+    ensures bytes { λ _. ⌜ now (buffer .exit) ≡ bufferCleaned (now (sheet .entry)) (now (buffer .entry)) ⌝ }
+    ensures copy { λ _. ⌜ Cleaned (now (sheet .entry)) (cleanedOf (now (sheet .entry)) (length (now (buffer .entry)))) (now (buffer .exit)) ⌝ }
+{
+    let written = clean(sheet, buffer);
+    let told = written_told(written);
+    let length = written_length(written);
+    *reply = [told.outcome, 0, 0, 0, length as u64, told.place];
     told.number
 }

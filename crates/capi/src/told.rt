@@ -1,14 +1,15 @@
 // A case of an answer as numbers: its outcome, and the number and the place of its refusal, 0 where nothing is refused.
 use base::Refusal;
+use base::Written;
 use quote::Audited;
 use search::Mark;
 ghost use mathlib.Core.Path.{_≡_};
-ghost use Rattle.base.specs.Cases.{accepting, refusing};
+ghost use Rattle.base.specs.Cases.{accepting, refusing, writtenCase};
 ghost use Rattle.search.specs.Cases.{markCase};
 ghost use Rattle.quote.specs.Cases.{auditedCase};
 ghost use Rattle.capi.specs.Inner.Told.{told};
 
-// Outcomes of a search and of a quote, of an audit, and of a refusal.
+// Outcomes of a search and of a quote, of an audit, of a copy, and of a refusal.
 const BEST: u64 = 0;
 
 const STOPPED: u64 = 1;
@@ -16,6 +17,8 @@ const STOPPED: u64 = 1;
 const FITS: u64 = 0;
 
 const DIFFERS: u64 = 1;
+
+const WRITTEN: u64 = 0;
 
 pub const REFUSED: u64 = 2;
 
@@ -77,5 +80,24 @@ pub fn audited_cells(audited: Audited) -> u32
         Audited::Differs(cells) => cells,
         Audited::SheetRefused(_) => 0,
         Audited::StageRefused(_) => 0,
+    }
+}
+
+pub fn written_told(written: Written) -> Told
+    ensures { λ r. ⌜ r ≡ told (writtenCase written) ⌝ }
+{
+    match written {
+        Written::Length(_) => tell(WRITTEN),
+        Written::Refused(refusal) => tell_refusal(REFUSED, refusal),
+    }
+}
+
+// The length of what was written, 0 where it was refused.
+pub fn written_length(written: Written) -> usize
+    ensures { λ r. ⌜ r ≡ writtenCase written .value ⌝ }
+{
+    match written {
+        Written::Length(length) => length,
+        Written::Refused(_) => 0,
     }
 }

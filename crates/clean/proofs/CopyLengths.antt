@@ -1,6 +1,6 @@
 -- The length of a copy, by its parts.
 use Prim.Native.Nat.{ℕ, zero, suc, _+_, _*_, _^_, _≤_}
-use mathlib.Core.Path.{_≡_, refl, sym, ap, subst, _∙_}
+use mathlib.Core.Path.{_≡_, refl, sym, ap, ap₂, subst, _∙_}
 use mathlib.Core.Bool.{cond}
 use mathlib.Core.List.{List, [], _∷_, _++_}
 use native.Mathlib.Omega.{arith}
@@ -43,12 +43,6 @@ markBytes marks p = cond (eqb (getD marks p 0) dontCareMark) 2 3
 
 abbrev pub limitBytes : List ℕ → ℕ → ℕ → ℕ
 limitBytes limits all p = cond (eqb (getD limits p 0) all) 0 4
-
-pub mark-most : (marks : List ℕ) (p : ℕ) → markBytes marks p ≤ 3
-mark-most marks p = cond-has (λ k. k ≤ 3) (eqb (getD marks p 0) dontCareMark) (λ _. omega arith) (λ _. omega arith)
-
-pub limit-most : (limits : List ℕ) (all p : ℕ) → limitBytes limits all p ≤ 4
-limit-most limits all p = cond-has (λ k. k ≤ 4) (eqb (getD limits p 0) all) (λ _. omega arith) (λ _. omega arith)
 
 -- the bytes counted so far, besides those of the patterns: before the first pattern, and with one more
 pub count-none : (base : ℕ) (f g : ℕ → ℕ) → base ≡ base + sum 0 f + sum 0 g
@@ -101,8 +95,8 @@ module _ (h : Sheet) where
       omega (
         arith,
         patterns,
-        sum-bound (2 ^ h .n) 3 (markLength h) (λ p _. mark-most (h .marks) p),
-        sum-bound (2 ^ h .n) 4 (limitLength h) (λ p _. limit-most (h .limits) (allOnes (h .m)) p),
+        sum-bound (2 ^ h .n) 3 (markLength h) (λ p _. cond-has (λ k. k ≤ 3) (isImpossible h p) (λ _. omega arith) (λ _. omega arith)),
+        sum-bound (2 ^ h .n) 4 (limitLength h) (λ p _. cond-has (λ k. k ≤ 4) (permitsAll h p) (λ _. omega arith) (λ _. omega arith)),
         l .few-gates,
         l .few-outputs,
       )
@@ -113,5 +107,7 @@ module _ (h : Sheet) where
       → (counted ≡ length (copyBytes h)) × (counted ≤ longestCopy)
   unfolding copyLength
   count-all l counted p all e f c =
-      let whole : counted ≡ copyLength h = rw (e, f) at c ∙ omega arith in
+      let marks : sum p (markBytes (h .marks)) ≡ sum (2 ^ h .n) (markLength h) = ap (λ k. sum k (markBytes (h .marks))) e in
+      let limits : sum p (limitBytes (h .limits) all) ≡ sum (2 ^ h .n) (limitLength h) = ap₂ (λ k w. sum k (limitBytes (h .limits) w)) e f in
+      let whole : counted ≡ copyLength h = omega (arith, c, marks, limits) in
       (whole ∙ sym copy-length, subst (λ k. k ≤ longestCopy) (sym whole) (copy-short l))

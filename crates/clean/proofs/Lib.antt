@@ -5,4 +5,3 @@ pub mod ReadingCopies
 pub mod CopyLengths
 pub mod Storing
 pub mod Promises
-pub mod Rows

@@ -93,7 +93,7 @@ module _ (sheet : List ℕ) (cs : List Command) (e : readingOf sheet ≡ holds c
 -- 10 is neither a refusal of reading nor 12
 never-ten : (sheet : List ℕ) (room : ℕ) (x : Reading) → readingOf sheet ≡ x → cleanedFrom x room .number ≡ empty → ⊥
 unfolding cleanedFrom
-never-ten sheet room (refused f) e q = omega (arith, reading-early sheet f e, q)
+never-ten sheet room (refused f) e q = let told : f .number ≡ empty = q in omega (arith, reading-early sheet f e, told)
 never-ten sheet room (holds cs) e q =
     cond-has (λ (c : Case). c .number ≡ empty → ⊥) (ltb room (length (copyBytes (gathered cs)))) (λ _. short-is-other) (λ _. none-is-other) q
   where

@@ -7,7 +7,7 @@ use Rattle.base.proofs.Tests.{cond-has}
 use Rattle.sheet.specs.declared.Command.{Command}
 use Rattle.sheet.specs.declared.Command.the-variants.{Sizes, Row, DontCare, Limit}
 use Rattle.sheet.specs.declared.Sheet.{Sheet}
-use Rattle.sheet.specs.Commands.{collect, rowIn, dontCareIn, limitIn, gateIn, outputIn, rowsOn, dontCaresOn, limitsOn, gatesOf, outputsOf, LogicGate}
+use Rattle.sheet.specs.Commands.{collect, about, rowIn, dontCareIn, limitIn, gateIn, outputIn, rowsOn, dontCaresOn, limitsOn, gatesOf, outputsOf, LogicGate}
 use Rattle.sheet.proofs.Lists.{about-other}
 use Rattle.unit.proofs.Placed.{gateOf}
 use Rattle.clean.specs.Copy.{listed, isImpossible, permitsAll, copyMark, copyLimit, copyGate, copyOutput}
@@ -41,11 +41,11 @@ module _ (h : Sheet) where
   mark-silent : {A : Type 0} (says : Command → List A) → ((p v : ℕ) → says (Row p v) ≡ []) → ((p : ℕ) → says (DontCare p) ≡ []) → (p : ℕ)
       → collect says (copyMark h p) ≡ []
   unfolding collect
-  mark-silent says r d p = cond-has (λ cs. collect says cs ≡ []) (isImpossible h p) (λ _. rw (d p)) (λ _. rw (r p (getD (h .values) p 0)))
+  mark-silent says r d p = cond-has (λ cs. collect says cs ≡ []) (isImpossible h p) (λ _. simp d) (λ _. simp r)
 
   limit-silent : {A : Type 0} (says : Command → List A) → ((p w : ℕ) → says (Limit p w) ≡ []) → (p : ℕ) → collect says (copyLimit h p) ≡ []
   unfolding collect
-  limit-silent says l p = cond-has (λ cs. collect says cs ≡ []) (permitsAll h p) (λ _. refl) (λ _. rw (l p (getD (h .limits) p 0)))
+  limit-silent says l p = cond-has (λ cs. collect says cs ≡ []) (permitsAll h p) (λ _. refl) (λ _. simp l)
 
   -- the gates and the outputs
   pub gates-wired : (k : ℕ) → gatesOf (wired k) ≡ gatesHeld k
@@ -101,15 +101,19 @@ module _ (h : Sheet) where
   unfolding collect
   limits-led p k = by-limits (limitIn p) k (λ _. refl) (λ _. refl) refl (mark-silent (limitIn p) (λ _ _. refl) (λ _. refl))
 
-  -- a mark says nothing of another pattern, nor does a limit
-  pub row-other : (p q : ℕ) → (q ≡ p → ⊥) → collect (rowIn p) (copyMark h q) ≡ []
-  unfolding collect
-  row-other p q e = cond-has (λ cs. collect (rowIn p) cs ≡ []) (isImpossible h q) (λ _. refl) (λ _. rw (about-other p q (getD (h .values) q 0) e))
+-- a mark says nothing of another pattern, nor does a limit
+module _ (h : Sheet) (p q : ℕ) (e : q ≡ p → ⊥) where
+  about-silent : {A : Type 0} (x : A) → about p q x ++ [] ≡ []
+  about-silent x = rw (about-other p q x e)
 
-  pub dont-care-other : (p q : ℕ) → (q ≡ p → ⊥) → collect (dontCareIn p) (copyMark h q) ≡ []
+  pub row-other : collect (rowIn p) (copyMark h q) ≡ []
   unfolding collect
-  dont-care-other p q e = cond-has (λ cs. collect (dontCareIn p) cs ≡ []) (isImpossible h q) (λ _. rw (about-other p q q e)) (λ _. refl)
+  row-other = cond-has (λ cs. collect (rowIn p) cs ≡ []) (isImpossible h q) (λ _. refl) (λ _. about-silent _)
 
-  pub limit-other : (p q : ℕ) → (q ≡ p → ⊥) → collect (limitIn p) (copyLimit h q) ≡ []
+  pub dont-care-other : collect (dontCareIn p) (copyMark h q) ≡ []
   unfolding collect
-  limit-other p q e = cond-has (λ cs. collect (limitIn p) cs ≡ []) (permitsAll h q) (λ _. refl) (λ _. rw (about-other p q (getD (h .limits) q 0) e))
+  dont-care-other = cond-has (λ cs. collect (dontCareIn p) cs ≡ []) (isImpossible h q) (λ _. about-silent _) (λ _. refl)
+
+  pub limit-other : collect (limitIn p) (copyLimit h q) ≡ []
+  unfolding collect
+  limit-other = cond-has (λ cs. collect (limitIn p) cs ≡ []) (permitsAll h q) (λ _. refl) (λ _. about-silent _)

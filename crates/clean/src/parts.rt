@@ -56,7 +56,8 @@ fn put_limit(out: &mut [u8], at: usize, sheet: Sheet, p: u8) -> usize
 {
     let limits = sheet.limits;
     let set = set_at(limits, p as usize);
-    if set == all_ones(sheet.m) {
+    let all = all_ones(sheet.m);
+    if set == all {
         return at;
     }
     put_command(out, at, Command::Limit { p, set })

@@ -58,10 +58,14 @@ fn encode(c: Command) -> Encoded
             bytes: [0x05, s, 0, 0],
             length: 2,
         },
-        Command::Limit { p, set } => Encoded {
-            bytes: [0x06, p, low_byte(set), high_byte(set)],
-            length: 4,
-        },
+        Command::Limit { p, set } => {
+            let low = low_byte(set);
+            let high = high_byte(set);
+            Encoded {
+                bytes: [0x06, p, low, high],
+                length: 4,
+            }
+        }
     }
 }
 

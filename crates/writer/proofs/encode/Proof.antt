@@ -33,7 +33,7 @@ high-byte-requires : tie.Need-high-byte-requires
 high-byte-requires c κs = search needs
 
 returns : tie.Need-returns
-returns c = search needs
+returns c = rw (c .enum-told .given .1) (refl, refl, omega arith)
 
 returns-2 : tie.Need-returns-2
 returns-2 c = rw (c .before .c .given .1) (refl, refl, omega arith)

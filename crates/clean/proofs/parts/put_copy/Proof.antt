@@ -1,6 +1,10 @@
 -- `put_copy` meets its contract: the parts are put one after the other.
 use native.Mathlib.Omega.{arith}
+use Rattle.base.specs.Inner.Put.{Put}
+use Rattle.sheet.specs.declared.Command.the-variants.{Sizes}
+use Rattle.sheet.specs.Bytes.{commandBytes, bytesOf}
 use Rattle.unit.proofs.Placed.{placed}
+use Rattle.clean.specs.Copy.{listed, copyMark, copyLimit, copyGate, copyOutput}
 use Rattle.clean.proofs.Storing.{copy-put}
 use borrow.Author.Needs.{needs}
 use Rattle.clean.proofs.parts.put_copy.Statement.{statement}
@@ -72,9 +76,22 @@ returns c =
     let sizes = marks .before .before .before .before in
     let s = sizes .before .before .before .before in
     let patterns = sizes .before .before .patterns-of in
-    copy-put (s .args .sheet) (patterns .result) (patterns .ensures .2 (placed (s .pre) .few-inputs)) (sizes .put-command .ensures .put)
-    (marks .put-part .ensures .put) (limits .put-part2 .ensures .put) (gates .put-part3 .ensures .put) (outputs .put-part4 .ensures .put)
-    (end .put-command2 .ensures .put)
+    let h = s .args .sheet in
+    let first : Put (s .args .out .now) 0 (commandBytes (Sizes (h .n) (h .m))) (sizes .put-command .last .0) (sizes .put-command .result) =
+    sizes .put-command .ensures .put in
+    let second : Put (sizes .put-command .last .0) (sizes .put-command .result) (bytesOf (listed (patterns .result) (copyMark h))) (marks .put-part .last .0)
+    (marks .put-part .result) =
+    marks .put-part .ensures .put in
+    let third : Put (marks .put-part .last .0) (marks .put-part .result) (bytesOf (listed (patterns .result) (copyLimit h))) (limits .put-part2 .last .0)
+    (limits .put-part2 .result) =
+    limits .put-part2 .ensures .put in
+    let fourth : Put (limits .put-part2 .last .0) (limits .put-part2 .result) (bytesOf (listed (h .«gate_count») (copyGate h))) (gates .put-part3 .last .0)
+    (gates .put-part3 .result) =
+    gates .put-part3 .ensures .put in
+    let fifth : Put (gates .put-part3 .last .0) (gates .put-part3 .result) (bytesOf (listed (h .«output_count») (copyOutput h))) (outputs .put-part4 .last .0)
+    (outputs .put-part4 .result) =
+    outputs .put-part4 .ensures .put in
+    copy-put h (patterns .result) (patterns .ensures .2 (placed (s .pre) .few-inputs)) first second third fourth fifth (end .put-command2 .ensures .put)
 
 pub put-copy-spec : {M : Type 1} → statement M
 put-copy-spec =

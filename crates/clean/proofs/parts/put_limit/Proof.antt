@@ -1,3 +1,4 @@
+use mathlib.Core.Path.{_≡_}
 use native.Mathlib.Omega.{arith}
 use borrow.Author.Tests.{eq-eqb, ne-eqb}
 use Rattle.base.proofs.Stores.{put-none}
@@ -14,8 +15,10 @@ all-ones-requires c κs = search needs
 
 returns : tie.Need-returns
 returns c =
-    simp (← c .before .before .set-at .ensures, ← c .before .all-ones .ensures, eq-eqb _ _ (c .if1 .taken), no-command)
-    (record { put = put-none; short = omega arith })
+    let set = c .before .before .set-at in
+    let all = c .before .all-ones in
+    let same : set .result ≡ all .result = c .if1 .taken in
+    simp (← set .ensures, ← all .ensures, eq-eqb _ _ same, no-command) (record { put = put-none; short = omega arith })
 
 put-command-requires : tie.Need-put-command-requires
 put-command-requires c κs = search needs
@@ -25,8 +28,11 @@ same-length c = search needs
 
 returns-2 : tie.Need-returns-2
 returns-2 c =
-    simp (← c .before .before .before .before .before .before .set-at .ensures, ← c .before .before .before .before .before .all-ones .ensures, ne-eqb _ _ (c .before .before .before .before .if1 .left), one-command)
-    (c .before .before .put-command .ensures)
+    let test = c .before .before .before .before in
+    let set = test .before .before .set-at in
+    let all = test .before .all-ones in
+    let other : set .result ≡ all .result → ⊥ = test .if1 .left in
+    simp (← set .ensures, ← all .ensures, ne-eqb _ _ other, one-command) (c .before .before .put-command .ensures)
 
 pub put-limit-spec : {M : Type 1} → statement M
 put-limit-spec =

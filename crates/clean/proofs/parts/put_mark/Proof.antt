@@ -1,3 +1,5 @@
+use mathlib.Core.Path.{_≡_}
+use Rattle.sheet.specs.Gathered.{dontCareMark}
 use borrow.Author.Tests.{eq-eqb, ne-eqb}
 use Rattle.clean.proofs.Storing.{one-command}
 use borrow.Author.Needs.{needs}
@@ -17,7 +19,11 @@ same-length : tie.Need-same-length
 same-length c = search needs
 
 returns : tie.Need-returns
-returns c = simp (← c .before .before .before .before .before .byte-at .ensures, eq-eqb _ _ (c .before .before .before .before .if1 .taken), one-command) (c .before .before .put-command .ensures)
+returns c =
+    let test = c .before .before .before .before in
+    let mark = test .before .byte-at in
+    let impossible : mark .result ≡ dontCareMark = test .if1 .taken in
+    simp (← mark .ensures, eq-eqb _ _ impossible, one-command) (c .before .before .put-command .ensures)
 
 slice-aggregate-byte-at-2 : tie.Need-slice-aggregate-byte-at-2
 slice-aggregate-byte-at-2 c = search needs
@@ -33,8 +39,11 @@ same-length-2 c = search needs
 
 returns-2 : tie.Need-returns-2
 returns-2 c =
-    simp (← c .before .before .before .before .before .before .before .before .byte-at .ensures, ne-eqb _ _ (c .before .before .before .before .before .before .before .if1 .left), one-command, ← c .before .before .before .before .byte-at2 .ensures)
-    (c .before .before .put-command2 .ensures)
+    let value = c .before .before .before .before in
+    let test = value .before .before .before in
+    let mark = test .before .byte-at in
+    let possible : mark .result ≡ dontCareMark → ⊥ = test .if1 .left in
+    simp (← mark .ensures, ne-eqb _ _ possible, one-command, ← value .byte-at2 .ensures) (c .before .before .put-command2 .ensures)
 
 pub put-mark-spec : {M : Type 1} → statement M
 put-mark-spec =
