@@ -1,6 +1,7 @@
 //! The rows of the tables: what is timed together. Each reply is compared once, before the timing.
 
 use crate::timing::{columns, Timing};
+use trials::clean::{self, LONGEST_COPY};
 use trials::{fast, relation, stage};
 
 /// The budget of the program.
@@ -55,28 +56,42 @@ fn compared_search(n: u8, m: u8, sets: &[u16; 16]) -> u64 {
     told.visits
 }
 
-/// Quotes of sheets of n inputs and m wires.
-pub struct Quotes {
+/// What is made of a sheet at the start of a buffer: its length.
+type Call = fn(&[u8], &mut [u8]) -> u64;
+
+/// Quotes or clean copies of sheets of n inputs and m wires.
+pub struct Sheets {
     size: (u8, u8),
     drawn: Vec<Vec<u8>>,
+    library: Call,
+    rust: Call,
     whole: Timing,
 }
 
-impl Quotes {
-    pub fn new(size: (u8, u8), drawn: Vec<Vec<u8>>) -> Quotes {
+impl Sheets {
+    pub fn quotes(size: (u8, u8), drawn: Vec<Vec<u8>>) -> Sheets {
+        Sheets::new(size, drawn, |sheet, buffer| bench::quote(sheet, BUDGET, buffer).length, rust_quote)
+    }
+
+    pub fn copies(size: (u8, u8), drawn: Vec<Vec<u8>>) -> Sheets {
+        Sheets::new(size, drawn, |sheet, buffer| bench::clean(sheet, buffer).length, rust_copy)
+    }
+
+    fn new(size: (u8, u8), drawn: Vec<Vec<u8>>, library: Call, rust: Call) -> Sheets {
         for sheet in &drawn {
-            let (mut ours, mut theirs) = ([0; 196], [0; 196]);
-            let lengths = (bench::quote(sheet, BUDGET, &mut ours).length, rust_quote(sheet, &mut theirs));
-            assert!(lengths.0 == lengths.1 && ours == theirs, "the two quotes differ on {sheet:?}");
+            let (mut ours, mut theirs) = ([0; LONGEST_COPY], [0; LONGEST_COPY]);
+            let lengths = (library(sheet, &mut ours), rust(sheet, &mut theirs));
+            assert!(lengths.0 == lengths.1 && ours == theirs, "the two sides differ on {sheet:?}");
         }
-        Quotes { size, drawn, whole: Timing::new() }
+        Sheets { size, drawn, library, rust, whole: Timing::new() }
     }
 
     pub fn round(&mut self) {
+        let (library, rust) = (self.library, self.rust);
         self.whole.round(
             &self.drawn,
-            |sheet| bench::quote(sheet, BUDGET, &mut [0; 196]).length,
-            |sheet| rust_quote(sheet, &mut [0; 196]),
+            |sheet| library(sheet, &mut [0; LONGEST_COPY]),
+            |sheet| rust(sheet, &mut [0; LONGEST_COPY]),
         );
     }
 
@@ -92,4 +107,9 @@ fn rust_quote(sheet: &[u8], buffer: &mut [u8]) -> u64 {
     let r = relation::of_unit(&unit).expect("drawn to be well defined");
     let answer = fast::search(r.n, &r.sets, BUDGET);
     stage::write(r.n as u8, r.m as u8, &answer.tables, buffer).expect("long enough") as u64
+}
+
+/// The reader and the copy of the trials.
+fn rust_copy(sheet: &[u8], buffer: &mut [u8]) -> u64 {
+    clean::clean(sheet, buffer).expect("drawn to be read") as u64
 }
