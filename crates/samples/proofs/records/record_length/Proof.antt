@@ -45,6 +45,15 @@ length-at-requires-4 c κs = search needs
 add-result-4 : tie.Need-add-result-4
 add-result-4 c = search needs
 
+add-length-at-5 : tie.Need-add-length-at-5
+add-length-at-5 c = search needs
+
+length-at-requires-5 : tie.Need-length-at-requires-5
+length-at-requires-5 c κs = search needs
+
+add-result-5 : tie.Need-add-result-5
+add-result-5 c = search needs
+
 returns : tie.Need-returns
 unfolding recordLength
 returns c =
@@ -81,6 +90,15 @@ returns-5 c =
 returns-6 : tie.Need-returns-6
 unfolding recordLength
 returns-6 c =
+    let l = c .length-at5 .ensures in (
+      simp (← c .before .before .byte-at .ensures, c .before .match .keys6) (omega (arith, l .0)),
+      omega arith,
+      omega (arith, l .1),
+    )
+
+returns-7 : tie.Need-returns-7
+unfolding recordLength
+returns-7 c =
     let r = c .match .rest in (
       simp (
         ← c .before .byte-at .ensures,
@@ -89,6 +107,7 @@ returns-6 c =
         ne-eqb _ _ (r .0 .0 .1),
         ne-eqb _ _ (r .0 .0 .0 .1),
         ne-eqb _ _ (r .0 .0 .0 .0 .1),
+        ne-eqb _ _ (r .0 .0 .0 .0 .0 .1),
       ),
       omega arith,
       omega arith,
@@ -111,9 +130,13 @@ record-length-spec =
     add-length-at-4
     length-at-requires-4
     add-result-4
+    add-length-at-5
+    length-at-requires-5
+    add-result-5
     returns
     returns-2
     returns-3
     returns-4
     returns-5
-    returns-6)
+    returns-6
+    returns-7)
