@@ -67,17 +67,21 @@ fn print_copy(sheet: &[u8]) {
     print(&out[..printed]);
 }
 
+// Prints what a word says of a sheet that is read already.
+fn print_word(word: Word, sheet: &[u8]) {
+    match word {
+        Word::Audit => print_audit(sheet),
+        Word::Clean => print_copy(sheet),
+    }
+}
+
 // Reads the sheet that the second argument names, and prints what a word says of it.
 fn print_of_sheet(word: Word) {
     let mut sheet = [0u8; SHEET_ROOM];
     let input = read_named(2, &mut sheet);
-    if !input.is_read {
-        return;
-    }
-    let length = input.length;
-    match word {
-        Word::Audit => print_audit(&sheet[..length]),
-        Word::Clean => print_copy(&sheet[..length]),
+    if input.is_read {
+        let length = input.length;
+        print_word(word, &sheet[..length]);
     }
 }
 

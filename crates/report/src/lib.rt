@@ -1,5 +1,6 @@
 // What the program prints for a reply of the quote, of the audit and of the clean copy, as bytes in a lent buffer. Each call puts its lines at the start of
-// the buffer and hands back the length of them. Bytes that find no room are dropped, and a length above the buffer's says so; what stands behind the lines is left as it was.
+// the buffer and hands back the length of them. Bytes that find no room are dropped, and a length above the buffer's says so; what stands behind the lines is
+// left as it was.
 use base::Written;
 use clean::LONGEST_COPY;
 use lines::put_judged;

@@ -1,10 +1,18 @@
 -- `record_length` meets its contract: each arm is the case of `recordLength` for its kind.
+use Prim.Native.Nat.{ℕ, _+_, _≤_}
+use mathlib.Core.Path.{_≡_}
 use native.Mathlib.Omega.{arith}
 use borrow.Author.Needs.{needs}
 use borrow.Author.Tests.{ne-eqb}
+use Rattle.samples.specs.Inner.Lengths.{longestPart, longestRecord}
 use Rattle.samples.specs.Inner.Records.{recordLength}
 use Rattle.samples.proofs.records.record_length.Statement.{statement}
 use Rattle.samples.proofs.records.record_length.Tie as tie
+
+-- a head of so many bytes, and a part of the length that is told
+parted : {length two : ℕ} (head part : ℕ) → 1 ≤ head → head ≤ 8 → length ≡ head + two → (part ≡ two) × (part ≤ longestPart)
+    → (head + part ≡ length) × (1 ≤ head + part) × (head + part ≤ longestRecord)
+parted head part low high e l = (omega arith, omega arith, omega arith)
 
 byte-at-requires : tie.Need-byte-at-requires
 byte-at-requires c κs = search needs
@@ -56,9 +64,7 @@ add-result-5 c = search needs
 
 returns : tie.Need-returns
 unfolding recordLength
-returns c =
-    let l = c .length-at .ensures in
-    (simp (← c .before .before .byte-at .ensures, c .before .match .keys1) (omega (arith, l .0)), omega arith, omega (arith, l .1))
+returns c = parted _ _ (omega arith) (omega arith) (simp (← c .before .before .byte-at .ensures, c .before .match .keys1)) (c .length-at .ensures)
 
 returns-2 : tie.Need-returns-2
 unfolding recordLength
@@ -80,21 +86,11 @@ returns-4 c = (simp (← c .before .byte-at .ensures, c .match .keys4), omega ar
 
 returns-5 : tie.Need-returns-5
 unfolding recordLength
-returns-5 c =
-    let l = c .length-at4 .ensures in (
-      simp (← c .before .before .byte-at .ensures, c .before .match .keys5) (omega (arith, l .0)),
-      omega arith,
-      omega (arith, l .1),
-    )
+returns-5 c = parted _ _ (omega arith) (omega arith) (simp (← c .before .before .byte-at .ensures, c .before .match .keys5)) (c .length-at4 .ensures)
 
 returns-6 : tie.Need-returns-6
 unfolding recordLength
-returns-6 c =
-    let l = c .length-at5 .ensures in (
-      simp (← c .before .before .byte-at .ensures, c .before .match .keys6) (omega (arith, l .0)),
-      omega arith,
-      omega (arith, l .1),
-    )
+returns-6 c = parted _ _ (omega arith) (omega arith) (simp (← c .before .before .byte-at .ensures, c .before .match .keys6)) (c .length-at5 .ensures)
 
 returns-7 : tie.Need-returns-7
 unfolding recordLength
