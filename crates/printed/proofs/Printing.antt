@@ -7,7 +7,7 @@ use native.Mathlib.Omega.{arith}
 use borrow.Author.Tests.{lt-ltb, le-ltb}
 use lib.ListN.{length, take}
 use lib.Dec.{ltb, ltb→lt, nltb→le}
-use lib.Seq.{sets, take-all, length-take-le}
+use lib.Seq.{take-all, length-take-le}
 use Rattle.base.specs.Cases.{Case, refusing, refusedOutcome, refusedCase}
 use Rattle.base.specs.Refusals.{refusalAt, tooLong}
 use Rattle.base.proofs.Tests.{decide}
@@ -18,13 +18,8 @@ use Rattle.quote.specs.Inner.Refused.{refusedQuote}
 use Rattle.quote.specs.Quote.{bufferQuoted}
 use Rattle.quote.specs.Audit.{auditedFrom, auditedOf}
 use Rattle.clean.specs.Cleaned.{cleanedOf, bufferCleaned}
-use Rattle.report.specs.Lines.{Printed, sheetText, linesOf, auditLine, copyLine}
+use Rattle.report.specs.Lines.{sheetText, linesOf, auditLine, copyLine}
 use Rattle.printed.specs.Printed.{longestSheet, budget, lentStage, lentCopy, tooLongLine, quoted, printedOf, auditPrintedOf, cleanPrintedOf}
-
--- a report of one text is that of any other that is the same
-pub printed : {most : ℕ} {text other : List ℕ} (before after : List ℕ) (r : ℕ) → text ≡ other → Printed most text before after r
-    → Printed most other before after r
-printed before after r e p = (p .0 ∙ ap length e, p .1 ∙ ap (sets before 0) e, p .2)
 
 module _ (sheet : List ℕ) where
   pub quote-too-long : (q : QuoteReply) (stage : List ℕ) → q ≡ refusedQuote (refusalAt tooLong longestSheet) → longestSheet < length sheet

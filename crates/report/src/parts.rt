@@ -42,8 +42,8 @@ pub fn put_shown_line(out: &mut [u8], at: usize, bytes: &[u8], k: usize, most: u
     requires { ⌜ at + longestShown most ≤ lastPlace ⌝ }
     ensures { λ r. ⌜ PutWithin (longestShown most) (now (out .entry)) at (shownLine most k (now (bytes .entry))) (now (out .exit)) r ⌝ }
 {
-    let end = put_shown_pairs(out, at, bytes, k, most);
-    put_byte(out, end, b'\n')
+    let next = put_shown_pairs(out, at, bytes, k, most);
+    put_byte(out, next, b'\n')
 }
 
 // Puts a refusal: "refused N at P".

@@ -1,7 +1,8 @@
 -- `clean_reply` meets its contract: the sheet is too long, or its copy says it.
 use mathlib.Core.Path.{ap}
 use Rattle.base.specs.Cases.{refusedCase}
-use Rattle.printed.proofs.Printing.{printed, clean-too-long, clean-line}
+use Rattle.report.proofs.Reports.{printed}
+use Rattle.printed.proofs.Printing.{clean-too-long, clean-line}
 use borrow.Author.Needs.{needs}
 use Rattle.printed.proofs.clean_reply.Statement.{statement}
 use Rattle.printed.proofs.clean_reply.Tie as tie
@@ -23,7 +24,7 @@ returns c =
     let t = c .before .before .before .before .before in
     let a = t .before .before .before .before .args in
     let e = clean-too-long (a .sheet .now) _ _ (ap refusedCase (t .too-long .ensures)) (t .before .if1 .taken) in
-    printed _ _ _ e (c .before .before .report-copy .ensures)
+    printed _ _ _ (c .before .before .report-copy .ensures) e
 
 slice-aggregate-clean : tie.Need-slice-aggregate-clean
 slice-aggregate-clean c = search needs
@@ -46,7 +47,7 @@ returns-2 c =
     let a = t .before .before .before .before .before .args in
     let w = t .clean .ensures in
     let e = clean-line (a .sheet .now) _ _ (w .0) (w .1 .0) (t .before .before .if1 .left) in
-    printed _ _ _ e (c .before .before .report-copy2 .ensures)
+    printed _ _ _ (c .before .before .report-copy2 .ensures) e
 
 pub clean-reply-spec : {M : Type 1} → statement M
 clean-reply-spec =

@@ -1,7 +1,6 @@
 -- `report_copy` meets its contract: the line by the case of the reply.
 use native.Mathlib.Omega.{arith}
-use Rattle.report.specs.Lines.{copyLine}
-use Rattle.base.proofs.Stores.{put-start}
+use Rattle.report.proofs.Reports.{reported, copy-written, copy-refused}
 use borrow.Author.Needs.{needs}
 use Rattle.report.proofs.report_copy.Statement.{statement}
 use Rattle.report.proofs.report_copy.Tie as tie
@@ -25,15 +24,19 @@ same-length : tie.Need-same-length
 same-length c = search needs
 
 returns : tie.Need-returns
-unfolding copyLine
-returns c = let p = c .before .before in rw (p .before .before .before .written .given .1) (put-start (p .put-shown-line .ensures) (omega arith))
+returns c =
+    let w = c .before .before .before .before .before in
+    let e = copy-written (w .before .before .before .before .args .copy .now) (w .written .given .1) in
+    reported (c .before .before .put-shown-line .ensures) (omega arith) e
 
 same-length-2 : tie.Need-same-length-2
 same-length-2 c = search needs
 
 returns-2 : tie.Need-returns-2
-unfolding copyLine
-returns-2 c = let p = c .before .before in rw (p .before .before .before .before .written2 .given .1) (put-start (p .put-refusal-line .ensures) (omega arith))
+returns-2 c =
+    let w = c .before .before .before .before .before .before in
+    let e = copy-refused (w .before .before .before .before .args .copy .now) (w .written2 .given .1) in
+    reported (c .before .before .put-refusal-line .ensures) (omega arith) e
 
 pub report-copy-spec : {M : Type 1} → statement M
 report-copy-spec =

@@ -10,9 +10,9 @@ use Rattle.samples.proofs.records.record_length.Statement.{statement}
 use Rattle.samples.proofs.records.record_length.Tie as tie
 
 -- a head of so many bytes, and a part of the length that is told
-parted : {length two : ℕ} (head part : ℕ) → 1 ≤ head → head ≤ 8 → length ≡ head + two → (part ≡ two) × (part ≤ longestPart)
+told : {length part two : ℕ} (head : ℕ) → 1 ≤ head → head ≤ 8 → (part ≡ two) × (part ≤ longestPart) → length ≡ head + two
     → (head + part ≡ length) × (1 ≤ head + part) × (head + part ≤ longestRecord)
-parted head part low high e l = (omega arith, omega arith, omega arith)
+told head low high l e = (omega arith, omega arith, omega arith)
 
 byte-at-requires : tie.Need-byte-at-requires
 byte-at-requires c κs = search needs
@@ -64,7 +64,7 @@ add-result-5 c = search needs
 
 returns : tie.Need-returns
 unfolding recordLength
-returns c = parted _ _ (omega arith) (omega arith) (simp (← c .before .before .byte-at .ensures, c .before .match .keys1)) (c .length-at .ensures)
+returns c = told _ (omega arith) (omega arith) (c .length-at .ensures) (simp (← c .before .before .byte-at .ensures, c .before .match .keys1) (omega arith))
 
 returns-2 : tie.Need-returns-2
 unfolding recordLength
@@ -86,11 +86,11 @@ returns-4 c = (simp (← c .before .byte-at .ensures, c .match .keys4), omega ar
 
 returns-5 : tie.Need-returns-5
 unfolding recordLength
-returns-5 c = parted _ _ (omega arith) (omega arith) (simp (← c .before .before .byte-at .ensures, c .before .match .keys5)) (c .length-at4 .ensures)
+returns-5 c = told _ (omega arith) (omega arith) (c .length-at4 .ensures) (simp (← c .before .before .byte-at .ensures, c .before .match .keys5) (omega arith))
 
 returns-6 : tie.Need-returns-6
 unfolding recordLength
-returns-6 c = parted _ _ (omega arith) (omega arith) (simp (← c .before .before .byte-at .ensures, c .before .match .keys6)) (c .length-at5 .ensures)
+returns-6 c = told _ (omega arith) (omega arith) (c .length-at5 .ensures) (simp (← c .before .before .byte-at .ensures, c .before .match .keys6) (omega arith))
 
 returns-7 : tie.Need-returns-7
 unfolding recordLength
