@@ -61,7 +61,7 @@ pub fn audit_reply(sheet: &[u8], stage: &[u8], out: &mut [u8]) -> usize
     report::report_audit(audited, out)
 }
 
-// The line for a sheet that is to be cleaned.
+// The line for a sheet that is to be cleaned (document 02, E1).
 pub fn clean_reply(sheet: &[u8], out: &mut [u8]) -> usize
     ensures { λ r. ⌜ Printed longestCopyLine (cleanPrintedOf (now (sheet .entry))) (now (out .entry)) (now (out .exit)) r ⌝ }
 {

@@ -117,15 +117,15 @@ abbrev pub longestPairs : ℕ → ℕ
 longestPairs most = 3 * most
 
 -- with the end of their line
-abbrev pub longestShown : ℕ → ℕ
-longestShown most = longestPairs most + 1
+abbrev pub longestShownLine : ℕ → ℕ
+longestShownLine most = longestPairs most + 1
 
 abbrev pub longestReport : ℕ
-longestReport = longestCounts + longestWord + longestShown longestStage
+longestReport = longestCounts + longestWord + longestShownLine longestStage
 
 -- the line of a copy, which is above that of any refusal
 abbrev pub longestCopyLine : ℕ
-longestCopyLine = longestShown longestCopy
+longestCopyLine = longestShownLine longestCopy
 
 -- what a report of at most so many bytes leaves in the buffer: its text at the start, all else as it was; its length is handed back
 abbrev pub Printed : (most : ℕ) (text before after : List ℕ) → ℕ → Type 0

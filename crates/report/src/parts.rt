@@ -9,7 +9,8 @@ ghost use mathlib.Core.Path.{_≡_};
 ghost use Prim.Native.Nat.{_+_, _≤_, min};
 ghost use lib.ListN.{length};
 ghost use Rattle.base.specs.Inner.Put.{PutWithin, lastPlace};
-ghost use Rattle.report.specs.Lines.{longestCounts, longestPairs, longestShown, longestWord, countsOf, shownPairs, shownLine, refusalText, refusalLine};
+ghost use Rattle.report.specs.Lines.{longestCounts, longestPairs, longestShownLine, longestWord};
+ghost use Rattle.report.specs.Lines.{countsOf, shownPairs, shownLine, refusalText, refusalLine};
 ghost use Rattle.report.specs.Inner.Lengths.{longestRefusal, longestRefusalLine};
 
 // Puts the counts of a reply: "cells C floor F visits V".
@@ -39,8 +40,8 @@ pub fn put_shown_pairs(out: &mut [u8], at: usize, bytes: &[u8], k: usize, most: 
 
 // Puts their line.
 pub fn put_shown_line(out: &mut [u8], at: usize, bytes: &[u8], k: usize, most: usize) -> usize
-    requires { ⌜ at + longestShown most ≤ lastPlace ⌝ }
-    ensures { λ r. ⌜ PutWithin (longestShown most) (now (out .entry)) at (shownLine most k (now (bytes .entry))) (now (out .exit)) r ⌝ }
+    requires { ⌜ at + longestShownLine most ≤ lastPlace ⌝ }
+    ensures { λ r. ⌜ PutWithin (longestShownLine most) (now (out .entry)) at (shownLine most k (now (bytes .entry))) (now (out .exit)) r ⌝ }
 {
     let next = put_shown_pairs(out, at, bytes, k, most);
     put_byte(out, next, b'\n')
