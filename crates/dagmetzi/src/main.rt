@@ -12,8 +12,14 @@ mod words; // what each word does
 fn do_word(word: &[u8], count: usize) {
     if same(word, b"audit") {
         words::audit(count);
+    } else if same(word, b"clean") {
+        words::clean(count);
     } else {
-        messages::advise(b"unknown word ", word, b": try audit SHEET STAGE");
+        messages::advise(
+            b"unknown word ",
+            word,
+            b": try audit SHEET STAGE or clean SHEET",
+        );
     }
 }
 

@@ -57,7 +57,7 @@ pub fn fail(what: &[u8], name: &[u8]) {
     os::fail(&line[..length]);
 }
 
-// Says what is wrong with a word, and what to write: "dagmetzi: unknown word WORD: try audit SHEET STAGE".
+// Says what is wrong with a word, and what to write: "dagmetzi: wrong number of names for clean: try clean SHEET".
 pub fn advise(what: &[u8], word: &[u8], advice: &[u8]) {
     let mut line = [0u8; LONGEST_LINE];
     let length = begin(&mut line, what, word);

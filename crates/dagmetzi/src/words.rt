@@ -8,16 +8,24 @@ use libc::STDIN_FILENO;
 use libc::STDOUT_FILENO;
 use printed::LONGEST_SHEET;
 use printed::audit_reply;
+use printed::clean_reply;
 use printed::quote_reply;
+use report::LONGEST_COPY_LINE;
 use report::LONGEST_REPORT;
 use stage::LONGEST_STAGE;
 
-// One byte more than the longest sheet is enough to tell one that is too long (printed/proofs/Printing, `quote-front`, `audit-front`).
+// One byte more than the longest sheet is enough to tell one that is too long (printed/proofs/Printing, `quote-front`, `audit-front`, `clean-front`).
 const SHEET_ROOM: usize = LONGEST_SHEET + 1;
 
 // Of a stage's file the front is read. Reading a stage looks at no byte past the one after the longest stage, so that the bytes left out change nothing of the
 // reply (printed/proofs/Printing, `stage-front`).
 const STAGE_ROOM: usize = LONGEST_STAGE + 1;
+
+// The words whose first name is a sheet's.
+enum Word {
+    Audit,
+    Clean,
+}
 
 // Prints a reply.
 fn print(text: &[u8]) {
@@ -52,20 +60,50 @@ fn print_audit(sheet: &[u8]) {
     print(&out[..printed]);
 }
 
-// audit SHEET STAGE: whether the stage keeps to the sheet, and its cells.
-pub fn audit(count: usize) {
-    if count != 2 {
-        messages::advise(
-            b"wrong number of names for ",
-            b"audit",
-            b": try audit SHEET STAGE",
-        );
-        return;
+// Prints the clean copy of a sheet that is read already.
+fn print_copy(sheet: &[u8]) {
+    let mut out = [0u8; LONGEST_COPY_LINE];
+    let printed = clean_reply(sheet, &mut out);
+    print(&out[..printed]);
+}
+
+// Prints what a word says of a sheet that is read already.
+fn print_word(word: Word, sheet: &[u8]) {
+    match word {
+        Word::Audit => print_audit(sheet),
+        Word::Clean => print_copy(sheet),
     }
+}
+
+// Reads the sheet that the second argument names, and prints what a word says of it.
+fn print_of_sheet(word: Word) {
     let mut sheet = [0u8; SHEET_ROOM];
     let input = read_named(2, &mut sheet);
     if input.is_read {
         let length = input.length;
-        print_audit(&sheet[..length]);
+        print_word(word, &sheet[..length]);
+    }
+}
+
+// Whether there are as many names as a word takes. Where there are not, that is said, with what to write.
+fn has_names(count: usize, taken: usize, word: &[u8], advice: &[u8]) -> bool {
+    if count == taken {
+        return true;
+    }
+    messages::advise(b"wrong number of names for ", word, advice);
+    false
+}
+
+// audit SHEET STAGE: whether the stage keeps to the sheet, and its cells.
+pub fn audit(count: usize) {
+    if has_names(count, 2, b"audit", b": try audit SHEET STAGE") {
+        print_of_sheet(Word::Audit);
+    }
+}
+
+// clean SHEET: the sheet's clean copy (document 02, E1).
+pub fn clean(count: usize) {
+    if has_names(count, 1, b"clean", b": try clean SHEET") {
+        print_of_sheet(Word::Clean);
     }
 }

@@ -7,8 +7,8 @@ use native.Mathlib.Omega.{arith}
 use borrow.Author.Tests.{lt-ltb, le-ltb}
 use lib.ListN.{length, take}
 use lib.Dec.{ltb, ltb→lt, nltb→le}
-use lib.Seq.{sets, take-all, length-take-le}
-use Rattle.base.specs.Cases.{Case, refusing, refusedOutcome}
+use lib.Seq.{take-all, length-take-le}
+use Rattle.base.specs.Cases.{Case, refusing, refusedOutcome, refusedCase}
 use Rattle.base.specs.Refusals.{refusalAt, tooLong}
 use Rattle.base.proofs.Tests.{decide}
 use Rattle.stage.specs.Bytes.{longestStage}
@@ -17,12 +17,9 @@ use Rattle.quote.specs.Cases.{QuoteReply}
 use Rattle.quote.specs.Inner.Refused.{refusedQuote}
 use Rattle.quote.specs.Quote.{bufferQuoted}
 use Rattle.quote.specs.Audit.{auditedFrom, auditedOf}
-use Rattle.report.specs.Lines.{Printed, sheetText, linesOf, auditLine}
-use Rattle.printed.specs.Printed.{longestSheet, budget, lent, tooLongLine, quoted, printedOf, auditPrintedOf}
-
--- a report of one text is that of any other that is the same
-pub printed : {text other : List ℕ} (before after : List ℕ) (r : ℕ) → text ≡ other → Printed text before after r → Printed other before after r
-printed before after r e p = (p .0 ∙ ap length e, p .1 ∙ ap (sets before 0) e, p .2)
+use Rattle.clean.specs.Cleaned.{cleanedOf, bufferCleaned}
+use Rattle.report.specs.Lines.{sheetText, linesOf, auditLine, copyLine}
+use Rattle.printed.specs.Printed.{longestSheet, budget, lentStage, lentCopy, tooLongLine, quoted, printedOf, auditPrintedOf, cleanPrintedOf}
 
 module _ (sheet : List ℕ) where
   pub quote-too-long : (q : QuoteReply) (stage : List ℕ) → q ≡ refusedQuote (refusalAt tooLong longestSheet) → longestSheet < length sheet
@@ -30,7 +27,7 @@ module _ (sheet : List ℕ) where
   unfolding linesOf printedOf
   quote-too-long q stage e l = rw (e, lt-ltb longestSheet (length sheet) l)
 
-  pub quote-lines : (q : QuoteReply) (stage : List ℕ) → q ≡ quoted sheet → stage ≡ bufferQuoted sheet budget lent → length sheet ≤ longestSheet
+  pub quote-lines : (q : QuoteReply) (stage : List ℕ) → q ≡ quoted sheet → stage ≡ bufferQuoted sheet budget lentStage → length sheet ≤ longestSheet
       → linesOf q stage ≡ printedOf sheet
   unfolding printedOf
   quote-lines q stage eq es l = ap₂ linesOf eq es ∙ sym (rw (le-ltb longestSheet (length sheet) l))
@@ -43,6 +40,16 @@ module _ (sheet : List ℕ) where
   pub audit-line : (c : Case) (stage : List ℕ) → c ≡ auditedOf sheet stage → length sheet ≤ longestSheet → auditLine c ≡ auditPrintedOf sheet stage
   unfolding auditPrintedOf
   audit-line c stage e l = ap auditLine e ∙ sym (rw (le-ltb longestSheet (length sheet) l))
+
+  pub clean-too-long : (c : Case) (copy : List ℕ) → c ≡ refusedCase (refusalAt tooLong longestSheet) → longestSheet < length sheet
+      → copyLine c copy ≡ cleanPrintedOf sheet
+  unfolding copyLine cleanPrintedOf
+  clean-too-long c copy e l = rw (e, lt-ltb longestSheet (length sheet) l)
+
+  pub clean-line : (c : Case) (copy : List ℕ) → c ≡ cleanedOf sheet (length lentCopy) → copy ≡ bufferCleaned sheet lentCopy → length sheet ≤ longestSheet
+      → copyLine c copy ≡ cleanPrintedOf sheet
+  unfolding cleanPrintedOf
+  clean-line c copy ec eb l = ap₂ copyLine ec eb ∙ sym (rw (le-ltb longestSheet (length sheet) l))
 
   -- what the program reads of a file is enough: of a stage, one byte more than the longest has
   pub stage-front : (stage : List ℕ) → auditPrintedOf sheet (take (longestStage + 1) stage) ≡ auditPrintedOf sheet stage
@@ -69,3 +76,7 @@ quote-front sheet = sheet-front sheet printedOf (tooLongLine []) (λ s l. rw (lt
 pub audit-front : (sheet stage : List ℕ) → auditPrintedOf (take (longestSheet + 1) sheet) stage ≡ auditPrintedOf sheet stage
 unfolding auditPrintedOf
 audit-front sheet stage = sheet-front sheet (λ s. auditPrintedOf s stage) (tooLongLine sheetText) (λ s l. rw (lt-ltb longestSheet (length s) l))
+
+pub clean-front : (sheet : List ℕ) → cleanPrintedOf (take (longestSheet + 1) sheet) ≡ cleanPrintedOf sheet
+unfolding cleanPrintedOf
+clean-front sheet = sheet-front sheet cleanPrintedOf (tooLongLine []) (λ s l. rw (lt-ltb longestSheet (length s) l))

@@ -1,4 +1,4 @@
--- Document 01, "Quote, audit, program": what the program prints for a sheet, and for a sheet and a stage.
+-- Document 01, "Quote, audit, program": what the program prints for a sheet, and for a sheet and a stage. Document 02, E1: for a sheet that is to be cleaned.
 use Prim.Native.Nat.{ℕ}
 use mathlib.Core.Bool.{Bool, cond}
 use mathlib.Core.List.{List, []}
@@ -9,7 +9,9 @@ use Rattle.quote.specs.Cases.{QuoteReply}
 use Rattle.quote.specs.Quote.{quotedOf, bufferQuoted}
 use Rattle.quote.specs.Audit.{auditedOf}
 use Rattle.stage.specs.Bytes.{longestStage}
-use Rattle.report.specs.Lines.{sheetText, refusalLine, linesOf, auditLine}
+use Rattle.clean.specs.Copy.{longestCopy}
+use Rattle.clean.specs.Cleaned.{cleanedOf, bufferCleaned}
+use Rattle.report.specs.Lines.{sheetText, refusalLine, linesOf, auditLine, copyLine}
 
 -- the most bytes that the program takes as a sheet
 abbrev pub longestSheet : ℕ
@@ -19,9 +21,12 @@ longestSheet = 4096
 abbrev pub budget : ℕ
 budget = 10000
 
--- the buffer that the program lends to the quote: room for the longest stage
-abbrev pub lent : List ℕ
-lent = replicate longestStage 0
+-- the buffers that the program lends: to the quote with room for the longest stage, and for a copy with room for the longest
+abbrev pub lentStage : List ℕ
+lentStage = replicate longestStage 0
+
+abbrev pub lentCopy : List ℕ
+lentCopy = replicate longestCopy 0
 
 -- Document 01, "Refusals", 14: the program's own, told from the length alone
 abbrev pub isTooLong : List ℕ → Bool
@@ -33,12 +38,12 @@ tooLongLine whose = refusalLine whose tooLong longestSheet
 
 -- the reply of the quote to a sheet, in the numbers of its cases
 abbrev pub quoted : List ℕ → QuoteReply
-quoted sheet = quotedOf sheet budget (length lent)
+quoted sheet = quotedOf sheet budget (length lentStage)
 
 -- the lines for a sheet
 unfoldable pub printedOf : List ℕ → List ℕ
 printedOf sheet =
-    let lines = linesOf (quoted sheet) (bufferQuoted sheet budget lent) in
+    let lines = linesOf (quoted sheet) (bufferQuoted sheet budget lentStage) in
     cond (isTooLong sheet) (tooLongLine []) lines
 
 -- the line for a sheet and a stage
@@ -46,3 +51,9 @@ unfoldable pub auditPrintedOf : List ℕ → List ℕ → List ℕ
 auditPrintedOf sheet stage =
     let line = auditLine (auditedOf sheet stage) in
     cond (isTooLong sheet) (tooLongLine sheetText) line
+
+-- the line for a sheet that is to be cleaned: its copy
+unfoldable pub cleanPrintedOf : List ℕ → List ℕ
+cleanPrintedOf sheet =
+    let line = copyLine (cleanedOf sheet (length lentCopy)) (bufferCleaned sheet lentCopy) in
+    cond (isTooLong sheet) (tooLongLine []) line

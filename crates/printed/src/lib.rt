@@ -1,5 +1,7 @@
 // What the program prints, as bytes at the start of a lent buffer: a function for each word, each with the length of what it put.
 use base::Refusal;
+use base::Written;
+use clean::LONGEST_COPY;
 use quote::Audited;
 use quote::Quoted;
 use search::Mark;
@@ -8,8 +10,8 @@ ghost use mathlib.Core.Path.{_≡_};
 ghost use Rattle.base.specs.Refusals.{refusalAt, tooLong};
 ghost use Rattle.quote.specs.Cases.{quoteReply};
 ghost use Rattle.quote.specs.Inner.Refused.{refusedQuote};
-ghost use Rattle.report.specs.Lines.{Printed};
-ghost use Rattle.printed.specs.Printed.{longestSheet, printedOf, auditPrintedOf};
+ghost use Rattle.report.specs.Lines.{Printed, longestReport, longestCopyLine};
+ghost use Rattle.printed.specs.Printed.{longestSheet, printedOf, auditPrintedOf, cleanPrintedOf};
 
 // The longest sheet that is taken, and the budget of a quote.
 pub const LONGEST_SHEET: usize = 4096;
@@ -38,7 +40,7 @@ fn too_long_quote() -> Quoted
 
 // The lines for a sheet.
 pub fn quote_reply(sheet: &[u8], out: &mut [u8]) -> usize
-    ensures { λ r. ⌜ Printed (printedOf (now (sheet .entry))) (now (out .entry)) (now (out .exit)) r ⌝ }
+    ensures { λ r. ⌜ Printed longestReport (printedOf (now (sheet .entry))) (now (out .entry)) (now (out .exit)) r ⌝ }
 {
     let mut stage = [0u8; LONGEST_STAGE];
     if LONGEST_SHEET < sheet.len() {
@@ -50,11 +52,23 @@ pub fn quote_reply(sheet: &[u8], out: &mut [u8]) -> usize
 
 // The line for a sheet and a stage.
 pub fn audit_reply(sheet: &[u8], stage: &[u8], out: &mut [u8]) -> usize
-    ensures { λ r. ⌜ Printed (auditPrintedOf (now (sheet .entry)) (now (stage .entry))) (now (out .entry)) (now (out .exit)) r ⌝ }
+    ensures { λ r. ⌜ Printed longestReport (auditPrintedOf (now (sheet .entry)) (now (stage .entry))) (now (out .entry)) (now (out .exit)) r ⌝ }
 {
     if LONGEST_SHEET < sheet.len() {
         return report::report_audit(Audited::SheetRefused(too_long()), out);
     }
     let audited = quote::audit(sheet, stage);
     report::report_audit(audited, out)
+}
+
+// The line for a sheet that is to be cleaned (document 02, E1).
+pub fn clean_reply(sheet: &[u8], out: &mut [u8]) -> usize
+    ensures { λ r. ⌜ Printed longestCopyLine (cleanPrintedOf (now (sheet .entry))) (now (out .entry)) (now (out .exit)) r ⌝ }
+{
+    let mut copy = [0u8; LONGEST_COPY];
+    if LONGEST_SHEET < sheet.len() {
+        return report::report_copy(Written::Refused(too_long()), &copy, out);
+    }
+    let written = clean::clean(sheet, &mut copy);
+    report::report_copy(written, &copy, out)
 }

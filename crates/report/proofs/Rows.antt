@@ -2,13 +2,13 @@
 use Prim.Native.Nat.{ℕ}
 use mathlib.Core.Path.{_≡_, refl}
 use mathlib.Core.List.{List, [], _∷_, _++_}
-use Rattle.base.specs.Cases.{accepting, refusing, refusedOutcome, secondRefusedOutcome, refusedCase}
-use Rattle.base.specs.Refusals.{refusalAt, empty, sizesDiffer, tooLong}
+use Rattle.base.specs.Cases.{acceptedOutcome, accepting, refusing, refusedOutcome, secondRefusedOutcome, refusedCase}
+use Rattle.base.specs.Refusals.{refusalAt, empty, shortBuffer, sizesDiffer, tooLong}
 use Rattle.branch_bound.specs.Reply.{stoppedOutcome}
 use Rattle.quote.specs.Cases.{fitsOutcome, differsOutcome}
 use Rattle.text.specs.Text.{digits, decimal, hexDigit, hexPair, furtherPairs, hexPairs, named}
-use Rattle.report.specs.Lines.{newline, cellsText, fitsText, differsText, sheetText, stageText, refusedText, atText, countsOf, stagePairs}
-use Rattle.report.specs.Lines.{resultLines, refusalText, refusalLine, linesOf, judgedLine, auditLine}
+use Rattle.report.specs.Lines.{newline, cellsText, fitsText, differsText, sheetText, stageText, refusedText, atText, countsOf, shownPairs}
+use Rattle.report.specs.Lines.{shownLine, resultLines, refusalText, refusalLine, linesOf, judgedLine, auditLine, copyLine}
 
 -- all meanings open: those of text, and with them those of the lines
 unfoldable pub texts : ℕ
@@ -16,7 +16,7 @@ unfolding digits decimal hexDigit hexPair furtherPairs hexPairs named
 texts = 0
 
 unfoldable pub printing : ℕ
-unfolding texts countsOf stagePairs resultLines refusalText refusalLine linesOf judgedLine
+unfolding texts countsOf shownPairs shownLine resultLines refusalText refusalLine linesOf judgedLine copyLine
 printing = 0
 
 -- "cells 2 floor 1 visits 0 stopped" and "20 2F": bytes of the buffer past the length are not shown
@@ -52,3 +52,13 @@ pub stage-refused-13 : auditLine (refusing secondRefusedOutcome (refusalAt sizes
     ≡ stageText ++ refusedText ++ 0x31 ∷ 0x33 ∷ atText ++ 0x30 ∷ newline ∷ []
 unfolding printing
 stage-refused-13 = refl
+
+-- "01 00", of a buffer that has a byte more; "refused 12 at 260", whatever stands in it
+pub copy-shown : copyLine (accepting acceptedOutcome 2) (0x01 ∷ 0x00 ∷ 0x7A ∷ []) ≡ 0x30 ∷ 0x31 ∷ 0x20 ∷ 0x30 ∷ 0x30 ∷ newline ∷ []
+unfolding printing
+copy-shown = refl
+
+pub copy-refused-12 : (copy : List ℕ) → copyLine (refusedCase (refusalAt shortBuffer 260)) copy
+    ≡ refusedText ++ 0x31 ∷ 0x32 ∷ atText ++ 0x32 ∷ 0x36 ∷ 0x30 ∷ newline ∷ []
+unfolding printing
+copy-refused-12 copy = refl

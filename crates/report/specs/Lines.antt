@@ -1,4 +1,4 @@
--- Document 01, "Quote, audit, program": the lines that the program prints, for a reply of the quote and of the audit.
+-- Document 01, "Quote, audit, program": the lines that the program prints, for a reply of the quote and of the audit. Document 02, E1: for a clean copy.
 use Prim.Native.Nat.{ℕ, _+_, _*_, _≤_, min}
 use mathlib.Core.Path.{_≡_}
 use mathlib.Core.Bool.{cond}
@@ -10,6 +10,7 @@ use Rattle.base.specs.Cases.{Case, refusedOutcome, isRefused}
 use Rattle.branch_bound.specs.Reply.{bestOutcome}
 use Rattle.stage.specs.Bytes.{longestStage}
 use Rattle.quote.specs.Cases.{QuoteReply, fitsOutcome}
+use Rattle.clean.specs.Copy.{longestCopy}
 use Rattle.text.specs.Text.{hexPairs, longestDecimal, named}
 
 -- the end of a line
@@ -62,13 +63,17 @@ stageText = 0x73 ∷ 0x74 ∷ 0x61 ∷ 0x67 ∷ 0x65 ∷ 0x20 ∷ []
 unfoldable pub countsOf : (cells floor visits : ℕ) → List ℕ
 countsOf c f v = named cellsText c ++ named floorText f ++ named visitsText v
 
--- the bytes of the buffer that a reply's length says, and never more than a stage has
-unfoldable pub stagePairs : ℕ → List ℕ → List ℕ
-stagePairs k stage = hexPairs (take (min longestStage k) stage)
+-- the bytes of the buffer that a reply's length says, and never more than the longest of their kind has: a stage, a copy
+unfoldable pub shownPairs : (most k : ℕ) → List ℕ → List ℕ
+shownPairs most k bytes = hexPairs (take (min most k) bytes)
+
+-- their line
+unfoldable pub shownLine : (most k : ℕ) → List ℕ → List ℕ
+shownLine most k bytes = shownPairs most k bytes ++ newline ∷ []
 
 -- both lines of a quote with a stage, with the word of its mark
 unfoldable pub resultLines : List ℕ → QuoteReply → List ℕ → List ℕ
-resultLines word q stage = countsOf (q .cells) (q .floor) (q .visits) ++ word ++ stagePairs (q .length) stage ++ newline ∷ []
+resultLines word q stage = countsOf (q .cells) (q .floor) (q .visits) ++ word ++ shownLine longestStage (q .length) stage
 
 -- "refused N at P"
 unfoldable pub refusalText : (number place : ℕ) → List ℕ
@@ -95,6 +100,10 @@ auditLine c =
     let whose = cond (eqb (c .outcome) refusedOutcome) sheetText stageText in
     cond (isRefused c) (refusalLine whose (c .number) (c .place)) (judgedLine word (c .value))
 
+-- what the program prints for a reply of the call that writes a clean copy, and the bytes of the buffer that was lent to it
+unfoldable pub copyLine : Case → List ℕ → List ℕ
+copyLine c copy = let shown = shownLine longestCopy (c .value) copy in cond (isRefused c) (refusalLine [] (c .number) (c .place)) shown
+
 -- The longest report of numbers below 2 to the power 64, by its parts: the three counts and their names,
 abbrev pub longestCounts : ℕ
 longestCounts = length cellsText + length floorText + length visitsText + 3 * longestDecimal
@@ -103,14 +112,21 @@ longestCounts = length cellsText + length floorText + length visitsText + 3 * lo
 abbrev pub longestWord : ℕ
 longestWord = length stoppedText
 
--- and the stage: a pair for each byte and what parts it from the next,
-abbrev pub longestPairs : ℕ
-longestPairs = 3 * longestStage
+-- and so many bytes of a stage: a pair for each and what parts it from the next,
+abbrev pub longestPairs : ℕ → ℕ
+longestPairs most = 3 * most
 
--- with the end of its line
+-- with the end of their line
+abbrev pub longestShownLine : ℕ → ℕ
+longestShownLine most = longestPairs most + 1
+
 abbrev pub longestReport : ℕ
-longestReport = longestCounts + longestWord + longestPairs + 1
+longestReport = longestCounts + longestWord + longestShownLine longestStage
 
--- what a report leaves in the buffer: its text at the start, all else as it was; its length is handed back
-abbrev pub Printed : (text before after : List ℕ) → ℕ → Type 0
-Printed text before after r = (r ≡ length text) × (after ≡ sets before 0 text) × (r ≤ longestReport)
+-- the line of a copy, which is above that of any refusal
+abbrev pub longestCopyLine : ℕ
+longestCopyLine = longestShownLine longestCopy
+
+-- what a report of at most so many bytes leaves in the buffer: its text at the start, all else as it was; its length is handed back
+abbrev pub Printed : (most : ℕ) (text before after : List ℕ) → ℕ → Type 0
+Printed most text before after r = (r ≡ length text) × (after ≡ sets before 0 text) × (r ≤ most)

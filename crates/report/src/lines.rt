@@ -1,8 +1,9 @@
 // The lines of a report, put at the start of a lent buffer, each call with the place after them.
 // Inner functions: the two reports meet what they require, bounds on lengths that are there for the sums alone.
 use crate::parts::put_counts;
-use crate::parts::put_stage_pairs;
+use crate::parts::put_shown_line;
 use quote::Quoted;
+use stage::LONGEST_STAGE;
 use text::put_byte;
 use text::put_named;
 use text::put_text;
@@ -20,8 +21,7 @@ pub fn put_result(out: &mut [u8], word: &[u8], q: Quoted, stage: &[u8]) -> usize
 {
     let counts = put_counts(out, 0, q.cells, q.floor, q.visits);
     let line = put_text(out, counts, word);
-    let end = put_stage_pairs(out, line, stage, q.length);
-    put_byte(out, end, b'\n')
+    put_shown_line(out, line, stage, q.length, LONGEST_STAGE)
 }
 
 // Puts the line of a stage that was judged: the word of the judgement, and the stage's cells.

@@ -1,7 +1,6 @@
 // The parts of which lines are made, put into a lent buffer at a place, each with the place after it. The drawn cases' replies are made of them too.
 // Inner functions: callers meet what they require, bounds on places and lengths that are there for the sums alone.
 use base::Refusal;
-use stage::LONGEST_STAGE;
 use text::put_byte;
 use text::put_hex_pairs;
 use text::put_named;
@@ -9,9 +8,9 @@ use text::put_text;
 ghost use mathlib.Core.Path.{_≡_};
 ghost use Prim.Native.Nat.{_+_, _≤_, min};
 ghost use lib.ListN.{length};
-ghost use Rattle.stage.specs.Bytes.{longestStage};
 ghost use Rattle.base.specs.Inner.Put.{PutWithin, lastPlace};
-ghost use Rattle.report.specs.Lines.{longestCounts, longestPairs, longestWord, countsOf, stagePairs, refusalText, refusalLine};
+ghost use Rattle.report.specs.Lines.{longestCounts, longestPairs, longestShownLine, longestWord};
+ghost use Rattle.report.specs.Lines.{countsOf, shownPairs, shownLine, refusalText, refusalLine};
 ghost use Rattle.report.specs.Inner.Lengths.{longestRefusal, longestRefusalLine};
 
 // Puts the counts of a reply: "cells C floor F visits V".
@@ -24,19 +23,28 @@ pub fn put_counts(out: &mut [u8], at: usize, cells: u32, floor: u32, visits: u32
     put_named(out, second, b" visits ", visits as u64)
 }
 
-// The number of bytes that are shown of a stage of `k` bytes.
-fn shown(k: usize) -> usize
-    ensures { λ r. ⌜ (r ≡ min longestStage k) × (r ≤ longestStage) ⌝ }
+// A number that is not above the most there may be.
+pub fn capped(k: usize, most: usize) -> usize
+    ensures { λ r. ⌜ (r ≡ min most k) × (r ≤ most) ⌝ }
 {
-    if k < LONGEST_STAGE { k } else { LONGEST_STAGE }
+    if k < most { k } else { most }
 }
 
-// Puts a stage of `k` bytes as pairs.
-pub fn put_stage_pairs(out: &mut [u8], at: usize, stage: &[u8], k: usize) -> usize
-    requires { ⌜ at + longestPairs ≤ lastPlace ⌝ }
-    ensures { λ r. ⌜ PutWithin longestPairs (now (out .entry)) at (stagePairs k (now (stage .entry))) (now (out .exit)) r ⌝ }
+// Puts the first `k` bytes of a buffer as pairs: of a stage or of a copy, which has at most so many.
+pub fn put_shown_pairs(out: &mut [u8], at: usize, bytes: &[u8], k: usize, most: usize) -> usize
+    requires { ⌜ at + longestPairs most ≤ lastPlace ⌝ }
+    ensures { λ r. ⌜ PutWithin (longestPairs most) (now (out .entry)) at (shownPairs most k (now (bytes .entry))) (now (out .exit)) r ⌝ }
 {
-    put_hex_pairs(out, at, stage, shown(k))
+    put_hex_pairs(out, at, bytes, capped(k, most))
+}
+
+// Puts their line.
+pub fn put_shown_line(out: &mut [u8], at: usize, bytes: &[u8], k: usize, most: usize) -> usize
+    requires { ⌜ at + longestShownLine most ≤ lastPlace ⌝ }
+    ensures { λ r. ⌜ PutWithin (longestShownLine most) (now (out .entry)) at (shownLine most k (now (bytes .entry))) (now (out .exit)) r ⌝ }
+{
+    let next = put_shown_pairs(out, at, bytes, k, most);
+    put_byte(out, next, b'\n')
 }
 
 // Puts a refusal: "refused N at P".

@@ -93,6 +93,7 @@ pub fn record_length(s: &[u8], at: usize) -> usize
         b'S' => SEARCH_RECORD,
         b'W' => WRITE_RECORD,
         b'R' => 3 + length_at(s, at + 1),
+        b'C' => 5 + length_at(s, at + 3),
         _ => 1,
     }
 }

@@ -1,6 +1,6 @@
 // A program for trials of the library: it reads records from standard input, calls the library on each, and prints the reply.
 // What it prints is compared with the replies of a solver that was written apart from the library, and is not proved here; that the program is safe and
-// ends is. What the bytes of a record say and what the parts of a reply put is proved in `drawn` and `report`.
+// ends is. What the bytes of a record say and what the parts of a reply put is proved in `samples` and `report`.
 use libc::STDIN_FILENO;
 use libc::STDOUT_FILENO;
 ghost use Prim.Native.Nat.{_≤_};

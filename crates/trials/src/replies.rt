@@ -4,13 +4,15 @@ use base::Refusal;
 use base::Verdict;
 use base::Written;
 use base::byte_at;
+use clean::LONGEST_COPY;
 use quote::Audited;
 use quote::Quoted;
 use relation::Relation;
+use report::parts::capped;
 use report::parts::put_counts;
 use report::parts::put_refusal;
 use report::parts::put_refusal_line;
-use report::parts::put_stage_pairs;
+use report::parts::put_shown_pairs;
 use samples::lines::FILL;
 use samples::lines::put_kept;
 use samples::lines::put_spaced;
@@ -22,6 +24,7 @@ use samples::records::tables_at;
 use samples::records::u32_at;
 use search::Mark;
 use sheet::Sheet;
+use stage::LONGEST_STAGE;
 use stage_reader::StageRead;
 use stage_reader::read_stage;
 use stage_writer::write_stage;
@@ -31,18 +34,22 @@ use text::put_text;
 ghost use Prim.Native.Nat.{_+_, _≤_};
 ghost use lib.ListN.{length};
 ghost use Rattle.base.specs.Inner.Put.{lastPlace};
+ghost use Rattle.clean.specs.Copy.{longestCopy};
 ghost use Rattle.report.specs.Lines.{longestPairs, longestWord};
 ghost use Rattle.samples.specs.Inner.Lengths.{longestKept, longestNumberLine, longestRecord, longestReply};
 
-// The most bytes of a lent buffer, whose length is a number of one byte.
+// The most bytes of a buffer that is lent for a stage, whose length is a number of one byte.
 const MOST_ROOM: usize = 255;
 
-// A stage at the start of a buffer, as pairs, and the end of its line.
-fn put_stage(out: &mut [u8], at: usize, buffer: &[u8], k: usize) -> usize
-    requires { ⌜ at + longestPairs + longestKept ≤ lastPlace ⌝ }
-    ensures { λ r. ⌜ r ≤ at + longestPairs + longestKept ⌝ }
+// The most bytes of one that is lent for a copy: above the longest copy. A larger number counts as this.
+const MOST_COPY_ROOM: usize = 320;
+
+// The first `k` bytes of a buffer, a stage or a copy of at most so many, as pairs, and the end of their line.
+fn put_shown(out: &mut [u8], at: usize, buffer: &[u8], k: usize, most: usize) -> usize
+    requires { ⌜ at + longestPairs most + longestKept ≤ lastPlace ⌝ }
+    ensures { λ r. ⌜ r ≤ at + longestPairs most + longestKept ⌝ }
 {
-    let next = put_stage_pairs(out, at, buffer, k);
+    let next = put_shown_pairs(out, at, buffer, k, most);
     put_kept(out, next, buffer, k)
 }
 
@@ -62,7 +69,7 @@ fn put_quote_line(out: &mut [u8], at: usize, q: Quoted, word: &[u8], buffer: &[u
 {
     let counts = put_counts(out, at, q.cells, q.floor, q.visits);
     let line = put_text(out, counts, word);
-    put_stage(out, line, buffer, q.length)
+    put_shown(out, line, buffer, q.length, LONGEST_STAGE)
 }
 
 // The lines of a quote.
@@ -160,21 +167,21 @@ fn put_search(out: &mut [u8], at: usize, s: &[u8], from: usize) -> usize
     }
 }
 
-// The line of a stage that was written to a buffer, or of the refusal.
-fn put_written(out: &mut [u8], at: usize, written: Written, buffer: &[u8]) -> usize
-    requires { ⌜ at + longestReply ≤ lastPlace ⌝ }
+// The line of what was written to a buffer, a stage or a copy of at most so many bytes, or of the refusal.
+fn put_written(out: &mut [u8], at: usize, written: Written, buffer: &[u8], most: usize) -> usize
+    requires { ⌜ (at + longestReply ≤ lastPlace) × (most ≤ longestCopy) ⌝ }
     ensures { λ r. ⌜ r ≤ at + longestReply ⌝ }
 {
     match written {
         Written::Length(k) => {
             let next = put_spaced(out, at, k as u64);
-            put_stage(out, next, buffer, k)
+            put_shown(out, next, buffer, k, most)
         }
         Written::Refused(refusal) => put_refused(out, at, refusal, buffer),
     }
 }
 
-// The same of a stage that is yet to be written.
+// The line of a stage that is yet to be written.
 fn put_write_into(
     out: &mut [u8],
     at: usize,
@@ -187,7 +194,7 @@ fn put_write_into(
     ensures { λ r. ⌜ r ≤ at + longestReply ⌝ }
 {
     let written = write_stage(n, m, tables, buffer);
-    put_written(out, at, written, buffer)
+    put_written(out, at, written, buffer, LONGEST_STAGE)
 }
 
 // Write a stage: n (1), m (1), buffer length (1), four tables (2 each).
@@ -234,6 +241,26 @@ fn put_read(out: &mut [u8], at: usize, s: &[u8], from: usize) -> usize
     }
 }
 
+// The line of a clean copy that is yet to be written.
+fn put_clean_into(out: &mut [u8], at: usize, sheet: &[u8], buffer: &mut [u8]) -> usize
+    requires { ⌜ at + longestReply ≤ lastPlace ⌝ }
+    ensures { λ r. ⌜ r ≤ at + longestReply ⌝ }
+{
+    let written = clean::clean(sheet, buffer);
+    put_written(out, at, written, buffer, LONGEST_COPY)
+}
+
+// Clean a sheet: buffer length (2), sheet length (2), sheet.
+fn put_clean(out: &mut [u8], at: usize, s: &[u8], from: usize) -> usize
+    requires { ⌜ (at + longestReply ≤ lastPlace) × (from + longestRecord ≤ lastPlace) ⌝ }
+    ensures { λ r. ⌜ r ≤ at + longestReply ⌝ }
+{
+    let room = capped(length_at(s, from + 1), MOST_COPY_ROOM);
+    let sheet = part(s, from + 5, length_at(s, from + 3));
+    let mut space = [FILL; MOST_COPY_ROOM];
+    put_clean_into(out, at, sheet, &mut space[0..room])
+}
+
 // The reply to the record at a place.
 pub fn put_reply(out: &mut [u8], at: usize, s: &[u8], from: usize) -> usize
     requires { ⌜ (at + longestReply ≤ lastPlace) × (from + longestRecord ≤ lastPlace) ⌝ }
@@ -246,6 +273,7 @@ pub fn put_reply(out: &mut [u8], at: usize, s: &[u8], from: usize) -> usize
         b'S' => put_search(out, at, s, from),
         b'W' => put_write(out, at, s, from),
         b'R' => put_read(out, at, s, from),
+        b'C' => put_clean(out, at, s, from),
         _ => put_text(out, at, b"unknown kind\n"),
     }
 }

@@ -1,7 +1,8 @@
 -- `audit_reply` meets its contract: the sheet is too long, or the audit says it.
 use mathlib.Core.Path.{ap}
 use Rattle.base.specs.Cases.{refusing, refusedOutcome}
-use Rattle.printed.proofs.Printing.{printed, audit-too-long, audit-line}
+use Rattle.report.proofs.Reports.{printed}
+use Rattle.printed.proofs.Printing.{audit-too-long, audit-line}
 use borrow.Author.Needs.{needs}
 use Rattle.printed.proofs.audit_reply.Statement.{statement}
 use Rattle.printed.proofs.audit_reply.Tie as tie
@@ -20,7 +21,7 @@ returns c =
     let t = c .before .before .before .before in
     let a = t .before .before .before .before .before .args in
     let e = audit-too-long (a .sheet .now) _ (a .stage .now) (ap (refusing refusedOutcome) (t .too-long .ensures)) (t .before .if1 .taken) in
-    printed _ _ _ e (c .before .before .report-audit .ensures)
+    printed _ _ _ (c .before .before .report-audit .ensures) e
 
 audit-requires : tie.Need-audit-requires
 audit-requires c κs = search needs
@@ -36,7 +37,7 @@ returns-2 c =
     let t = c .before .before .before .before in
     let a = t .before .before .before .before .before .args in
     let e = audit-line (a .sheet .now) _ (a .stage .now) (t .audit .ensures) (t .before .if1 .left) in
-    printed _ _ _ e (c .before .before .report-audit2 .ensures)
+    printed _ _ _ (c .before .before .report-audit2 .ensures) e
 
 pub audit-reply-spec : {M : Type 1} → statement M
 audit-reply-spec =

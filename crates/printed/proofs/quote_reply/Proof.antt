@@ -1,5 +1,6 @@
 -- `quote_reply` meets its contract: the sheet is too long, or the quote says it.
-use Rattle.printed.proofs.Printing.{printed, quote-too-long, quote-lines}
+use Rattle.report.proofs.Reports.{printed}
+use Rattle.printed.proofs.Printing.{quote-too-long, quote-lines}
 use borrow.Author.Needs.{needs}
 use Rattle.printed.proofs.quote_reply.Statement.{statement}
 use Rattle.printed.proofs.quote_reply.Tie as tie
@@ -21,7 +22,7 @@ returns c =
     let t = c .before .before .before .before .before in
     let a = t .before .before .before .before .args in
     let e = quote-too-long (a .sheet .now) _ _ (t .too-long-quote .ensures) (t .before .if1 .taken) in
-    printed _ _ _ e (c .before .before .report .ensures)
+    printed _ _ _ (c .before .before .report .ensures) e
 
 slice-aggregate-quote : tie.Need-slice-aggregate-quote
 slice-aggregate-quote c = search needs
@@ -43,7 +44,7 @@ returns-2 c =
     let a = c .before .before .before .before .before .before .before .before .before .before .before .args in
     let q = c .before .before .before .before .before .before .quote .ensures in
     let e = quote-lines (a .sheet .now) _ _ (q .0) (q .1 .0) (c .before .before .before .before .before .before .before .before .if1 .left) in
-    printed _ _ _ e (c .before .before .report2 .ensures)
+    printed _ _ _ (c .before .before .report2 .ensures) e
 
 pub quote-reply-spec : {M : Type 1} → statement M
 quote-reply-spec =

@@ -27,7 +27,7 @@ numbersAt k s from = tabulate k (λ i. twoAt s (from + 2 * i))
 unfoldable pub partOf : List ℕ → ℕ → ℕ → List ℕ
 partOf s from count = cond (leb (from + count) (length s)) (take count (drop from s)) []
 
--- the bytes of the record at a place, by its kind: Q, A, S, W, R; a byte of no kind is a record by itself
+-- the bytes of the record at a place, by its kind: Q, A, S, W, R, C; a byte of no kind is a record by itself
 unfoldable pub recordLength : List ℕ → ℕ → ℕ
 recordLength s at =
     let kind = byteAt s at in
@@ -35,4 +35,5 @@ recordLength s at =
     (cond (eqb kind 0x41) (5 + twoAt s (at + 1) + twoAt s (at + 3))
     (cond (eqb kind 0x53) (7 + 2 * maxPatterns)
     (cond (eqb kind 0x57) (4 + 2 * maxWires)
-    (cond (eqb kind 0x52) (3 + twoAt s (at + 1)) 1))))
+    (cond (eqb kind 0x52) (3 + twoAt s (at + 1))
+    (cond (eqb kind 0x43) (5 + twoAt s (at + 3)) 1)))))

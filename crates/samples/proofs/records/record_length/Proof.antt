@@ -1,10 +1,18 @@
 -- `record_length` meets its contract: each arm is the case of `recordLength` for its kind.
+use Prim.Native.Nat.{ℕ, _+_, _≤_}
+use mathlib.Core.Path.{_≡_}
 use native.Mathlib.Omega.{arith}
 use borrow.Author.Needs.{needs}
 use borrow.Author.Tests.{ne-eqb}
+use Rattle.samples.specs.Inner.Lengths.{longestPart, longestRecord}
 use Rattle.samples.specs.Inner.Records.{recordLength}
 use Rattle.samples.proofs.records.record_length.Statement.{statement}
 use Rattle.samples.proofs.records.record_length.Tie as tie
+
+-- a head of so many bytes, and a part of the length that is told
+told : {length part two : ℕ} (head : ℕ) → 1 ≤ head → head ≤ 8 → (part ≡ two) × (part ≤ longestPart) → length ≡ head + two
+    → (head + part ≡ length) × (1 ≤ head + part) × (head + part ≤ longestRecord)
+told head low high l e = (omega arith, omega arith, omega arith)
 
 byte-at-requires : tie.Need-byte-at-requires
 byte-at-requires c κs = search needs
@@ -45,11 +53,18 @@ length-at-requires-4 c κs = search needs
 add-result-4 : tie.Need-add-result-4
 add-result-4 c = search needs
 
+add-length-at-5 : tie.Need-add-length-at-5
+add-length-at-5 c = search needs
+
+length-at-requires-5 : tie.Need-length-at-requires-5
+length-at-requires-5 c κs = search needs
+
+add-result-5 : tie.Need-add-result-5
+add-result-5 c = search needs
+
 returns : tie.Need-returns
 unfolding recordLength
-returns c =
-    let l = c .length-at .ensures in
-    (simp (← c .before .before .byte-at .ensures, c .before .match .keys1) (omega (arith, l .0)), omega arith, omega (arith, l .1))
+returns c = told _ (omega arith) (omega arith) (c .length-at .ensures) (simp (← c .before .before .byte-at .ensures, c .before .match .keys1) (omega arith))
 
 returns-2 : tie.Need-returns-2
 unfolding recordLength
@@ -71,16 +86,15 @@ returns-4 c = (simp (← c .before .byte-at .ensures, c .match .keys4), omega ar
 
 returns-5 : tie.Need-returns-5
 unfolding recordLength
-returns-5 c =
-    let l = c .length-at4 .ensures in (
-      simp (← c .before .before .byte-at .ensures, c .before .match .keys5) (omega (arith, l .0)),
-      omega arith,
-      omega (arith, l .1),
-    )
+returns-5 c = told _ (omega arith) (omega arith) (c .length-at4 .ensures) (simp (← c .before .before .byte-at .ensures, c .before .match .keys5) (omega arith))
 
 returns-6 : tie.Need-returns-6
 unfolding recordLength
-returns-6 c =
+returns-6 c = told _ (omega arith) (omega arith) (c .length-at5 .ensures) (simp (← c .before .before .byte-at .ensures, c .before .match .keys6) (omega arith))
+
+returns-7 : tie.Need-returns-7
+unfolding recordLength
+returns-7 c =
     let r = c .match .rest in (
       simp (
         ← c .before .byte-at .ensures,
@@ -89,6 +103,7 @@ returns-6 c =
         ne-eqb _ _ (r .0 .0 .1),
         ne-eqb _ _ (r .0 .0 .0 .1),
         ne-eqb _ _ (r .0 .0 .0 .0 .1),
+        ne-eqb _ _ (r .0 .0 .0 .0 .0 .1),
       ),
       omega arith,
       omega arith,
@@ -111,9 +126,13 @@ record-length-spec =
     add-length-at-4
     length-at-requires-4
     add-result-4
+    add-length-at-5
+    length-at-requires-5
+    add-result-5
     returns
     returns-2
     returns-3
     returns-4
     returns-5
-    returns-6)
+    returns-6
+    returns-7)
