@@ -64,8 +64,10 @@ enum {
 #define DAGMETZI_PATTERNS 16
 #define DAGMETZI_WIRES 4
 
-/* No stage has more bytes than this, and no copy of a sheet more than that: a buffer of this length is never too short. */
+/* No stage has more bytes than this: a quote's buffer of this length is never too short. */
 #define DAGMETZI_LONGEST_STAGE 196
+
+/* No clean copy of a sheet has more bytes than this. */
 #define DAGMETZI_LONGEST_COPY 260
 
 /* The smallest stage of a unit sheet, or the best found under the budget, written at the start of `buffer`; later bytes
@@ -84,9 +86,10 @@ uint32_t dagmetzi_audit(const uint8_t *sheet, size_t sheet_length, const uint8_t
 uint32_t dagmetzi_search(uint8_t n, uint8_t m, const uint16_t sets[DAGMETZI_PATTERNS], uint32_t budget,
                          uint16_t tables[DAGMETZI_WIRES], uint64_t reply[DAGMETZI_NUMBERS]);
 
-/* The clean copy of a unit sheet, written at the start of `buffer`; later bytes stay. It says what the sheet says, in one
- * order: two sheets that say the same have the same copy, and a copy is its own copy. A sheet on which no stage is
- * possible (10 in a quote) is copied like any other. */
+/* The clean copy of a unit sheet, written to the front of `buffer`; what is behind it stays. It says what the sheet says,
+ * in one order: two sheets that say the same have the same copy, and a copy is its own copy. Refused are sheets that
+ * cannot be read (1 to 9), then a buffer that is too short (12). A sheet for which no stage is possible (10 in a quote)
+ * is copied like any other. */
 uint32_t dagmetzi_clean(const uint8_t *sheet, size_t sheet_length, uint8_t *buffer, size_t buffer_length,
                         uint64_t reply[DAGMETZI_NUMBERS]);
 

@@ -6,7 +6,7 @@ mod rows;
 mod timing;
 
 use inputs::{sheet, FAMILIES};
-use rows::{Searches, Sheets, BUDGET};
+use rows::{copies, quotes, Searches, Sheets, BUDGET};
 use trials::random::Random;
 
 const SIZES: [(u8, u8); 4] = [(2, 2), (3, 3), (4, 3), (4, 4)];
@@ -32,7 +32,7 @@ fn print_searches(searches: &[Searches]) {
     }
 }
 
-fn print_sheets(what: &str, rust: &str, sheets: &[Sheets]) {
+fn print_sheets<const ROOM: usize>(what: &str, rust: &str, sheets: &[Sheets<ROOM>]) {
     println!("\n{what} of the units' sheets. On Rust's side {rust}");
     println!("of the trials, which are not tuned.");
     println!("                         us a sheet");
@@ -46,22 +46,22 @@ fn print_sheets(what: &str, rust: &str, sheets: &[Sheets]) {
 /// machine for a while, the row has others.
 fn main() {
     let mut rng = Random::new(20_131_111);
-    let (mut searches, mut quotes, mut copies) = (Vec::new(), Vec::new(), Vec::new());
+    let (mut searched, mut quoted, mut copied) = (Vec::new(), Vec::new(), Vec::new());
     for (n, m) in SIZES {
         for (name, draw) in FAMILIES {
-            searches.push(Searches::new(name, (n, m), (0..COUNT).map(|_| draw(&mut rng, n, m)).collect()));
+            searched.push(Searches::new(name, (n, m), (0..COUNT).map(|_| draw(&mut rng, n, m)).collect()));
         }
         let sheets: Vec<_> = (0..COUNT).map(|_| sheet(&mut rng, n, m)).collect();
-        quotes.push(Sheets::quotes((n, m), sheets.clone()));
-        copies.push(Sheets::copies((n, m), sheets));
+        quoted.push(quotes((n, m), sheets.clone()));
+        copied.push(copies((n, m), sheets));
     }
     for _ in 0..ROUNDS {
-        searches.iter_mut().for_each(Searches::round);
-        quotes.iter_mut().for_each(Sheets::round);
-        copies.iter_mut().for_each(Sheets::round);
+        searched.iter_mut().for_each(Searches::round);
+        quoted.iter_mut().for_each(Sheets::round);
+        copied.iter_mut().for_each(Sheets::round);
     }
     header();
-    print_searches(&searches);
-    print_sheets("Quotes", "the tuned search stands between the reader and the writer", &quotes);
-    print_sheets("Clean copies", "stand the reader and the copy", &copies);
+    print_searches(&searched);
+    print_sheets("Quotes", "the tuned search stands between the reader and the writer", &quoted);
+    print_sheets("Clean copies", "stand the reader and the copy", &copied);
 }

@@ -8,6 +8,8 @@ use trials::{fast, relation, stage};
 pub const BUDGET: u32 = 10_000;
 /// A row with fewer visits a search than this tells nothing of the time of a visit.
 const FEW: f64 = 2.0;
+/// No stage has more bytes.
+const LONGEST_STAGE: usize = 196;
 
 /// Searches of relations of n inputs and m wires, at the budget and at budget 0.
 pub struct Searches {
@@ -59,8 +61,8 @@ fn compared_search(n: u8, m: u8, sets: &[u16; 16]) -> u64 {
 /// What is made of a sheet at the start of a buffer: its length.
 type Call = fn(&[u8], &mut [u8]) -> u64;
 
-/// Quotes or clean copies of sheets of n inputs and m wires.
-pub struct Sheets {
+/// Quotes or clean copies of sheets of n inputs and m wires, each with room for the longest.
+pub struct Sheets<const ROOM: usize> {
     size: (u8, u8),
     drawn: Vec<Vec<u8>>,
     library: Call,
@@ -68,18 +70,21 @@ pub struct Sheets {
     whole: Timing,
 }
 
-impl Sheets {
-    pub fn quotes(size: (u8, u8), drawn: Vec<Vec<u8>>) -> Sheets {
-        Sheets::new(size, drawn, |sheet, buffer| bench::quote(sheet, BUDGET, buffer).length, rust_quote)
-    }
+pub type Quotes = Sheets<LONGEST_STAGE>;
+pub type Copies = Sheets<LONGEST_COPY>;
 
-    pub fn copies(size: (u8, u8), drawn: Vec<Vec<u8>>) -> Sheets {
-        Sheets::new(size, drawn, |sheet, buffer| bench::clean(sheet, buffer).length, rust_copy)
-    }
+pub fn quotes(size: (u8, u8), drawn: Vec<Vec<u8>>) -> Quotes {
+    Sheets::new(size, drawn, |sheet, buffer| bench::quote(sheet, BUDGET, buffer).length, rust_quote)
+}
 
-    fn new(size: (u8, u8), drawn: Vec<Vec<u8>>, library: Call, rust: Call) -> Sheets {
+pub fn copies(size: (u8, u8), drawn: Vec<Vec<u8>>) -> Copies {
+    Sheets::new(size, drawn, |sheet, buffer| bench::clean(sheet, buffer).length, rust_copy)
+}
+
+impl<const ROOM: usize> Sheets<ROOM> {
+    fn new(size: (u8, u8), drawn: Vec<Vec<u8>>, library: Call, rust: Call) -> Self {
         for sheet in &drawn {
-            let (mut ours, mut theirs) = ([0; LONGEST_COPY], [0; LONGEST_COPY]);
+            let (mut ours, mut theirs) = ([0; ROOM], [0; ROOM]);
             let lengths = (library(sheet, &mut ours), rust(sheet, &mut theirs));
             assert!(lengths.0 == lengths.1 && ours == theirs, "the two sides differ on {sheet:?}");
         }
@@ -88,11 +93,7 @@ impl Sheets {
 
     pub fn round(&mut self) {
         let (library, rust) = (self.library, self.rust);
-        self.whole.round(
-            &self.drawn,
-            |sheet| library(sheet, &mut [0; LONGEST_COPY]),
-            |sheet| rust(sheet, &mut [0; LONGEST_COPY]),
-        );
+        self.whole.round(&self.drawn, |sheet| library(sheet, &mut [0; ROOM]), |sheet| rust(sheet, &mut [0; ROOM]));
     }
 
     pub fn line(&self) -> String {

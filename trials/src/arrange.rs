@@ -1,5 +1,6 @@
-//! A second way to the clean copy of document 02, E1, free of the reader's
-//! gathering and of the writer: the sheet's own commands are put in order.
+//! A second way to the clean copy of document 02, E1, without what the reader
+//! gathers and without the writer: the sheet's own commands are put in order.
+//! Of the reader it takes the lengths of the commands and the set of all values.
 
 use crate::sheet::{all_values, operand_count};
 

@@ -5,7 +5,7 @@
 //!   `audit`: document 01, one subject each, as literally as it is written.
 //! * `clean`: document 02, E1; `buffer`: how all writers treat what is lent.
 //! * `least`: a second solver that tries every function, free of the search.
-//! * `arrange`: a second way to the clean copy, free of reader and writer.
+//! * `arrange`: a second way to the clean copy, by sorting the sheet's commands.
 //! * `fast`: the same search as `search`, tuned for speed, for the benchmark.
 //! * `random`, `draw`, `rows`, `plan`: the cases, from a fixed seed.
 //! * `case`, `check`: a case's record and reply, and what must hold of it.

@@ -18,11 +18,11 @@ abbrev answered : List ℕ → Bool → Case
 answered bytes short = cond short (refusedCase (refusalAt shortBuffer (length bytes))) (accepting acceptedOutcome (length bytes))
 
 module _ (bytes : List ℕ) (room : ℕ) where
-  pub short-refused : room < length bytes → fitted bytes room ≡ refusedCase (refusalAt shortBuffer (length bytes))
-  short-refused h = ap (answered bytes) (lt-ltb room (length bytes) h)
+  pub fitted-short : room < length bytes → fitted bytes room ≡ refusedCase (refusalAt shortBuffer (length bytes))
+  fitted-short h = ap (answered bytes) (lt-ltb room (length bytes) h)
 
-  pub room-accepted : length bytes ≤ room → fitted bytes room ≡ accepting acceptedOutcome (length bytes)
-  room-accepted h = ap (answered bytes) (le-ltb room (length bytes) h)
+  pub fitted-room : length bytes ≤ room → fitted bytes room ≡ accepting acceptedOutcome (length bytes)
+  fitted-room h = ap (answered bytes) (le-ltb room (length bytes) h)
 
 -- a run of bytes stored at the start of a buffer that is long enough: the bytes, and what was behind their places
 front : (l b s : List ℕ) → length s ≤ length l → b ≡ sets l 0 s → b ≡ s ++ drop (length s) l
@@ -30,8 +30,8 @@ front l b s h e = e ∙ sets-eq s l 0 (rw (zero-add (length s)) h) ∙ simp zero
 
 -- the buffer after a refusal, and after the bytes were stored
 module _ (bytes buffer : List ℕ) where
-  pub buffer-kept : (f : Refusal) {c : Case} → c ≡ refusedCase f → buffer ≡ bufferWith bytes buffer c
-  buffer-kept f e = rw e refl
+  pub buffer-left : (f : Refusal) {c : Case} → c ≡ refusedCase f → buffer ≡ bufferWith bytes buffer c
+  buffer-left f e = rw e refl
 
   pub buffer-stored : (after : List ℕ) {c : Case} → c ≡ accepting acceptedOutcome (length bytes) → length bytes ≤ length buffer
       → after ≡ sets buffer 0 bytes → after ≡ bufferWith bytes buffer c

@@ -1,5 +1,6 @@
 -- Laws of a property that each element of a list has.
 use Prim.Native.Nat.{ℕ, zero, suc, _<_}
+use mathlib.Core.Path.{_≡_, refl}
 use mathlib.Core.List.{List, [], _∷_, _++_, map}
 use native.Mathlib.Omega.{arith}
 use native.Mathlib.Nat.{not-suc-le-zero, le-of-suc-le-suc}
@@ -14,6 +15,11 @@ module _ {ℓ} {A : Type ℓ} where
   pub each-weaken : (P Q : A → Type 0) → ((x : A) → P x → Q x) → (xs : List A) → Each P xs → Each Q xs
   each-weaken P Q f [] p = tt
   each-weaken P Q f (x ∷ xs) p = (f x (p .0), each-weaken P Q f xs (p .1))
+
+  -- where no element can have the property there is none
+  pub each-none : (P : A → Type 0) (xs : List A) → Each P xs → ((x : A) → P x → ⊥) → xs ≡ []
+  each-none P [] p f = refl
+  each-none P (x ∷ xs) p f = absurd (f x (p .0))
 
   pub each-getD : (P : A → Type 0) (xs : List A) (d : A) → Each P xs → (i : ℕ) → i < length xs → P (getD xs i d)
   each-getD P [] d p i h = absurd (not-suc-le-zero h)

@@ -2,10 +2,10 @@
 use Rattle.base.proofs.Tabulate.{sets-append}
 use Prim.Native.Nat.{ℕ, _+_, _<_, _≤_}
 use mathlib.Core.Path.{_≡_, refl}
-use mathlib.Core.List.{List, [], _++_}
+use mathlib.Core.List.{List, [], _∷_, _++_}
 use native.Mathlib.Numerals.{add-one}
 use native.Mathlib.Omega.{arith}
-use lib.ListN.{length, getD, set, take, length-append}
+use lib.ListN.{length, getD, take, length-append}
 use lib.Seq.{sets, take-suc}
 use Rattle.base.specs.Inner.Put.{Put, PutWithin}
 
@@ -21,9 +21,9 @@ put-then {l} {b} {c} {x} {y} {at} {next} {r} p q =
     }
 
 -- one byte more of a text
-pub put-next : (l b c xs : List ℕ) (at i : ℕ) → Put l at (take i xs) b (at + i) → c ≡ set b (at + i) (getD xs i 0) → i < length xs
-    → Put l at (take (i + 1) xs) c (at + (i + 1))
-put-next l b c xs at i p e h = rw (add-one i, take-suc xs i 0 h) (put-then p (record { stored = e; past = omega arith }))
+pub put-next : {l b c : List ℕ} {at next r : ℕ} (xs : List ℕ) (i : ℕ) → Put l at (take i xs) b next → Put b next (getD xs i 0 ∷ []) c r → i < length xs
+    → Put l at (take (i + 1) xs) c r
+put-next xs i p q h = rw (add-one i, take-suc xs i 0 h) (put-then p q)
 
 -- two texts, with bounds on what is put
 pub puts : {l b c x y : List ℕ} {at next r j k : ℕ} → PutWithin j l at x b next → PutWithin k b next y c r → PutWithin (j + k) l at (x ++ y) c r

@@ -17,7 +17,7 @@ ghost use Rattle.quote.specs.Quote.{quotedOf, bufferQuoted};
 ghost use Rattle.quote.specs.Promised.{Promised};
 ghost use Rattle.quote.specs.Audit.{auditedOf};
 ghost use Rattle.clean.specs.Cleaned.{cleanedOf, bufferCleaned};
-ghost use Rattle.clean.specs.CleanCopy.{Cleaned};
+ghost use Rattle.clean.specs.CleanCopy.{CleanPromise};
 ghost use Rattle.capi.specs.Numbers.{quoteNumbers, searchHanded, searchNumbers, tablesAfter, auditNumbers, copyNumbers};
 
 mod told; // a case of an answer as numbers
@@ -113,7 +113,7 @@ pub extern "C" fn dagmetzi_clean(
     ensures refusal { λ r. ⌜ r ≡ cleanedOf (now (sheet .entry)) (length (now (buffer .entry))) .number ⌝ }
     ensures numbers { λ _. ⌜ now (reply .exit) ≡ copyNumbers (cleanedOf (now (sheet .entry)) (length (now (buffer .entry)))) ⌝ }
     ensures bytes { λ _. ⌜ now (buffer .exit) ≡ bufferCleaned (now (sheet .entry)) (now (buffer .entry)) ⌝ }
-    ensures copy { λ _. ⌜ Cleaned (now (sheet .entry)) (cleanedOf (now (sheet .entry)) (length (now (buffer .entry)))) (now (buffer .exit)) ⌝ }
+    ensures copy { λ _. ⌜ CleanPromise (now (sheet .entry)) (cleanedOf (now (sheet .entry)) (length (now (buffer .entry)))) (now (buffer .exit)) ⌝ }
 {
     let written = clean(sheet, buffer);
     let told = written_told(written);

@@ -1,28 +1,26 @@
--- The length of a copy, by its parts.
-use Prim.Native.Nat.{ℕ, zero, suc, _+_, _*_, _^_, _≤_}
-use mathlib.Core.Path.{_≡_, refl, sym, ap, ap₂, subst, _∙_}
-use mathlib.Core.Bool.{cond}
+-- The length of a copy, by its sections.
+use Prim.Native.Nat.{ℕ, _+_, _*_, _^_, _≤_}
+use mathlib.Core.Path.{_≡_, refl, sym, ap, subst, _∙_}
 use mathlib.Core.List.{List, [], _∷_, _++_}
 use native.Mathlib.Omega.{arith}
 use native.Mathlib.Numerals.{add-one}
-use lib.Dec.{eqb}
 use lib.Pow.{pow-mono}
 use lib.ListN.{length, getD, length-append}
 use Rattle.base.proofs.Tests.{cond-has, cond-has₂}
 use Rattle.table.specs.Bits.{sum}
-use Rattle.table.proofs.Sums.{sum-cong, sum-bound}
+use Rattle.table.proofs.Sums.{sum-cong, sum-bound, sum-constant}
 use Rattle.sheet.specs.declared.Command.{Command}
 use Rattle.sheet.specs.declared.Command.the-variants.{End}
 use Rattle.sheet.specs.declared.Sheet.{Sheet}
 use Rattle.sheet.specs.Bytes.{commandBytes, bytesOf}
 use Rattle.sheet.specs.Commands.{collect}
-use Rattle.sheet.specs.Gathered.{dontCareMark}
-use Rattle.sheet.specs.Limits.{maxInputs, maxPatterns, allOnes}
+use Rattle.sheet.specs.Limits.{maxInputs, maxPatterns}
 use Rattle.sheet.proofs.Lists.{collect-append}
-use Rattle.unit.proofs.Placed.{Placed}
-use Rattle.clean.specs.Copy.{listed, isImpossible, permitsAll, copyMark, copyLimit, copyGate, copyOutput, copyCommands, copyBytes, markLength, limitLength, copyLength, longestCopy}
+use Rattle.reader.proofs.Placed.{Placed}
+use Rattle.clean.specs.Copy.{listed, marksDontCare, permitsAll, copyMark, copyLimit, copyGate, copyOutput, copyCommands, copyBytes}
+use Rattle.clean.specs.Copy.{markLength, limitLength, copyLength, longestCopy}
 use Rattle.clean.proofs.Listed.{collect-listed, listed-length}
-use Rattle.clean.proofs.Saying.{sized, marked, narrowed, wired, ledOut}
+use Rattle.clean.proofs.Saying.{toSizes, toMarks, toLimits, toGates, toOutputs}
 
 -- the bytes of two lists of commands, and of pieces
 bytes-both : (cs ds : List Command) → length (bytesOf (cs ++ ds)) ≡ length (bytesOf cs) + length (bytesOf ds)
@@ -31,18 +29,6 @@ bytes-both cs ds = ap length (collect-append commandBytes cs ds) ∙ length-appe
 pieces-bytes : (k : ℕ) (f : ℕ → List Command) (g : ℕ → ℕ) → ((i : ℕ) → length (bytesOf (f i)) ≡ g i) → length (bytesOf (listed k f)) ≡ sum k g
 pieces-bytes k f g h =
     ap length (collect-listed commandBytes k f) ∙ listed-length k (λ i. bytesOf (f i)) ∙ sum-cong k (λ i. length (bytesOf (f i))) g (λ i _. h i)
-
-sum-constant : (k c : ℕ) → sum k (λ _. c) ≡ c * k
-unfolding sum
-sum-constant zero c = omega arith
-sum-constant (suc k) c = omega (arith, sum-constant k c)
-
--- the bytes of a pattern's mark and of its limit, by what was gathered of all patterns
-abbrev pub markBytes : List ℕ → ℕ → ℕ
-markBytes marks p = cond (eqb (getD marks p 0) dontCareMark) 2 3
-
-abbrev pub limitBytes : List ℕ → ℕ → ℕ → ℕ
-limitBytes limits all p = cond (eqb (getD limits p 0) all) 0 4
 
 -- the bytes counted so far, besides those of the patterns: before the first pattern, and with one more
 pub count-none : (base : ℕ) (f g : ℕ → ℕ) → base ≡ base + sum 0 f + sum 0 g
@@ -58,16 +44,23 @@ count-more base counted p f g e x y = omega (arith, next f, next g)
     next f = rw (add-one p)
 
 module _ (h : Sheet) where
-  mark-bytes : (p : ℕ) → length (bytesOf (copyMark h p)) ≡ markLength h p
-  unfolding collect
-  mark-bytes p = cond-has₂ (λ cs k. length (bytesOf cs) ≡ k) (isImpossible h p) (λ _. refl) (λ _. refl)
+  -- the bytes of each pattern's mark, and of its limit
+  marks : ℕ → ℕ
+  marks p = markLength (getD (h .marks) p 0)
 
-  limit-bytes : (p : ℕ) → length (bytesOf (copyLimit h p)) ≡ limitLength h p
-  unfolding collect
-  limit-bytes p = cond-has₂ (λ cs k. length (bytesOf cs) ≡ k) (permitsAll h p) (λ _. refl) (λ _. refl)
+  limits : ℕ → ℕ
+  limits p = limitLength (h .m) (getD (h .limits) p 0)
+
+  mark-bytes : (p : ℕ) → length (bytesOf (copyMark h p)) ≡ marks p
+  unfolding collect marks
+  mark-bytes p = cond-has₂ (λ cs k. length (bytesOf cs) ≡ k) (marksDontCare (getD (h .marks) p 0)) (λ _. refl) (λ _. refl)
+
+  limit-bytes : (p : ℕ) → length (bytesOf (copyLimit h p)) ≡ limits p
+  unfolding collect limits
+  limit-bytes p = cond-has₂ (λ cs k. length (bytesOf cs) ≡ k) (permitsAll (h .m) (getD (h .limits) p 0)) (λ _. refl) (λ _. refl)
 
   pub copy-length : length (copyBytes h) ≡ copyLength h
-  unfolding collect copyCommands copyLength
+  unfolding collect copyCommands copyLength marks limits
   copy-length =
       let patterns = 2 ^ h .n in
       let gates : length (bytesOf (listed (h .«gate_count») (copyGate h))) ≡ 4 * h .«gate_count» =
@@ -76,13 +69,13 @@ module _ (h : Sheet) where
       pieces-bytes (h .«output_count») (copyOutput h) (λ _. 2) (λ _. refl) ∙ sum-constant (h .«output_count») 2 in
       omega (
         arith,
-        bytes-both (ledOut h (h .«output_count»)) (End ∷ []),
-        bytes-both (wired h (h .«gate_count»)) (listed (h .«output_count») (copyOutput h)),
-        bytes-both (narrowed h patterns) (listed (h .«gate_count») (copyGate h)),
-        bytes-both (marked h patterns) (listed patterns (copyLimit h)),
-        bytes-both (sized h) (listed patterns (copyMark h)),
-        pieces-bytes patterns (copyMark h) (markLength h) mark-bytes,
-        pieces-bytes patterns (copyLimit h) (limitLength h) limit-bytes,
+        bytes-both (toOutputs h (h .«output_count»)) (End ∷ []),
+        bytes-both (toGates h (h .«gate_count»)) (listed (h .«output_count») (copyOutput h)),
+        bytes-both (toLimits h patterns) (listed (h .«gate_count») (copyGate h)),
+        bytes-both (toMarks h patterns) (listed patterns (copyLimit h)),
+        bytes-both (toSizes h) (listed patterns (copyMark h)),
+        pieces-bytes patterns (copyMark h) marks mark-bytes,
+        pieces-bytes patterns (copyLimit h) limits limit-bytes,
         gates,
         outputs,
       )
@@ -95,19 +88,20 @@ module _ (h : Sheet) where
       omega (
         arith,
         patterns,
-        sum-bound (2 ^ h .n) 3 (markLength h) (λ p _. cond-has (λ k. k ≤ 3) (isImpossible h p) (λ _. omega arith) (λ _. omega arith)),
-        sum-bound (2 ^ h .n) 4 (limitLength h) (λ p _. cond-has (λ k. k ≤ 4) (permitsAll h p) (λ _. omega arith) (λ _. omega arith)),
+        sum-bound (2 ^ h .n) 3 (λ p. markLength (getD (h .marks) p 0))
+            (λ p _. cond-has (λ k. k ≤ 3) (marksDontCare (getD (h .marks) p 0)) (λ _. omega arith) (λ _. omega arith)),
+        sum-bound (2 ^ h .n) 4 (λ p. limitLength (h .m) (getD (h .limits) p 0))
+            (λ p _. cond-has (λ k. k ≤ 4) (permitsAll (h .m) (getD (h .limits) p 0)) (λ _. omega arith) (λ _. omega arith)),
         l .few-gates,
         l .few-outputs,
       )
 
   -- all patterns counted
-  pub count-all : Placed h → (counted p all : ℕ) → p ≡ 2 ^ h .n → all ≡ allOnes (h .m)
-      → counted ≡ 3 + 4 * h .«gate_count» + 2 * h .«output_count» + 1 + sum p (markBytes (h .marks)) + sum p (limitBytes (h .limits) all)
+  pub count-all : Placed h → (counted p : ℕ) → p ≡ 2 ^ h .n
+      → counted ≡ 3 + 4 * h .«gate_count» + 2 * h .«output_count» + 1 + sum p (λ q. markLength (getD (h .marks) q 0))
+      + sum p (λ q. limitLength (h .m) (getD (h .limits) q 0))
       → (counted ≡ length (copyBytes h)) × (counted ≤ longestCopy)
   unfolding copyLength
-  count-all l counted p all e f c =
-      let marks : sum p (markBytes (h .marks)) ≡ sum (2 ^ h .n) (markLength h) = ap (λ k. sum k (markBytes (h .marks))) e in
-      let limits : sum p (limitBytes (h .limits) all) ≡ sum (2 ^ h .n) (limitLength h) = ap₂ (λ k w. sum k (limitBytes (h .limits) w)) e f in
-      let whole : counted ≡ copyLength h = omega (arith, c, marks, limits) in
+  count-all l counted p e c =
+      let whole : counted ≡ copyLength h = rw e at c ∙ omega arith in
       (whole ∙ sym copy-length, subst (λ k. k ≤ longestCopy) (sym whole) (copy-short l))

@@ -62,10 +62,12 @@ module _ {ℓ} {A : Type ℓ} (says : Command → List A) where
   collect-listed zero f = refl
   collect-listed (suc k) f = collect-append says (listed k f) (f k) ∙ ap (λ xs. xs ++ collect says (f k)) (collect-listed k f)
 
-  pub collect-then : (cs : List Command) (k : ℕ) (f : ℕ → List Command) → collect says (cs ++ listed k f) ≡ collect says cs ++ listed k (λ i. collect says (f i))
+  pub collect-then : (cs : List Command) (k : ℕ) (f : ℕ → List Command)
+      → collect says (cs ++ listed k f) ≡ collect says cs ++ listed k (λ i. collect says (f i))
   collect-then cs k f = collect-append says cs (listed k f) ∙ ap (λ xs. collect says cs ++ xs) (collect-listed k f)
 
   -- pieces that say nothing of a kind change nothing of it
-  pub pieces-silent : (cs : List Command) (k : ℕ) (f : ℕ → List Command) → ((i : ℕ) → collect says (f i) ≡ []) → collect says (cs ++ listed k f) ≡ collect says cs
+  pub pieces-silent : (cs : List Command) (k : ℕ) (f : ℕ → List Command) → ((i : ℕ) → collect says (f i) ≡ [])
+      → collect says (cs ++ listed k f) ≡ collect says cs
   pieces-silent cs k f h =
       collect-then cs k f ∙ ap (λ xs. collect says cs ++ xs) (listed-none k (λ i. collect says (f i)) (λ i _. h i)) ∙ append-nil (collect says cs)

@@ -1,7 +1,7 @@
 -- What the equations of cleaning a sheet promise.
 use Prim.Native.Nat.{ℕ, _≤_}
 use mathlib.Core.Path.{_≡_, refl, sym, ap, subst, _∙_}
-use mathlib.Core.Bool.{Bool, true, false, cond, not}
+use mathlib.Core.Bool.{not}
 use mathlib.Core.List.{List, _++_}
 use native.Mathlib.Omega.{arith}
 use lib.Dec.{T, ltb}
@@ -12,11 +12,10 @@ use Rattle.base.specs.declared.Written.the-variants.{Refused as NotWritten}
 use Rattle.base.specs.Cases.{Case, accepting, acceptedOutcome, isRefused, writtenCase}
 use Rattle.base.specs.Refusals.{empty, shortBuffer}
 use Rattle.base.specs.Buffers.{fitted, bufferWith}
-use Rattle.base.proofs.Buffers.{room-accepted, front-written}
+use Rattle.base.proofs.Buffers.{fitted-room, front-written}
 use Rattle.base.proofs.Tests.{cond-has}
 use Rattle.sheet.specs.declared.Command.{Command}
 use Rattle.sheet.specs.declared.Reply.{Reply}
-use Rattle.sheet.specs.declared.Sheet.{Sheet}
 use Rattle.sheet.specs.Cases.{sheetReply}
 use Rattle.sheet.specs.Gathered.{gathered}
 use Rattle.sheet.specs.Judged.{Reading, holds, refused}
@@ -24,15 +23,32 @@ use Rattle.reader.specs.Reading.{readingOf, replyTold}
 use Rattle.reader.proofs.Numbers.{reading-early}
 use Rattle.reader.proofs.Replies.{refused-reply}
 use Rattle.reader.proofs.Sound.{Sound, sound}
-use Rattle.unit.specs.Inner.Forming.{WasRead}
+use Rattle.reader.specs.Inner.WasRead.{WasRead}
 use Rattle.unit.proofs.Alike.{same-formed}
-use Rattle.unit.proofs.Placed.{placed-all}
+use Rattle.unit.proofs.Rivals.{commands-only}
+use Rattle.reader.proofs.Placed.{placed-all}
 use Rattle.quote.specs.Quote.{quotedOf, bufferQuoted}
-use Rattle.clean.specs.Copy.{copyCommands, copyBytes, copyLength, longestCopy}
+use Rattle.clean.specs.Copy.{copyCommands, copyBytes, longestCopy}
 use Rattle.clean.specs.Cleaned.{cleanedFrom, cleanedOf, bufferFrom, bufferCleaned}
-use Rattle.clean.specs.CleanCopy.{GatherAlike, CleanCopy, Cleaned}
-use Rattle.clean.proofs.ReadingCopies.{copy-read, copy-gathers}
+use Rattle.clean.specs.CleanCopy.{GatherAlike, CleanCopy, CleanPromise}
+use Rattle.clean.proofs.ReadingCopies.{copy-read, copy-gathers, copy-agrees, copy-limits}
 use Rattle.clean.proofs.CopyLengths.{copy-length, copy-short}
+
+-- 10 is neither a refusal of reading nor 12
+never-ten : (sheet : List ℕ) (room : ℕ) (x : Reading) → readingOf sheet ≡ x → cleanedFrom x room .number ≡ empty → ⊥
+unfolding cleanedFrom
+never-ten sheet room (refused f) e q = let told : f .number ≡ empty = q in omega (arith, reading-early sheet f e, told)
+never-ten sheet room (holds cs) e q = let told : fitted (copyBytes (gathered cs)) room .number ≡ empty = q in by-room told
+  where
+    short-is-other : shortBuffer ≡ empty → ⊥
+    short-is-other z = omega arith
+
+    none-is-other : 0 ≡ empty → ⊥
+    none-is-other z = omega arith
+
+    by-room : fitted (copyBytes (gathered cs)) room .number ≡ empty → ⊥
+    by-room =
+        cond-has (λ (c : Case). c .number ≡ empty → ⊥) (ltb room (length (copyBytes (gathered cs)))) (λ _. short-is-other) (λ _. none-is-other)
 
 -- a sheet that was read, by its commands
 module _ (sheet : List ℕ) (cs : List Command) (e : readingOf sheet ≡ holds cs) where
@@ -44,7 +60,7 @@ module _ (sheet : List ℕ) (cs : List Command) (e : readingOf sheet ≡ holds c
 
   alike : GatherAlike text sheet
   unfolding text
-  alike = record { commands = copyCommands (gathered cs); held = copy-read cs s; others = cs; held-others = e; alike = copy-gathers cs s }
+  alike = record { commands = copyCommands (gathered cs); held = copy-read cs s; others = cs; held-others = e; gathers = copy-gathers cs s }
 
   short : length text ≤ longestCopy
   unfolding text
@@ -54,24 +70,21 @@ module _ (sheet : List ℕ) (cs : List Command) (e : readingOf sheet ≡ holds c
       → (cleanedOf other (length buffer) ≡ cleanedOf sheet (length buffer)) × (bufferCleaned other buffer ≡ bufferCleaned sheet buffer)
   unfolding cleanedOf cleanedFrom bufferCleaned bufferFrom
   equal other g buffer =
-      let same : gathered (g .commands) ≡ gathered cs = g .alike ∙ ap gathered (held-same (g .others) (sym (g .held-others) ∙ e)) in
+      let same : gathered (g .commands) ≡ gathered cs = g .gathers ∙ ap gathered (commands-only sheet (g .others) cs (g .held-others) e) in
       (rw (e, g .held, same), rw (e, g .held, same))
-    where
-      held-same : (ds : List Command) → holds ds ≡ holds cs → ds ≡ cs
-      held-same ds q = cc
 
   again : (buffer : List ℕ) → length text ≤ length buffer
       → (cleanedOf text (length buffer) ≡ accepting acceptedOutcome (length text)) × (bufferCleaned text buffer ≡ text ++ drop (length text) buffer)
   unfolding text cleanedOf cleanedFrom bufferCleaned bufferFrom
   again buffer l =
-      let fits : fitted text (length buffer) ≡ accepting acceptedOutcome (length text) = room-accepted text (length buffer) l in
+      let fits : fitted text (length buffer) ≡ accepting acceptedOutcome (length text) = fitted-room text (length buffer) l in
       (rw (copy-read cs s, copy-gathers cs s) fits, rw (copy-read cs s, copy-gathers cs s) (ap (bufferWith text buffer) fits))
 
   -- the copy and the sheet form the same relation
-  formed : (budget : ℕ) (buffer : List ℕ)
+  same-quote : (budget : ℕ) (buffer : List ℕ)
       → (quotedOf text budget (length buffer) ≡ quotedOf sheet budget (length buffer)) × (bufferQuoted text budget buffer ≡ bufferQuoted sheet budget buffer)
   unfolding text quotedOf bufferQuoted
-  formed budget buffer =
+  same-quote budget buffer =
       let own : WasRead (gathered cs) = record { bytes = sheet; commands = cs; held = e; gathers = refl } in
       let copied : WasRead (gathered cs) =
       record { bytes = text; commands = copyCommands (gathered cs); held = copy-read cs s; gathers = sym (copy-gathers cs s) } in
@@ -83,30 +96,19 @@ module _ (sheet : List ℕ) (cs : List Command) (e : readingOf sheet ≡ holds c
   clean-copy =
       record {
         same = alike;
-        sized = copy-length (gathered cs) ∙ ap copyLength (sym (copy-gathers cs s));
+        agrees = copy-agrees cs s;
+        one-limit = copy-limits cs s;
+        length-told = copy-length (gathered cs);
         short = short;
         again = again;
         equal = equal;
-        quoted = formed;
+        same-quote = same-quote;
       }
 
--- 10 is neither a refusal of reading nor 12
-never-ten : (sheet : List ℕ) (room : ℕ) (x : Reading) → readingOf sheet ≡ x → cleanedFrom x room .number ≡ empty → ⊥
-unfolding cleanedFrom
-never-ten sheet room (refused f) e q = let told : f .number ≡ empty = q in omega (arith, reading-early sheet f e, told)
-never-ten sheet room (holds cs) e q =
-    cond-has (λ (c : Case). c .number ≡ empty → ⊥) (ltb room (length (copyBytes (gathered cs)))) (λ _. short-is-other) (λ _. none-is-other) q
-  where
-    short-is-other : shortBuffer ≡ empty → ⊥
-    short-is-other z = omega arith
-
-    none-is-other : 0 ≡ empty → ⊥
-    none-is-other z = omega arith
-
 -- the promise of the equations
-pub promised : (sheet buffer : List ℕ) → Cleaned sheet (cleanedOf sheet (length buffer)) (bufferCleaned sheet buffer)
+pub clean-promised : (sheet buffer : List ℕ) → CleanPromise sheet (cleanedOf sheet (length buffer)) (bufferCleaned sheet buffer)
 unfolding cleanedOf cleanedFrom bufferCleaned bufferFrom text
-promised sheet buffer = record {
+clean-promised sheet buffer = record {
   never-empty = never-ten sheet (length buffer) (readingOf sheet) refl;
   copied = copied (readingOf sheet) refl;
 }
@@ -134,5 +136,5 @@ module _ (sheet buffer : List ℕ) (r : Reply) (e : sheetReply r ≡ replyTold (
 
 -- the three clauses of the contract from the two equations
 pub clauses : (sheet buffer : List ℕ) {c : Case} {after : List ℕ} → (c ≡ cleanedOf sheet (length buffer)) × (after ≡ bufferCleaned sheet buffer)
-    → (c ≡ cleanedOf sheet (length buffer)) × ((after ≡ bufferCleaned sheet buffer) × Cleaned sheet c after)
-clauses sheet buffer h = (h .0, (h .1, rw (h .0, h .1) (promised sheet buffer)))
+    → (c ≡ cleanedOf sheet (length buffer)) × ((after ≡ bufferCleaned sheet buffer) × CleanPromise sheet c after)
+clauses sheet buffer h = (h .0, (h .1, rw (h .0, h .1) (clean-promised sheet buffer)))

@@ -1,33 +1,41 @@
 -- Document 02, E1: what a clean copy is good for, told by the bytes of the sheet and of the copy.
 use Prim.Native.Nat.{ℕ, _≤_}
 use mathlib.Core.Path.{_≡_}
-use mathlib.Core.Bool.{not}
-use mathlib.Core.List.{List, _++_}
-use lib.Dec.{T}
+use mathlib.Core.Bool.{cond, not}
+use mathlib.Core.List.{List, [], _∷_, _++_}
+use lib.Dec.{T, eqb}
 use lib.ListN.{length, take, drop}
 use Rattle.base.specs.Cases.{Case, accepting, acceptedOutcome, isRefused}
 use Rattle.base.specs.Refusals.{empty}
 use Rattle.sheet.specs.declared.Command.{Command}
-use Rattle.sheet.specs.Gathered.{gathered}
+use Rattle.sheet.specs.Agreeing.{Agreeing}
+use Rattle.sheet.specs.Commands.{wiresOf, limitsOn}
+use Rattle.sheet.specs.Gathered.{gathered, limitOn}
 use Rattle.sheet.specs.Judged.{holds}
+use Rattle.sheet.specs.Limits.{allOnes}
 use Rattle.reader.specs.Reading.{readingOf}
 use Rattle.quote.specs.Quote.{quotedOf, bufferQuoted}
 use Rattle.clean.specs.Copy.{copyLength, longestCopy}
 use Rattle.clean.specs.Cleaned.{cleanedOf, bufferCleaned}
 
--- two sheets that are accepted and gather the same: sizes, rows, marks, permitted sets, gates in order, outputs in order
+-- two sheets that are accepted and gather the same: n and m; of each pattern the mark, the present value and the permitted set; the gates; the outputs
 pub record GatherAlike (one other : List ℕ) : Type 0 where
   pub commands : List Command
   pub held : readingOf one ≡ holds commands
   pub others : List Command
   pub held-others : readingOf other ≡ holds others
-  pub alike : gathered commands ≡ gathered others
+  pub gathers : gathered commands ≡ gathered others
 
 pub record CleanCopy (sheet copy : List ℕ) : Type 0 where
   -- reading the copy is accepted, and gathers what the sheet does
   pub same : GatherAlike copy sheet
-  -- it has the length that is told by what was gathered
-  pub sized : length copy ≡ copyLength (gathered (same .commands))
+  -- told by the commands: they agree in what they say,
+  pub agrees : Agreeing (same .commands) (same .others)
+  -- and on each pattern the copy has one 06 with what is permitted there, or none where that is all values
+  pub one-limit : (p : ℕ)
+      → limitsOn p (same .commands) ≡ cond (eqb (limitOn p (same .commands)) (allOnes (wiresOf (same .commands)))) [] (limitOn p (same .commands) ∷ [])
+  -- its length is told by what the sheet gathers
+  pub length-told : length copy ≡ copyLength (gathered (same .others))
   pub short : length copy ≤ longestCopy
   -- cleaning it again writes it again, in every buffer that is long enough
   pub again : (buffer : List ℕ) → length copy ≤ length buffer
@@ -36,11 +44,11 @@ pub record CleanCopy (sheet copy : List ℕ) : Type 0 where
   pub equal : (other : List ℕ) → GatherAlike other sheet → (buffer : List ℕ)
       → (cleanedOf other (length buffer) ≡ cleanedOf sheet (length buffer)) × (bufferCleaned other buffer ≡ bufferCleaned sheet buffer)
   -- its quote is the quote of the sheet, refusals included
-  pub quoted : (budget : ℕ) (buffer : List ℕ)
+  pub same-quote : (budget : ℕ) (buffer : List ℕ)
       → (quotedOf copy budget (length buffer) ≡ quotedOf sheet budget (length buffer)) × (bufferQuoted copy budget buffer ≡ bufferQuoted sheet budget buffer)
 
 -- the reply to a sheet, and the buffer that is left
-pub record Cleaned (sheet : List ℕ) (r : Case) (buffer : List ℕ) : Type 0 where
+pub record CleanPromise (sheet : List ℕ) (r : Case) (buffer : List ℕ) : Type 0 where
   -- the refusal's number is never 10
   pub never-empty : r .number ≡ empty → ⊥
   -- unless it is refused, the bytes written are a clean copy

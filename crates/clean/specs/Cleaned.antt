@@ -1,5 +1,5 @@
--- Document 02, E1: what cleaning a sheet answers, and what the lent buffer holds then. What reading refuses stays refused; then the buffer may be too short. The
--- relation has no part in it, so that an empty R(p) hinders nothing.
+-- Document 02, E1: what cleaning a sheet answers, and what the lent buffer holds then. What reading refuses stays refused; then the buffer may be too short.
+-- The relation has no part in it, so that an empty R(p) hinders nothing.
 use Prim.Native.Nat.{ℕ}
 use mathlib.Core.List.{List}
 use lib.ListN.{length}

@@ -17,21 +17,21 @@ unfoldable pub listed {ℓ} : {A : Type ℓ} → ℕ → (ℕ → List A) → Li
 listed zero f = []
 listed (suc k) f = listed k f ++ f k
 
--- pattern p is impossible
-abbrev pub isImpossible : Sheet → ℕ → Bool
-isImpossible h p = eqb (getD (h .marks) p 0) dontCareMark
+-- a mark that calls its pattern impossible: an external don't care
+abbrev pub marksDontCare : ℕ → Bool
+marksDontCare mark = eqb mark dontCareMark
 
--- every value is permitted on pattern p, whether no 06 says otherwise or several do not together
-abbrev pub permitsAll : Sheet → ℕ → Bool
-permitsAll h p = eqb (getD (h .limits) p 0) (allOnes (h .m))
+-- a set with every value that m wires have limits nothing
+abbrev pub permitsAll : (m set : ℕ) → Bool
+permitsAll m set = eqb set (allOnes m)
 
 -- what a copy has for pattern p: its 03 or its 02,
 abbrev pub copyMark : Sheet → ℕ → List Command
-copyMark h p = cond (isImpossible h p) (DontCare p ∷ []) (Row p (getD (h .values) p 0) ∷ [])
+copyMark h p = cond (marksDontCare (getD (h .marks) p 0)) (DontCare p ∷ []) (Row p (getD (h .values) p 0) ∷ [])
 
--- and one 06 with the set that is permitted, unless that is every value
+-- and one 06 with the set that is permitted, unless that limits nothing
 abbrev pub copyLimit : Sheet → ℕ → List Command
-copyLimit h p = cond (permitsAll h p) [] (Limit p (getD (h .limits) p 0) ∷ [])
+copyLimit h p = cond (permitsAll (h .m) (getD (h .limits) p 0)) [] (Limit p (getD (h .limits) p 0) ∷ [])
 
 -- what it has for gate i, and for output i
 abbrev pub copyGate : Sheet → ℕ → List Command
@@ -53,15 +53,21 @@ copyCommands h =
 abbrev pub copyBytes : Sheet → List ℕ
 copyBytes h = bytesOf (copyCommands h)
 
--- how many bytes that is: of the mark of a pattern, of its limit, and in all
-abbrev pub markLength : Sheet → ℕ → ℕ
-markLength h p = cond (isImpossible h p) 2 3
+-- how many bytes that is: of a pattern by its mark, and by its permitted set; and in all
+abbrev pub markLength : ℕ → ℕ
+markLength mark = cond (marksDontCare mark) 2 3
 
-abbrev pub limitLength : Sheet → ℕ → ℕ
-limitLength h p = cond (permitsAll h p) 0 4
+abbrev pub limitLength : (m set : ℕ) → ℕ
+limitLength m set = cond (permitsAll m set) 0 4
 
 unfoldable pub copyLength : Sheet → ℕ
-copyLength h = 3 + sum (2 ^ h .n) (markLength h) + sum (2 ^ h .n) (limitLength h) + 4 * h .«gate_count» + 2 * h .«output_count» + 1
+copyLength h =
+    3
+    + sum (2 ^ h .n) (λ p. markLength (getD (h .marks) p 0))
+    + sum (2 ^ h .n) (λ p. limitLength (h .m) (getD (h .limits) p 0))
+    + 4 * h .«gate_count»
+    + 2 * h .«output_count»
+    + 1
 
 -- a copy of a sheet within the limits has no more
 abbrev pub longestCopy : ℕ

@@ -1,7 +1,7 @@
 // The copy of a sheet that was read, at the start of a lent buffer.
 // Inner function: `clean` has the sheet from its reader.
 use crate::lengths::copy_length;
-use crate::parts::put_copy;
+use crate::sections::put_copy;
 use base::Refusal;
 use base::Written;
 use sheet::Sheet;
@@ -9,7 +9,7 @@ ghost use mathlib.Core.Path.{_≡_};
 ghost use lib.ListN.{length};
 ghost use Rattle.base.specs.Buffers.{fitted, bufferWith};
 ghost use Rattle.base.specs.Cases.{writtenCase};
-ghost use Rattle.unit.specs.Inner.Forming.{WasRead};
+ghost use Rattle.reader.specs.Inner.WasRead.{WasRead};
 ghost use Rattle.clean.specs.Copy.{copyBytes};
 
 // Writes the copy, unless the buffer is too short.

@@ -13,3 +13,4 @@ pub mod Rows
 pub mod FirstRefusals
 pub mod Numbers
 pub mod ReadBack
+pub mod Placed

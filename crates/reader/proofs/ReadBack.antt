@@ -23,9 +23,9 @@ use Rattle.reader.proofs.Passages.{InOrder, Complete}
 use Rattle.reader.proofs.Enough.{readingAt, reading-step, reading-whole}
 
 -- commands each of which is in order after those before it, 00 not among them
-pub data Ordered : List Command → Type 0 where
-  nothing : Ordered []
-  another : (before : List Command) (c : Command) → Ordered before → InOrder before c → isEnd c ≡ false → Ordered (before ++ c ∷ [])
+pub data InTurn : List Command → Type 0 where
+  no-turns : InTurn []
+  turn-more : (before : List Command) (c : Command) → InTurn before → InOrder before c → isEnd c ≡ false → InTurn (before ++ c ∷ [])
 
 in-turn : (t e : Bool) → t ≡ e → cond t (not e) (not (not e)) ≡ false
 in-turn true e f = ap not (sym f)
@@ -48,7 +48,8 @@ module _ (x : List ℕ) (before : List Command) where
       rw (some, e0, e1, e2, e3, w, in-turn (eqb b 1) (isEmpty before) (sym t ∙ o .first), whole, e, o .in-range)
 
   next-back : (c : Command) (q : List ℕ) → InOrder before c
-      → nextOf (x ++ (commandBytes c ++ q)) (readerAt (length x) before) ≡ Read c (movedPast (readerAt (length x) before) c (length x + length (commandBytes c)))
+      → nextOf (x ++ (commandBytes c ++ q)) (readerAt (length x) before)
+      ≡ Read c (movedPast (readerAt (length x) before) c (length x + length (commandBytes c)))
   next-back End q o = reads End 0 q refl refl refl (omega arith) o
   next-back (Sizes n m) q o = reads (Sizes n m) 1 (n ∷ m ∷ q) refl refl refl (omega arith) o
   next-back (Row p v) q o = reads (Row p v) 2 (p ∷ v ∷ q) refl refl refl (omega arith) o
@@ -64,10 +65,10 @@ module _ (x : List ℕ) (before : List Command) where
   one-back c q o = rw (next-back c q o, o .made, o .new, o .room)
 
 -- the reading of the bytes of commands in order comes to the end of them
-through : (cs : List Command) → Ordered cs → (q : List ℕ) → readingOf (bytesOf cs ++ q) ≡ readingAt (bytesOf cs ++ q) (length (bytesOf cs)) cs
+through : (cs : List Command) → InTurn cs → (q : List ℕ) → readingOf (bytesOf cs ++ q) ≡ readingAt (bytesOf cs ++ q) (length (bytesOf cs)) cs
 unfolding collect
-through cs nothing q = reading-whole q
-through cs (another before c p o n) q =
+through cs no-turns q = reading-whole q
+through cs (turn-more before c p o n) q =
     let x = bytesOf before in
     let s = x ++ (commandBytes c ++ q) in
     rw (collect-snoc commandBytes before c, append-assoc x (commandBytes c) q, length-append x (commandBytes c))
@@ -75,9 +76,10 @@ through cs (another before c p o n) q =
     ∙ ap (continued (readingAt s)) (one-back x before c q o) ∙ rw n)
 
 -- commands in order, then 00, with no pattern missing
-pub read-back : (cs : List Command) → Ordered cs → isEmpty cs ≡ false → Complete (cs ++ End ∷ []) → readingOf (bytesOf (cs ++ End ∷ [])) ≡ holds (cs ++ End ∷ [])
+pub commands-back : (cs : List Command) → InTurn cs → isEmpty cs ≡ false → Complete (cs ++ End ∷ [])
+    → readingOf (bytesOf (cs ++ End ∷ [])) ≡ holds (cs ++ End ∷ [])
 unfolding ending
-read-back cs p some all =
+commands-back cs p some all =
     let x = bytesOf cs in
     let s = x ++ 0 ∷ [] in
     let ds = cs ++ End ∷ [] in

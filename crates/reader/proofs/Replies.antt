@@ -1,4 +1,5 @@
 -- What the reply of `read_sheet` tells of the reading.
+use Prim.Native.Nat.{ℕ}
 use mathlib.Core.Path.{_≡_, refl, sym, ap, _∙_}
 use mathlib.Core.List.{List}
 use Rattle.base.specs.declared.Refusal.{Refusal}
@@ -11,7 +12,8 @@ use Rattle.sheet.specs.declared.Sheet.{Sheet}
 use Rattle.sheet.specs.Cases.{SheetReply, sheetReply}
 use Rattle.sheet.specs.Gathered.{gathered}
 use Rattle.sheet.specs.Judged.{Reading, holds, refused}
-use Rattle.reader.specs.Reading.{replyTold}
+use Rattle.reader.specs.Reading.{readingOf, replyTold}
+use Rattle.reader.specs.Inner.WasRead.{WasRead}
 use Rattle.sheet.specs.Inner.Gathering.{gatheredReply}
 
 -- an accepted sheet holds commands, and is what they say
@@ -42,3 +44,9 @@ module _ (r : Reply) where
   unfolding replyTold
   refused-reply (holds cs) e f a = refused-accepted f (ap verdictCase (sym a) ∙ answer-told (holds cs) e)
   refused-reply (refused g) e f a = ap refused (sym (same-refusal refusedOutcome f g (ap verdictCase (sym a) ∙ answer-told (refused g) e)))
+
+-- a reply that accepts comes from a sheet that was read
+unfoldable pub accepted-held : (bytes : List ℕ) (r : Reply) → sheetReply r ≡ replyTold (readingOf bytes) → r .answer ≡ Accepted → WasRead (r .sheet)
+accepted-held bytes r e a =
+    let x = accepted-reply r (readingOf bytes) e a in
+    record { bytes = bytes; commands = x .commands; held = x .holds-them; gathers = x .sheet-is }

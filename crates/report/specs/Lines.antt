@@ -112,7 +112,7 @@ longestCounts = length cellsText + length floorText + length visitsText + 3 * lo
 abbrev pub longestWord : ℕ
 longestWord = length stoppedText
 
--- and so many bytes of a stage: a pair for each and what parts it from the next,
+-- and so many bytes, of a stage or of a copy: a pair for each and what parts it from the next,
 abbrev pub longestPairs : ℕ → ℕ
 longestPairs most = 3 * most
 

@@ -24,7 +24,7 @@ pub fn put_counts(out: &mut [u8], at: usize, cells: u32, floor: u32, visits: u32
 }
 
 // A number that is not above the most there may be.
-pub fn capped(k: usize, most: usize) -> usize
+pub fn lower_of(k: usize, most: usize) -> usize
     ensures { λ r. ⌜ (r ≡ min most k) × (r ≤ most) ⌝ }
 {
     if k < most { k } else { most }
@@ -35,7 +35,7 @@ pub fn put_shown_pairs(out: &mut [u8], at: usize, bytes: &[u8], k: usize, most: 
     requires { ⌜ at + longestPairs most ≤ lastPlace ⌝ }
     ensures { λ r. ⌜ PutWithin (longestPairs most) (now (out .entry)) at (shownPairs most k (now (bytes .entry))) (now (out .exit)) r ⌝ }
 {
-    put_hex_pairs(out, at, bytes, capped(k, most))
+    put_hex_pairs(out, at, bytes, lower_of(k, most))
 }
 
 // Puts their line.

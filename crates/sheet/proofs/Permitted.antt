@@ -1,10 +1,10 @@
 -- The permitted values of a pattern: those of every 06 for it, out of all.
 use Prim.Native.Nat.{ℕ, min, _-_, _/_, _%_, _^_, _<_, _≤_}
-use mathlib.Core.Path.{_≡_, ap}
+use mathlib.Core.Path.{_≡_, ap, _∙_}
 use mathlib.Core.List.{List, [], _∷_}
-use native.Mathlib.Nat.{le-trans, lt-of-le-of-lt}
+use native.Mathlib.Nat.{le-trans, lt-of-le-of-lt, mod-eq-of-lt}
 use native.Mathlib.Omega.{arith}
-use lib.Bits.{bitAnd, and-step, and-shr, and-le-l}
+use lib.Bits.{bitAnd, and-step, and-shr, and-le-l, and-comm, and-mask}
 use lib.Pow.{ones-lt}
 use Rattle.sheet.specs.Limits.{maxWires, allOnes}
 use Rattle.sheet.specs.declared.Command.{Command}
@@ -46,6 +46,10 @@ meet-le w (x ∷ xs) = le-trans (meet-le (bitAnd w x) xs) (and-le-l w x)
 -- the set of all values of m wires
 pub all-values : (m : ℕ) → m ≤ maxWires → allOnes m ≡ 2 ^ (2 ^ m) - 1
 all-values m h = ap (λ k. 2 ^ k - 1) (uncapped maxWires m h)
+
+-- a set of values out of all
+pub out-of-all : (m w : ℕ) → m ≤ maxWires → w < 2 ^ (2 ^ m) → bitAnd (allOnes m) w ≡ w
+out-of-all m w h l = rw (all-values m h) (and-comm (2 ^ (2 ^ m) - 1) w ∙ and-mask w (2 ^ m) ∙ mod-eq-of-lt l)
 
 pub limit-below : (p : ℕ) (cs : List Command) → wiresOf cs ≤ maxWires → limitOn p cs < 2 ^ (2 ^ wiresOf cs)
 limit-below p cs h = lt-of-le-of-lt (meet-le (allOnes (wiresOf cs)) (limitsOn p cs)) (rw (all-values (wiresOf cs) h) (ones-lt (2 ^ wiresOf cs)))

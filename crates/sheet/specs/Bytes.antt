@@ -18,7 +18,3 @@ commandBytes (Limit p w) = 6 ∷ p ∷ w % 256 ∷ w / 256 ∷ []
 -- commands one after the other, with nothing between
 abbrev pub bytesOf : List Command → List ℕ
 bytesOf = collect commandBytes
-
--- no command has more bytes
-abbrev pub longestCommand : ℕ
-longestCommand = 4

@@ -15,7 +15,7 @@ use Rattle.sheet.specs.Limits.{sizesOut, isBeyond}
 use Rattle.base.specs.declared.Refusal.{Refusal}
 use Rattle.base.proofs.Tests.{decide}
 use Rattle.base.proofs.Lowest.{lowest-below}
-use Rattle.base.proofs.Buffers.{short-refused as fitted-short, room-accepted as fitted-room, buffer-kept as kept, buffer-stored as stored}
+use Rattle.base.proofs.Buffers.{fitted-short, fitted-room, buffer-left, buffer-stored}
 use Rattle.stage.specs.Written.{stageOf, firstOut, writtenOf, bufferAfter}
 
 -- what the writer answers, test by test
@@ -51,10 +51,10 @@ tables-in n m tables h j l =
 module _ (n m : ℕ) (tables b : List ℕ) where
   pub buffer-kept : (f : Refusal) → writtenOf n m tables (length b) ≡ refusedCase f → b ≡ bufferAfter n m tables b
   unfolding bufferAfter
-  buffer-kept f e = kept (stageOf n m tables) b f e
+  buffer-kept f e = buffer-left (stageOf n m tables) b f e
 
   pub buffer-written : (c : List ℕ) → writtenOf n m tables (length b) ≡ accepting acceptedOutcome (length (stageOf n m tables))
       → length (stageOf n m tables) ≤ length b
       → c ≡ sets b 0 (stageOf n m tables) → c ≡ bufferAfter n m tables b
   unfolding bufferAfter
-  buffer-written c e h s = stored (stageOf n m tables) b c e h s
+  buffer-written c e h s = buffer-stored (stageOf n m tables) b c e h s

@@ -1,6 +1,6 @@
 -- Laws of writing a stage: what the stores of each part leave.
 use Prim.Native.Nat.{ℕ, suc, _+_, _-_, _<_, _≤_}
-use mathlib.Core.Path.{ap, _≡_, refl, _∙_}
+use mathlib.Core.Path.{ap, _≡_, refl}
 use mathlib.Core.List.{List, [], _∷_, _++_, map}
 use native.Mathlib.Omega.{arith}
 use native.Mathlib.Numerals.{add-one}

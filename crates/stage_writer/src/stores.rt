@@ -31,7 +31,7 @@ fn constant(t: u16) -> u8
 
 // Writes a command with one operand, and hands back the place after it.
 // The bound on the place is only there for the sums: no stage is longer.
-fn put_command(buffer: &mut [u8], at: usize, command: u8, operand: u8) -> usize
+fn put_with_operand(buffer: &mut [u8], at: usize, command: u8, operand: u8) -> usize
     requires { ⌜ at + 2 ≤ longestStage ⌝ }
     ensures { λ r. ⌜ Put (now (buffer .entry)) at (command ∷ operand ∷ []) (now (buffer .exit)) r ⌝ }
 {
@@ -57,7 +57,7 @@ fn put_tree(buffer: &mut [u8], at: usize, w: u8, k: u8, t: u16) -> usize
     if low == high {
         put_tree(buffer, at, v, input, low)
     } else {
-        let for_zero = put_command(buffer, at, 0x22, input);
+        let for_zero = put_with_operand(buffer, at, 0x22, input);
         let for_one = put_tree(buffer, for_zero, v, input, low);
         put_tree(buffer, for_one, v, input, high)
     }
@@ -68,7 +68,7 @@ fn put_wire(buffer: &mut [u8], at: usize, n: u8, j: u8, t: u16) -> usize
     requires { ⌜ (n ≤ maxInputs) × (at + length (wireBytes j (reduced n 0 t)) ≤ longestStage) ⌝ }
     ensures { λ r. ⌜ Put (now (buffer .entry)) at (wireBytes j (reduced n 0 t)) (now (buffer .exit)) r ⌝ }
 {
-    let tree_at = put_command(buffer, at, 0x21, j);
+    let tree_at = put_with_operand(buffer, at, 0x21, j);
     put_tree(buffer, tree_at, n, 0, t)
 }
 

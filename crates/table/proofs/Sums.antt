@@ -31,6 +31,11 @@ unfolding sum
 sum-bound zero c f h = omega arith
 sum-bound (suc k) c f h = omega (arith, sum-bound k c f (λ i l. h i (omega arith)), h k (omega arith))
 
+pub sum-constant : (k c : ℕ) → sum k (λ _. c) ≡ c * k
+unfolding sum
+sum-constant zero c = omega arith
+sum-constant (suc k) c = omega (arith, sum-constant k c)
+
 -- what is 0 from m on adds nothing
 pub sum-short : (f : ℕ → ℕ) (m k : ℕ) → m ≤ k → ((i : ℕ) → m ≤ i → f i ≡ 0) → sum k f ≡ sum m f
 unfolding sum

@@ -8,7 +8,7 @@ use clean::LONGEST_COPY;
 use quote::Audited;
 use quote::Quoted;
 use relation::Relation;
-use report::parts::capped;
+use report::parts::lower_of;
 use report::parts::put_counts;
 use report::parts::put_refusal;
 use report::parts::put_refusal_line;
@@ -255,7 +255,7 @@ fn put_clean(out: &mut [u8], at: usize, s: &[u8], from: usize) -> usize
     requires { ⌜ (at + longestReply ≤ lastPlace) × (from + longestRecord ≤ lastPlace) ⌝ }
     ensures { λ r. ⌜ r ≤ at + longestReply ⌝ }
 {
-    let room = capped(length_at(s, from + 1), MOST_COPY_ROOM);
+    let room = lower_of(length_at(s, from + 1), MOST_COPY_ROOM);
     let sheet = part(s, from + 5, length_at(s, from + 3));
     let mut space = [FILL; MOST_COPY_ROOM];
     put_clean_into(out, at, sheet, &mut space[0..room])

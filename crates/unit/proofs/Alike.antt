@@ -13,7 +13,6 @@ use Rattle.base.proofs.Tabulate.{tabulate-at, tabulate-cong}
 use Rattle.table.specs.Bits.{tabulate}
 use Rattle.relation.specs.declared.Relation.{Relation}
 use Rattle.relation.specs.Handed.{checkOf}
-use Rattle.sheet.specs.declared.Command.{Command}
 use Rattle.sheet.specs.declared.Sheet.{Sheet}
 use Rattle.sheet.specs.Commands.{inputsOf, wiresOf, outputsOf}
 use Rattle.sheet.specs.Gathered.{gathered, rowMark}
@@ -21,8 +20,10 @@ use Rattle.sheet.specs.Limits.{maxPatterns, maxValues}
 use Rattle.sheet.proofs.Fields.{inputs-field, wires-field, outputs-field, output-field}
 use Rattle.unit.specs.Gates.{outputsFor}
 use Rattle.unit.specs.Formed.{setOn, relationIn, formedOf}
-use Rattle.unit.specs.Inner.Forming.{WasRead, Codes, codeOf, checkedReply}
-use Rattle.unit.proofs.Placed.{held-sound, signals-is}
+use Rattle.reader.specs.Inner.WasRead.{WasRead}
+use Rattle.unit.specs.Inner.Forming.{Codes, codeOf, checkedReply}
+use Rattle.reader.proofs.Placed.{held-sound}
+use Rattle.unit.proofs.HeldSignals.{signals-is}
 use Rattle.unit.proofs.Allowed.{set-unmarked, set-marked}
 use Rattle.unit.proofs.Forming.{after-check}
 

@@ -20,9 +20,11 @@ use Rattle.sheet.specs.Gathered.{outputAt}
 use Rattle.sheet.proofs.Fields.{outputs-field, output-field}
 use Rattle.unit.specs.Gates.{signalsOn, outputsFor}
 use Rattle.unit.specs.Relation.{sameList}
-use Rattle.unit.specs.Inner.Forming.{WasRead, Signals, codeOf}
+use Rattle.reader.specs.Inner.WasRead.{WasRead}
+use Rattle.unit.specs.Inner.Forming.{Signals, codeOf}
 use Rattle.unit.proofs.Signals.{AllBits, upTo-bits, gates-upTo}
-use Rattle.unit.proofs.Placed.{placed, wires-bits, signals-made, output-room}
+use Rattle.reader.proofs.Placed.{placed}
+use Rattle.unit.proofs.HeldSignals.{wires-bits, signals-made, output-room}
 
 pub signals-bits : (cs : List Command) (v : ℕ) → AllBits (signalsOn cs v)
 unfolding signalsOn

@@ -11,23 +11,13 @@ use Rattle.base.specs.Cases.{acceptedCase}
 use Rattle.base.proofs.Tests.{decide}
 use Rattle.relation.specs.Handed.{checkOf}
 use Rattle.sheet.specs.declared.Command.{Command}
-use Rattle.base.specs.declared.Verdict.the-variants.{Accepted}
-use Rattle.sheet.specs.declared.Reply.{Reply}
 use Rattle.sheet.specs.Commands.{inputsOf}
-use Rattle.sheet.specs.Cases.{sheetReply}
 use Rattle.sheet.specs.Judged.{holds, refused}
-use Rattle.reader.specs.Reading.{readingOf, replyTold}
-use Rattle.reader.proofs.Replies.{accepted-reply}
+use Rattle.reader.specs.Reading.{readingOf}
 use Rattle.reader.proofs.Sound.{sound}
 use Rattle.unit.specs.Formed.{relationIn, turnedAway, formedFrom, formedOf}
-use Rattle.unit.specs.Inner.Forming.{WasRead, checkedReply}
+use Rattle.unit.specs.Inner.Forming.{checkedReply}
 use Rattle.unit.proofs.Told.{emptyIn, refused-empty, passes-whole}
-
--- a reply that accepts comes from a sheet that was read
-unfoldable pub accepted-held : (bytes : List ℕ) (r : Reply) → sheetReply r ≡ replyTold (readingOf bytes) → r .answer ≡ Accepted → WasRead (r .sheet)
-accepted-held bytes r e a =
-    let x = accepted-reply r (readingOf bytes) e a in
-    record { bytes = bytes; commands = x .commands; held = x .holds-them; gathers = x .sheet-is }
 
 module _ (bytes : List ℕ) where
   pub formed-refused : (f : Refusal) → readingOf bytes ≡ refused f → formedOf bytes ≡ turnedAway f

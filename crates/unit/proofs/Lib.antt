@@ -1,7 +1,7 @@
 -- Laws of the second stage and of the relation of a sheet.
 pub mod Bits
 pub mod Signals
-pub mod Placed
+pub mod HeldSignals
 pub mod Members
 pub mod Codings
 pub mod Allowed

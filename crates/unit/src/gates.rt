@@ -6,7 +6,8 @@ ghost use lib.ListN.{getD};
 ghost use Rattle.sheet.specs.Limits.{maxWires};
 ghost use Rattle.table.specs.Bits.{bit};
 ghost use Rattle.unit.specs.Gates.{gateBit};
-ghost use Rattle.unit.specs.Inner.Forming.{WasRead, Signals, codeOf};
+ghost use Rattle.reader.specs.Inner.WasRead.{WasRead};
+ghost use Rattle.unit.specs.Inner.Forming.{Signals, codeOf};
 
 // Room for a signal of each wire and of each gate.
 const MAX_SIGNALS: usize = Sheet::WIRES + Sheet::MAX_GATES as usize;

@@ -9,7 +9,8 @@ ghost use lib.Dec.{eqb};
 ghost use lib.ListN.{getD};
 ghost use Rattle.table.specs.Bits.{ofBits, isOne};
 ghost use Rattle.sheet.specs.Limits.{maxValues};
-ghost use Rattle.unit.specs.Inner.Forming.{WasRead, Codes};
+ghost use Rattle.reader.specs.Inner.WasRead.{WasRead};
+ghost use Rattle.unit.specs.Inner.Forming.{Codes};
 ghost use Rattle.unit.specs.Formed.{setOn, relationIn};
 
 // The outputs of every wire value, each as one number.

@@ -5,10 +5,26 @@ use sheet::Command;
 ghost use mathlib.Core.Path.{_≡_};
 ghost use Prim.Native.Nat.{_+_, _/_, _%_, _<_, _≤_};
 ghost use lib.ListN.{length, take};
-ghost use Rattle.base.specs.Inner.Put.{PutWithin, placeRange};
-ghost use Rattle.sheet.specs.Bytes.{commandBytes, longestCommand};
+ghost use Rattle.base.specs.Inner.Put.{PutWithin};
+ghost use Rattle.sheet.specs.Bytes.{commandBytes};
+ghost use Rattle.writer.specs.Inner.Widths.{longestCommand, placeRange};
 
-// No command has more bytes than this.
+// How many bytes each command has, its first included.
+pub const END_WIDTH: usize = 1;
+
+pub const SIZES_WIDTH: usize = 3;
+
+pub const ROW_WIDTH: usize = 3;
+
+pub const DONT_CARE_WIDTH: usize = 2;
+
+pub const GATE_WIDTH: usize = 4;
+
+pub const OUTPUT_WIDTH: usize = 2;
+
+pub const LIMIT_WIDTH: usize = 4;
+
+// No command has more.
 const LONGEST_COMMAND: usize = 4;
 
 // A command as bytes: its own at the front, and how many they are.
@@ -36,34 +52,34 @@ fn encode(c: Command) -> Encoded
     match c {
         Command::End => Encoded {
             bytes: [0x00, 0, 0, 0],
-            length: 1,
+            length: END_WIDTH,
         },
         Command::Sizes { n, m } => Encoded {
             bytes: [0x01, n, m, 0],
-            length: 3,
+            length: SIZES_WIDTH,
         },
         Command::Row { p, v } => Encoded {
             bytes: [0x02, p, v, 0],
-            length: 3,
+            length: ROW_WIDTH,
         },
         Command::DontCare { p } => Encoded {
             bytes: [0x03, p, 0, 0],
-            length: 2,
+            length: DONT_CARE_WIDTH,
         },
         Command::Gate { kind, a, b } => Encoded {
             bytes: [0x04, kind, a, b],
-            length: 4,
+            length: GATE_WIDTH,
         },
         Command::Output { s } => Encoded {
             bytes: [0x05, s, 0, 0],
-            length: 2,
+            length: OUTPUT_WIDTH,
         },
         Command::Limit { p, set } => {
             let low = low_byte(set);
             let high = high_byte(set);
             Encoded {
                 bytes: [0x06, p, low, high],
-                length: 4,
+                length: LIMIT_WIDTH,
             }
         }
     }

@@ -1,5 +1,5 @@
--- What a call that puts text into a lent buffer leaves.
-use Prim.Native.Nat.{ℕ, _+_, _^_, _≤_}
+-- What a call that puts bytes into a lent buffer leaves: printed text, commands, parts of a stage.
+use Prim.Native.Nat.{ℕ, _+_, _≤_}
 use mathlib.Core.Path.{_≡_}
 use mathlib.Core.List.{List}
 use lib.ListN.{length}
@@ -14,10 +14,6 @@ pub record Put (before : List ℕ) (at : ℕ) (text after : List ℕ) (next : �
 pub record PutWithin (most : ℕ) (before : List ℕ) (at : ℕ) (text after : List ℕ) (next : ℕ) : Type 0 where
   pub put : Put before at text after next
   pub short : next ≤ at + most
-
--- a place that a usize holds is below this
-abbrev pub placeRange : ℕ
-placeRange = 2 ^ 64
 
 -- no text ends past this place: far more than any buffer here holds, and small enough that a sum of two such places wraps around nowhere
 abbrev pub lastPlace : ℕ

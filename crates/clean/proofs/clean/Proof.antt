@@ -1,6 +1,6 @@
 -- `clean` meets its contract: the reading decides, and then the length.
 use mathlib.Core.Path.{refl}
-use Rattle.unit.proofs.Forming.{accepted-held}
+use Rattle.reader.proofs.Replies.{accepted-held}
 use Rattle.clean.proofs.Promises.{clauses, written-cleaned, refused-cleaned}
 use borrow.Author.Needs.{needs}
 use Rattle.clean.proofs.clean.Statement.{statement}

@@ -2,11 +2,10 @@
 use Prim.Native.Nat.{_+_, _-_, _≤_}
 use mathlib.Core.Path.{_≡_, refl, _∙_}
 use native.Mathlib.Omega.{arith}
-use native.Mathlib.Numerals.{add-one}
 use lib.ListN.{length, take}
-use lib.Seq.{take-suc, take-all}
+use lib.Seq.{take-all}
 use Rattle.base.specs.Inner.Put.{Put}
-use Rattle.base.proofs.Stores.{put-then, put-none}
+use Rattle.base.proofs.Stores.{put-next, put-none}
 use Rattle.text.proofs.put_text.Statement.{statement}
 use Rattle.text.proofs.put_text.Tie as tie
 
@@ -41,7 +40,7 @@ loop-again c =
       omega arith,
       p .put-byte .kept .0 ∙ l .inv .1,
       omega (arith, l .inv, p .put-byte .ensures .past),
-      rw (add-one (l .i), take-suc (a .text .now) (l .i) 0 (i .loop-test .taken)) (put-then (l .inv .3) (p .put-byte .ensures)),
+      put-next (a .text .now) (l .i) (l .inv .3) (p .put-byte .ensures) (i .loop-test .taken),
     )
 
 same-length : tie.Need-same-length Inv-loop μ-loop

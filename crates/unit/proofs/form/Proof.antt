@@ -3,7 +3,8 @@ use mathlib.Core.Path.{ap, sym, _∙_}
 use Rattle.relation.specs.Handed.{checkOf}
 use Rattle.unit.specs.Inner.Forming.{checkedReply}
 use Rattle.reader.proofs.Replies.{refused-reply}
-use Rattle.unit.proofs.Forming.{accepted-held, formed-refused, after-check}
+use Rattle.reader.proofs.Replies.{accepted-held}
+use Rattle.unit.proofs.Forming.{formed-refused, after-check}
 use borrow.Author.Needs.{needs}
 use Rattle.unit.proofs.form.Statement.{statement}
 use Rattle.unit.proofs.form.Tie as tie

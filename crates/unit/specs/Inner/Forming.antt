@@ -8,22 +8,11 @@ use Rattle.base.specs.Cases.{Case, isRefused}
 use Rattle.table.specs.Bits.{ofBits}
 use Rattle.relation.specs.declared.Relation.{Relation}
 use Rattle.sheet.specs.declared.Command.{Command}
-use Rattle.sheet.specs.declared.Sheet.{Sheet}
 use Rattle.sheet.specs.Commands.{signalsMade, outputsOf}
-use Rattle.sheet.specs.Gathered.{gathered}
 use Rattle.sheet.specs.Limits.{maxValues}
-use Rattle.sheet.specs.Judged.{holds}
-use Rattle.reader.specs.Reading.{readingOf}
 use Rattle.unit.specs.Cases.{FormedReply}
 use Rattle.unit.specs.Gates.{signalsOn, outputsFor}
 use Rattle.unit.specs.Formed.{noRelation}
-
--- a sheet that was gathered from the commands of an accepted reading
-pub record WasRead (sheet : Sheet) : Type 0 where
-  pub bytes : List ℕ
-  pub commands : List Command
-  pub held : readingOf bytes ≡ holds commands
-  pub gathers : sheet ≡ gathered commands
 
 -- the signals that there are, each at its place
 abbrev pub Signals : List Command → ℕ → List ℕ → Type 0

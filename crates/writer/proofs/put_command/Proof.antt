@@ -1,9 +1,10 @@
 -- `put_command` meets its contract. The loop's invariant: the bytes passed are put.
 use Prim.Native.Nat.{_+_, _-_, _≤_}
-use mathlib.Core.Path.{_≡_, refl, ap, _∙_}
+use mathlib.Core.Path.{_≡_, refl, _∙_}
 use native.Mathlib.Omega.{arith}
 use borrow.Author.Needs.{needs}
-use lib.ListN.{length as count, take}
+use mathlib.Core.List.{[], _∷_}
+use lib.ListN.{length as count, getD, take}
 use Rattle.base.specs.Inner.Put.{Put}
 use Rattle.base.proofs.Stores.{put-next}
 use Rattle.writer.proofs.put_command.Statement.{statement}
@@ -43,7 +44,9 @@ loop-again c =
     let e = p .before .before .before .before .before .encode in
     let a = p .before .before .before .before .before .before .before .args in
     let k : count (e .result .bytes) ≡ 4 = search needs in
-    (omega arith, p .put .kept .0 ∙ l .inv .1, put-next _ _ _ (e .result .bytes) (a .at) (l .i) (l .inv .2) (p .put .ensures) (omega arith))
+    let one : Put (l .out) (a .at + l .i) (getD (e .result .bytes) (l .i) 0 ∷ []) (p .put .last .0) (a .at + (l .i + 1)) =
+    record { stored = p .put .ensures; past = omega arith } in
+    (omega arith, p .put .kept .0 ∙ l .inv .1, put-next (e .result .bytes) (l .i) (l .inv .2) one (omega arith))
 
 add-result : tie.Need-add-result Inv-loop μ-loop
 add-result c = omega arith

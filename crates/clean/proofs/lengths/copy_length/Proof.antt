@@ -3,21 +3,23 @@ use Prim.Native.Nat.{_+_, _*_, _-_, _≤_}
 use mathlib.Core.Path.{_≡_, _∙_}
 use native.Mathlib.Omega.{arith}
 use borrow.Author.Needs.{needs}
+use lib.ListN.{getD}
 use Rattle.table.specs.Bits.{sum}
-use Rattle.clean.proofs.CopyLengths.{markBytes, limitBytes, count-none, count-more, count-all}
-use Rattle.unit.proofs.Placed.{placed}
+use Rattle.reader.proofs.Placed.{placed}
+use Rattle.writer.specs.Inner.Widths.{longestCommand}
+use Rattle.clean.specs.Copy.{markLength, limitLength}
+use Rattle.clean.proofs.CopyLengths.{count-none, count-more, count-all}
 use Rattle.clean.proofs.lengths.copy_length.Statement.{statement}
 use Rattle.clean.proofs.lengths.copy_length.Tie as tie
 
 abbrev Inv-loop : tie.InvT-loop
-Inv-loop marks limits all length₀ p₀ p-end length p =
-    (p ≤ p-end) × (length ≡ length₀ + sum p (markBytes marks) + sum p (limitBytes limits all)) × (length ≤ length₀ + 7 * p)
+Inv-loop m marks limits length₀ p₀ p-end length p =
+    (p ≤ p-end)
+    × (length ≡ length₀ + sum p (λ q. markLength (getD marks q 0)) + sum p (λ q. limitLength m (getD limits q 0)))
+    × (length ≤ length₀ + 2 * longestCommand * p)
 
 abbrev μ-loop : tie.MeasureT-loop
-μ-loop marks limits all length₀ p₀ p-end length p = p-end - p
-
-all-ones-requires : tie.Need-all-ones-requires Inv-loop μ-loop
-all-ones-requires c κs = search needs
+μ-loop m marks limits length₀ p₀ p-end length p = p-end - p
 
 cast-length : tie.Need-cast-length Inv-loop μ-loop
 cast-length c = search needs
@@ -90,10 +92,9 @@ returns : tie.Need-returns Inv-loop μ-loop
 returns c =
     let l = c .before .loop in
     let p = c .before .before .patterns-of in
-    let all = c .before .before .before .before .before .all-ones in
-    let s = c .before .before .before .before .before .before .before .before in
+    let s = c .before .before .before .before .before .before .before in
     let e : l .p ≡ p .result = omega arith in
-    count-all (s .args .sheet) (placed (s .pre)) (l .length) (l .p) (all .result) (e ∙ p .ensures .2 (placed (s .pre) .few-inputs)) (all .ensures) (l .inv .1)
+    count-all (s .args .sheet) (placed (s .pre)) (l .length) (l .p) (e ∙ p .ensures .2 (placed (s .pre) .few-inputs)) (l .inv .1)
 
 pub copy-length-spec : {M : Type 1} → statement M
 copy-length-spec =
@@ -101,7 +102,6 @@ copy-length-spec =
     (tie.spec
     Inv-loop
     μ-loop
-    all-ones-requires
     cast-length
     mul-length
     add-length

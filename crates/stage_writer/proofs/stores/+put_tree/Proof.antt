@@ -16,7 +16,7 @@ use Rattle.stage_writer.proofs.Halves.{reduced-same, reduced-two, same-
 use Rattle.stage_writer.proofs.Storing.{selector-stored}
 use Rattle.stage_writer.proofs.stores.constant.Reads as constant-reads
 use Rattle.stage_writer.proofs.stores.half_of.Reads as half-of-reads
-use Rattle.stage_writer.proofs.stores.put_command.Reads as put-command-reads
+use Rattle.stage_writer.proofs.stores.put_with_operand.Reads as put-with-operand-reads
 use Rattle.stage_writer.proofs.stores.put_tree.Reads as put-tree
 use Rattle.stage_writer.proofs.stores.put_tree.Kinds as kinds
 use Rattle.stage_writer.proofs.stores.+put_tree.Lts-put_tree as lts
@@ -44,8 +44,8 @@ module _ (t : ℕ) where
     half-of-reads.Learnt,
     below,
     put-tree.Post,
-    put-command-reads.Asked,
-    put-command-reads.Learnt,
+    put-with-operand-reads.Asked,
+    put-with-operand-reads.Learnt,
   )
 
   -- what holds at a place of the code, and what is needed there
@@ -113,19 +113,19 @@ module _ (t : ℕ) where
   put-tree-requires : Of lts.Need-put-tree-requires
   put-tree-requires c κs = omega (arith, one-fits (c .before))
 
-  put-command-requires : Of lts.Need-put-command-requires
-  put-command-requires c κs = omega (arith, both-fit (c .before))
+  put-with-operand-requires : Of lts.Need-put-with-operand-requires
+  put-with-operand-requires c κs = omega (arith, both-fit (c .before))
 
   put-tree-requires-2 : Of lts.Need-put-tree-requires-2
   put-tree-requires-2 c κs =
       let p = c .before .before .before in
-      omega (arith, p .put-command .ensures .past, both-fit (p .before .before))
+      omega (arith, p .put-with-operand .ensures .past, both-fit (p .before .before))
 
   put-tree-requires-3 : Of lts.Need-put-tree-requires-3
   put-tree-requires-3 c κs =
       let z = c .before .before .before in
       let p = z .before .before .before .before in
-      omega (arith, z .put-tree2 .ensures .past, p .put-command .ensures .past, both-fit (p .before .before))
+      omega (arith, z .put-tree2 .ensures .past, p .put-with-operand .ensures .past, both-fit (p .before .before))
 
   length-kept-2 : Of lts.Need-same-length-2
   length-kept-2 c = c .before .before .put-tree .kept .0
@@ -142,20 +142,20 @@ module _ (t : ℕ) where
   abbrev zero-done : Of lts.After-put-tree3 → Of lts.After-put-tree2
   zero-done c = c .before .before .before .before
 
-  abbrev selector-done : Of lts.After-put-tree2 → Of lts.After-put-command
+  abbrev selector-done : Of lts.After-put-tree2 → Of lts.After-put-with-operand
   selector-done c = c .before .before .before .before
 
   -- the selector names the input after the k others
-  selector-there : (c : Of lts.After-put-command)
-      → c .put-command .last .0
+  selector-there : (c : Of lts.After-put-with-operand)
+      → c .put-with-operand .last .0
       ≡ sets (c .before .before .before .before .before .before .args .buffer .now) (c .before .before .before .before .before .before .args .at)
       (0x22 ∷ (c .before .before .before .before .before .before .args .k + 1) ∷ [])
-  selector-there c = c .put-command .ensures .stored
+  selector-there c = c .put-with-operand .ensures .stored
 
   length-kept-3 : Of lts.Need-same-length-3
   length-kept-3 c =
       let o = c .before .before in
-      o .put-tree3 .kept .0 ∙ zero-done o .put-tree2 .kept .0 ∙ selector-done (zero-done o) .put-command .kept .0
+      o .put-tree3 .kept .0 ∙ zero-done o .put-tree2 .kept .0 ∙ selector-done (zero-done o) .put-with-operand .kept .0
 
   returns-3 : Of lts.Need-returns-3
   returns-3 c =
@@ -167,7 +167,7 @@ module _ (t : ℕ) where
       let a = h .before .before .before .args in
       rw (reduced-two (a .w) (a .k) (a .t) _ (h .before .if1 .left) (h .half-of .ensures) (e .if2 .left))
       (selector-stored (for-zero h) (for-one h) (a .k + 1)
-      (record { stored = selector-there p; past = p .put-command .ensures .past }) (z .put-tree2 .ensures) (o .put-tree3 .ensures))
+      (record { stored = selector-there p; past = p .put-with-operand .ensures .past }) (z .put-tree2 .ensures) (o .put-tree3 .ensures))
 
   pub meets : {M : Type 1} → lts.Closed claims here put-tree.Post M
   meets =
@@ -186,7 +186,7 @@ module _ (t : ℕ) where
       div-high
       add-input
       put-tree-requires
-      put-command-requires
+      put-with-operand-requires
       put-tree-requires-2
       put-tree-requires-3
       length-kept-2

@@ -4,8 +4,8 @@ use Rattle.base.proofs.Stores.{put-then}
 use Rattle.stage_writer.proofs.stores.put_wire.Statement.{statement}
 use Rattle.stage_writer.proofs.stores.put_wire.Tie as tie
 
-put-command-requires : tie.Need-put-command-requires
-put-command-requires c κs = search needs
+put-with-operand-requires : tie.Need-put-with-operand-requires
+put-with-operand-requires c κs = search needs
 
 put-tree-requires : tie.Need-put-tree-requires
 put-tree-requires c κs = omega arith
@@ -17,7 +17,7 @@ returns : tie.Need-returns
 returns c =
     let p = c .before .before in
     let q = p .before .before .before .before in
-    put-then (q .put-command .ensures) (p .put-tree .ensures)
+    put-then (q .put-with-operand .ensures) (p .put-tree .ensures)
 
 pub put-wire-spec : {M : Type 1} → statement M
-put-wire-spec = tie.close (tie.spec put-command-requires put-tree-requires same-length returns)
+put-wire-spec = tie.close (tie.spec put-with-operand-requires put-tree-requires same-length returns)

@@ -5,7 +5,8 @@ use native.Mathlib.Omega.{arith}
 use lib.ListN.{getD}
 use borrow.Author.Needs.{needs}
 use Rattle.table.specs.Bits.{ofBits, sum}
-use Rattle.unit.proofs.Placed.{placed, signal-room, output-room}
+use Rattle.reader.proofs.Placed.{placed}
+use Rattle.unit.proofs.HeldSignals.{signal-room, output-room}
 use Rattle.unit.proofs.Codings.{code-more, code-is}
 use Rattle.unit.proofs.gates.outputs_on.Statement.{statement}
 use Rattle.unit.proofs.gates.outputs_on.Tie as tie

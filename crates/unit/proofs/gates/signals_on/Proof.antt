@@ -7,14 +7,15 @@ use borrow.Author.Needs.{needs}
 use Rattle.table.specs.Bits.{bit, tabulate}
 use Rattle.table.proofs.Bits.{tabulate-length, tabulate-at}
 use Rattle.unit.proofs.Signals.{upTo, upTo-bits, gate-more}
-use Rattle.unit.proofs.Placed.{maxSignals, gateIn, gateOf, wires-bits, placed, gate-room, sources-room, signals-is, signals-made}
+use Rattle.reader.proofs.Placed.{gateHeld, gateOf, placed}
+use Rattle.unit.proofs.HeldSignals.{maxSignals, wires-bits, gate-room, sources-room, signals-is, signals-made}
 use Rattle.unit.proofs.gates.signals_on.Statement.{statement}
 use Rattle.unit.proofs.gates.signals_on.Tie as tie
 
 abbrev Inv-loop : tie.InvT-loop
 Inv-loop v m kinds lefts rights signals₀ i₀ i-end signals i =
     (i ≤ i-end) × (length signals ≡ maxSignals)
-    × ((q : ℕ) → q < m + i → getD signals q 0 ≡ getD (upTo (tabulate m (bit v)) (gateIn kinds lefts rights) i) q 0)
+    × ((q : ℕ) → q < m + i → getD signals q 0 ≡ getD (upTo (tabulate m (bit v)) (gateHeld kinds lefts rights) i) q 0)
 
 abbrev μ-loop : tie.MeasureT-loop
 μ-loop v m kinds lefts rights signals₀ i₀ i-end signals i = i-end - i

@@ -17,8 +17,8 @@ use Rattle.sheet.specs.declared.Sheet.{Sheet}
 use Rattle.sheet.specs.Commands.{inputsOf, wiresOf}
 use Rattle.sheet.proofs.Fields.{inputs-field, wires-field}
 use Rattle.unit.specs.Formed.{setOn, relationIn}
-use Rattle.unit.specs.Inner.Forming.{WasRead}
-use Rattle.unit.proofs.Placed.{placed}
+use Rattle.reader.specs.Inner.WasRead.{WasRead}
+use Rattle.reader.proofs.Placed.{placed}
 use Rattle.unit.proofs.sets.relation_of.Statement.{statement}
 use Rattle.unit.proofs.sets.relation_of.Tie as tie
 

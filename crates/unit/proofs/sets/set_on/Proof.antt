@@ -11,8 +11,9 @@ use Rattle.sheet.specs.Limits.{maxPatterns, maxValues}
 use Rattle.sheet.specs.Gathered.{rowMark}
 use Rattle.sheet.proofs.Fields.{inputs-field, pattern-room}
 use Rattle.unit.specs.Formed.{setOn}
-use Rattle.unit.specs.Inner.Forming.{WasRead, Codes}
-use Rattle.unit.proofs.Placed.{held-sound}
+use Rattle.reader.specs.Inner.WasRead.{WasRead}
+use Rattle.unit.specs.Inner.Forming.{Codes}
+use Rattle.reader.proofs.Placed.{held-sound}
 use Rattle.unit.proofs.Allowed.{sameAs, set-unmarked, set-marked, value-below}
 use borrow.Author.Needs.{needs}
 use Rattle.unit.proofs.sets.set_on.Statement.{statement}

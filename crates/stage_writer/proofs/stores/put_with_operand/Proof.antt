@@ -1,7 +1,7 @@
 use borrow.Author.Needs.{needs}
 use Rattle.stage_writer.proofs.Storing.{two-stored}
-use Rattle.stage_writer.proofs.stores.put_command.Statement.{statement}
-use Rattle.stage_writer.proofs.stores.put_command.Tie as tie
+use Rattle.stage_writer.proofs.stores.put_with_operand.Statement.{statement}
+use Rattle.stage_writer.proofs.stores.put_with_operand.Tie as tie
 
 put-requires : tie.Need-put-requires
 put-requires c κs = search needs
@@ -25,6 +25,6 @@ returns c =
     let a = first .before .before .before .args in
     two-stored (a .buffer .now) _ _ (a .at) (a .command) (a .operand) (first .put .ensures) (second .put2 .ensures)
 
-pub put-command-spec : {M : Type 1} → statement M
-put-command-spec =
+pub put-with-operand-spec : {M : Type 1} → statement M
+put-with-operand-spec =
     tie.close (tie.spec put-requires add-put put-requires-2 add-result same-length returns)

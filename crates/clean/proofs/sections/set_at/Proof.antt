@@ -3,8 +3,8 @@ use native.Mathlib.Omega.{arith}
 use lib.ListN.{length, List·getD-eq-default}
 use Rattle.sheet.specs.Limits.{maxPatterns}
 use borrow.Author.Needs.{needs}
-use Rattle.clean.proofs.parts.set_at.Statement.{statement}
-use Rattle.clean.proofs.parts.set_at.Tie as tie
+use Rattle.clean.proofs.sections.set_at.Statement.{statement}
+use Rattle.clean.proofs.sections.set_at.Tie as tie
 
 mul-result : tie.Need-mul-result
 mul-result c = search needs

@@ -1,7 +1,7 @@
 use Rattle.clean.proofs.Storing.{one-command}
 use borrow.Author.Needs.{needs}
-use Rattle.clean.proofs.parts.put_output.Statement.{statement}
-use Rattle.clean.proofs.parts.put_output.Tie as tie
+use Rattle.clean.proofs.sections.put_output.Statement.{statement}
+use Rattle.clean.proofs.sections.put_output.Tie as tie
 
 slice-aggregate-byte-at : tie.Need-slice-aggregate-byte-at
 slice-aggregate-byte-at c = search needs

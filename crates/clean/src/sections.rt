@@ -1,4 +1,4 @@
-// The commands of a copy, put at the start of a lent buffer part by part, each call with the place after what it put.
+// The commands of a copy, put to the front of a lent buffer section by section, each call with the place after what it put.
 // Inner functions: `write_copy` hands on the sheet that it is given; the bounds on places are there for the sums alone.
 use base::byte_at;
 use sheet::Command;
@@ -11,13 +11,14 @@ ghost use Prim.Native.Nat.{_+_, _*_, _≤_};
 ghost use lib.ListN.{getD};
 ghost use lib.Seq.{sets};
 ghost use Rattle.base.specs.Inner.Put.{PutWithin, lastPlace};
-ghost use Rattle.sheet.specs.Bytes.{bytesOf, longestCommand};
-ghost use Rattle.unit.specs.Inner.Forming.{WasRead};
-ghost use Rattle.clean.specs.Copy.{listed, copyMark, copyLimit, copyGate, copyOutput, copyBytes};
-ghost use Rattle.clean.specs.Inner.Parts.{pieceOf};
+ghost use Rattle.sheet.specs.Bytes.{bytesOf};
+ghost use Rattle.reader.specs.Inner.WasRead.{WasRead};
+ghost use Rattle.writer.specs.Inner.Widths.{longestCommand};
+ghost use Rattle.clean.specs.Copy.{listed, permitsAll, copyMark, copyLimit, copyGate, copyOutput, copyBytes};
+ghost use Rattle.clean.specs.Inner.Sections.{pieceOf};
 
-// The parts between the sizes and the end.
-enum Part {
+// The sections between the sizes and the end.
+enum Section {
     Marks,
     Limits,
     Gates,
@@ -49,6 +50,14 @@ fn set_at(limits: [u16; Sheet::MAX_PATTERNS], i: usize) -> u16
     }
 }
 
+// Whether a set has every value of m wires, so that it limits nothing.
+pub(crate) fn permits_all(m: u8, set: u16) -> bool
+    ensures { λ r. ⌜ r ≡ permitsAll m set ⌝ }
+{
+    let all = all_ones(m);
+    set == all
+}
+
 // Puts a pattern's 06, unless its set is all values.
 fn put_limit(out: &mut [u8], at: usize, sheet: Sheet, p: u8) -> usize
     requires { ⌜ at + longestCommand ≤ lastPlace ⌝ }
@@ -56,8 +65,7 @@ fn put_limit(out: &mut [u8], at: usize, sheet: Sheet, p: u8) -> usize
 {
     let limits = sheet.limits;
     let set = set_at(limits, p as usize);
-    let all = all_ones(sheet.m);
-    if set == all {
+    if permits_all(sheet.m, set) {
         return at;
     }
     put_command(out, at, Command::Limit { p, set })
@@ -87,28 +95,28 @@ fn put_output(out: &mut [u8], at: usize, sheet: Sheet, i: u8) -> usize
     put_command(out, at, Command::Output { s })
 }
 
-// Puts what a part has for a pattern, a gate or an output.
-fn put_piece(out: &mut [u8], at: usize, sheet: Sheet, part: Part, i: u8) -> usize
+// Puts what a section has for a pattern, a gate or an output.
+fn put_piece(out: &mut [u8], at: usize, sheet: Sheet, section: Section, i: u8) -> usize
     requires { ⌜ at + longestCommand ≤ lastPlace ⌝ }
-    ensures { λ r. ⌜ PutWithin longestCommand (now (out .entry)) at (bytesOf (pieceOf part sheet i)) (now (out .exit)) r ⌝ }
+    ensures { λ r. ⌜ PutWithin longestCommand (now (out .entry)) at (bytesOf (pieceOf section sheet i)) (now (out .exit)) r ⌝ }
 {
-    match part {
-        Part::Marks => put_mark(out, at, sheet, i),
-        Part::Limits => put_limit(out, at, sheet, i),
-        Part::Gates => put_gate(out, at, sheet, i),
-        Part::Outputs => put_output(out, at, sheet, i),
+    match section {
+        Section::Marks => put_mark(out, at, sheet, i),
+        Section::Limits => put_limit(out, at, sheet, i),
+        Section::Gates => put_gate(out, at, sheet, i),
+        Section::Outputs => put_output(out, at, sheet, i),
     }
 }
 
-// Puts a part: so many patterns, gates or outputs, one after the other.
-fn put_part(out: &mut [u8], at: usize, sheet: Sheet, part: Part, count: u8) -> usize
+// Puts a section: so many patterns, gates or outputs, one after the other.
+fn put_section(out: &mut [u8], at: usize, sheet: Sheet, section: Section, count: u8) -> usize
     requires { ⌜ at + longestCommand * count ≤ lastPlace ⌝ }
-    ensures { λ r. ⌜ PutWithin (longestCommand * count) (now (out .entry)) at (bytesOf (listed count (pieceOf part sheet))) (now (out .exit)) r ⌝ }
+    ensures { λ r. ⌜ PutWithin (longestCommand * count) (now (out .entry)) at (bytesOf (listed count (pieceOf section sheet))) (now (out .exit)) r ⌝ }
 {
     let mut next = at;
     let mut i: u8 = 0;
     while i < count {
-        next = put_piece(out, next, sheet, part, i);
+        next = put_piece(out, next, sheet, section, i);
         i += 1;
     }
     next
@@ -125,9 +133,9 @@ pub fn put_copy(out: &mut [u8], sheet: Sheet)
         m: sheet.m,
     };
     let marks = put_command(out, 0, sizes);
-    let limits = put_part(out, marks, sheet, Part::Marks, patterns);
-    let gates = put_part(out, limits, sheet, Part::Limits, patterns);
-    let outputs = put_part(out, gates, sheet, Part::Gates, sheet.gate_count);
-    let end = put_part(out, outputs, sheet, Part::Outputs, sheet.output_count);
+    let limits = put_section(out, marks, sheet, Section::Marks, patterns);
+    let gates = put_section(out, limits, sheet, Section::Limits, patterns);
+    let outputs = put_section(out, gates, sheet, Section::Gates, sheet.gate_count);
+    let end = put_section(out, outputs, sheet, Section::Outputs, sheet.output_count);
     put_command(out, end, Command::End);
 }

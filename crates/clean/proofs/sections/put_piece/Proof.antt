@@ -1,7 +1,7 @@
--- `put_piece` meets its contract: in each arm the part is the one matched.
+-- `put_piece` meets its contract: in each arm the section is the one matched.
 use borrow.Author.Needs.{needs}
-use Rattle.clean.proofs.parts.put_piece.Statement.{statement}
-use Rattle.clean.proofs.parts.put_piece.Tie as tie
+use Rattle.clean.proofs.sections.put_piece.Statement.{statement}
+use Rattle.clean.proofs.sections.put_piece.Tie as tie
 
 enum-told : tie.Need-enum-told
 enum-told c = search needs

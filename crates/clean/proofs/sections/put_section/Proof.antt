@@ -1,21 +1,23 @@
--- `put_part` meets its contract. The loop's invariant: the pieces passed are put.
+-- `put_section` meets its contract. The loop's invariant: the pieces passed are put.
 use Prim.Native.Nat.{_*_, _-_, _≤_}
 use mathlib.Core.Path.{_≡_, refl, _∙_}
 use native.Mathlib.Omega.{arith}
 use lib.ListN.{length}
 use Rattle.base.specs.Inner.Put.{PutWithin}
-use Rattle.sheet.specs.Bytes.{bytesOf, longestCommand}
+use Rattle.sheet.specs.Bytes.{bytesOf}
+use Rattle.writer.specs.Inner.Widths.{longestCommand}
 use Rattle.clean.specs.Copy.{listed}
-use Rattle.clean.specs.Inner.Parts.{pieceOf}
+use Rattle.clean.specs.Inner.Sections.{pieceOf}
 use Rattle.clean.proofs.Storing.{no-pieces, one-more}
-use Rattle.clean.proofs.parts.put_part.Statement.{statement}
-use Rattle.clean.proofs.parts.put_part.Tie as tie
+use Rattle.clean.proofs.sections.put_section.Statement.{statement}
+use Rattle.clean.proofs.sections.put_section.Tie as tie
 
 abbrev Inv-loop : tie.InvT-loop
-Inv-loop out₀ at sheet part count next₀ i₀ out next i = (i ≤ count) × (length out ≡ length out₀) × PutWithin (longestCommand * i) out₀ at (bytesOf (listed i (pieceOf part sheet))) out next
+Inv-loop out₀ at sheet section count next₀ i₀ out next i =
+    (i ≤ count) × (length out ≡ length out₀) × PutWithin (longestCommand * i) out₀ at (bytesOf (listed i (pieceOf section sheet))) out next
 
 abbrev μ-loop : tie.MeasureT-loop
-μ-loop out₀ at sheet part count next₀ i₀ out next i = count - i
+μ-loop out₀ at sheet section count next₀ i₀ out next i = count - i
 
 loop-holds : tie.Need-loop-holds Inv-loop μ-loop
 loop-holds c = (omega arith, refl, no-pieces _ _ _)
@@ -45,8 +47,8 @@ returns c =
     let e : l .i ≡ a .count = omega arith in
     rw e at (l .inv .2)
 
-pub put-part-spec : {M : Type 1} → statement M
-put-part-spec =
+pub put-section-spec : {M : Type 1} → statement M
+put-section-spec =
     tie.close
     (tie.spec
     Inv-loop

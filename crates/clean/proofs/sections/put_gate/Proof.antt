@@ -1,7 +1,7 @@
 use Rattle.clean.proofs.Storing.{one-command}
 use borrow.Author.Needs.{needs}
-use Rattle.clean.proofs.parts.put_gate.Statement.{statement}
-use Rattle.clean.proofs.parts.put_gate.Tie as tie
+use Rattle.clean.proofs.sections.put_gate.Statement.{statement}
+use Rattle.clean.proofs.sections.put_gate.Tie as tie
 
 slice-aggregate-byte-at : tie.Need-slice-aggregate-byte-at
 slice-aggregate-byte-at c = search needs
@@ -29,8 +29,10 @@ same-length c = search needs
 
 returns : tie.Need-returns
 returns c =
-    rw (one-command, ← c .before .before .before .before .before .before .before .before .byte-at .ensures, ← c .before .before .before .before .before .before .byte-at2 .ensures, ← c .before .before .before .before .byte-at3 .ensures)
-    (c .before .before .put-command .ensures)
+    let right = c .before .before .before .before in
+    let left = right .before .before in
+    let kind = left .before .before in
+    rw (one-command, ← kind .byte-at .ensures, ← left .byte-at2 .ensures, ← right .byte-at3 .ensures) (c .before .before .put-command .ensures)
 
 pub put-gate-spec : {M : Type 1} → statement M
 put-gate-spec =

@@ -3,8 +3,8 @@ use Rattle.sheet.specs.Gathered.{dontCareMark}
 use borrow.Author.Tests.{eq-eqb, ne-eqb}
 use Rattle.clean.proofs.Storing.{one-command}
 use borrow.Author.Needs.{needs}
-use Rattle.clean.proofs.parts.put_mark.Statement.{statement}
-use Rattle.clean.proofs.parts.put_mark.Tie as tie
+use Rattle.clean.proofs.sections.put_mark.Statement.{statement}
+use Rattle.clean.proofs.sections.put_mark.Tie as tie
 
 slice-aggregate-byte-at : tie.Need-slice-aggregate-byte-at
 slice-aggregate-byte-at c = search needs

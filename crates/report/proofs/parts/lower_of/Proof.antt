@@ -1,0 +1,13 @@
+-- `lower_of` meets its contract: the smaller of the two.
+use native.Mathlib.Omega.{arith}
+use Rattle.report.proofs.parts.lower_of.Statement.{statement}
+use Rattle.report.proofs.parts.lower_of.Tie as tie
+
+returns : tie.Need-returns
+returns c = (omega arith, omega arith)
+
+returns-2 : tie.Need-returns-2
+returns-2 c = (omega arith, omega arith)
+
+pub lower-of-spec : {M : Type 1} → statement M
+lower-of-spec = tie.close (tie.spec returns returns-2)
