@@ -14,19 +14,19 @@ use Rattle.sheet.specs.declared.Sheet.{Sheet}
 use Rattle.sheet.specs.Commands.{isEmpty, collect, rowIn, dontCareIn, rowsOn, dontCaresOn, gatesOf, outputsOf, isMarked}
 use Rattle.sheet.specs.Limits.{maxGates, maxOutputs, sizesOut}
 use Rattle.reader.specs.Reader.{lastKind}
-use Rattle.reader.proofs.ReadBack.{InTurn, no-turns, turn-more}
+use Rattle.reader.proofs.ReadBack.{AllInOrder, none-yet, next-in-order}
 use Rattle.reader.proofs.Placed.{gateOf, Placed}
 use Rattle.clean.specs.Copy.{listed, marksDontCare, permitsAll, copyMark, copyLimit, copyGate, copyOutput}
 use Rattle.clean.proofs.Listed.{listed-none, singles-length, collect-then}
 use Rattle.clean.proofs.Saying.{toSizes, toMarks, toLimits, toGates, toOutputs, gates-wired, gates-led, outputs-led, row-other, dont-care-other}
 
 -- one piece after the other
-ordered-listed : (cs : List Command) (f : ℕ → List Command) (k : ℕ) → InTurn cs
-    → ((i : ℕ) → i < k → InTurn (cs ++ listed i f) → InTurn (cs ++ listed i f ++ f i)) → InTurn (cs ++ listed k f)
+ordered-listed : (cs : List Command) (f : ℕ → List Command) (k : ℕ) → AllInOrder cs
+    → ((i : ℕ) → i < k → AllInOrder (cs ++ listed i f) → AllInOrder (cs ++ listed i f ++ f i)) → AllInOrder (cs ++ listed k f)
 unfolding listed
 ordered-listed cs f zero p h = rw (append-nil cs) p
 ordered-listed cs f (suc k) p h =
-    subst InTurn (append-assoc cs (listed k f) (f k)) (h k (omega arith) (ordered-listed cs f k p (λ i l. h i (omega arith))))
+    subst AllInOrder (append-assoc cs (listed k f) (f k)) (h k (omega arith) (ordered-listed cs f k p (λ i l. h i (omega arith))))
 
 both-fail : {a b : Bool} → a ≡ false → b ≡ false → a || b ≡ false
 both-fail {a} {b} e f = rw (e, f)
@@ -50,38 +50,38 @@ module _ (h : Sheet) (in-place : InPlace h) where
       ∙ listed-none i (λ q. collect (dontCareIn i) (copyMark h q)) (λ q l. dont-care-other h i q (λ e. omega arith)) in
       both-fail (ap (λ xs. not (isEmpty xs)) cares) (ap (λ xs. not (isEmpty xs)) rows)
 
-  ordered-marks : InTurn (toMarks h (2 ^ h .n))
+  ordered-marks : AllInOrder (toMarks h (2 ^ h .n))
   unfolding collect
   ordered-marks =
-      let first : InTurn (toSizes h) =
-      turn-more [] (Sizes (h .n) (h .m)) no-turns (record { first = refl; in-range = in-place .sizes; made = refl; new = refl; room = refl }) refl in
+      let first : AllInOrder (toSizes h) =
+      next-in-order [] (Sizes (h .n) (h .m)) none-yet (record { first = refl; in-range = in-place .sizes; made = refl; new = refl; room = refl }) refl in
       ordered-listed (toSizes h) (copyMark h) (2 ^ h .n) first λ i l p.
       let v = getD (h .values) i 0 in
       let pattern = lt-leb (2 ^ h .n) i l in
-      cond-has (λ cs. InTurn (toMarks h i ++ cs)) (marksDontCare (getD (h .marks) i 0))
-      (λ _. turn-more (toMarks h i) (DontCare i) p (record { first = refl; in-range = pattern; made = refl; new = fresh i; room = refl }) refl)
+      cond-has (λ cs. AllInOrder (toMarks h i ++ cs)) (marksDontCare (getD (h .marks) i 0))
+      (λ _. next-in-order (toMarks h i) (DontCare i) p (record { first = refl; in-range = pattern; made = refl; new = fresh i; room = refl }) refl)
       (λ _.
       let value = lt-leb (2 ^ h .m) v (in-place .values i l) in
-      turn-more (toMarks h i) (Row i v) p (record { first = refl; in-range = both-fail pattern value; made = refl; new = fresh i; room = refl }) refl)
+      next-in-order (toMarks h i) (Row i v) p (record { first = refl; in-range = both-fail pattern value; made = refl; new = fresh i; room = refl }) refl)
 
-  ordered-limits : InTurn (toLimits h (2 ^ h .n))
+  ordered-limits : AllInOrder (toLimits h (2 ^ h .n))
   unfolding collect
   ordered-limits =
       ordered-listed (toMarks h (2 ^ h .n)) (copyLimit h) (2 ^ h .n) ordered-marks λ i l p.
       let w = getD (h .limits) i 0 in
       let range = both-fail (lt-leb (2 ^ h .n) i l) (lt-leb (2 ^ (2 ^ h .m)) w (in-place .limits i l)) in
-      cond-has (λ cs. InTurn (toLimits h i ++ cs)) (permitsAll (h .m) (getD (h .limits) i 0))
+      cond-has (λ cs. AllInOrder (toLimits h i ++ cs)) (permitsAll (h .m) (getD (h .limits) i 0))
       (λ _. rw (append-nil (toLimits h i)) p)
-      (λ _. turn-more (toLimits h i) (Limit i w) p (record { first = refl; in-range = range; made = refl; new = refl; room = refl }) refl)
+      (λ _. next-in-order (toLimits h i) (Limit i w) p (record { first = refl; in-range = range; made = refl; new = refl; room = refl }) refl)
 
-  ordered-gates : InTurn (toGates h (h .«gate_count»))
+  ordered-gates : AllInOrder (toGates h (h .«gate_count»))
   unfolding collect
   ordered-gates =
       ordered-listed (toLimits h (2 ^ h .n)) (copyGate h) (h .«gate_count») ordered-limits λ i l p.
       let g = gateOf h i in
       let w = in-place .wiring .wired i l in
       let made : length (gatesOf (toGates h i)) ≡ i = ap length (gates-wired h i) ∙ singles-length i (gateOf h) in
-      turn-more (toGates h i) (Gate (g .kind) (g .left) (g .right)) p
+      next-in-order (toGates h i) (Gate (g .kind) (g .left) (g .right)) p
       (record {
         first = refl;
         in-range = le-ltb lastKind (g .kind) (w .kind-known);
@@ -91,14 +91,14 @@ module _ (h : Sheet) (in-place : InPlace h) where
       })
       refl
 
-  pub ordered-copy : InTurn (toOutputs h (h .«output_count»))
+  pub ordered-copy : AllInOrder (toOutputs h (h .«output_count»))
   unfolding collect
   ordered-copy =
       ordered-listed (toGates h (h .«gate_count»)) (copyOutput h) (h .«output_count») ordered-gates λ i l p.
       let s = getD (h .signals) i 0 in
       let made : length (gatesOf (toOutputs h i)) ≡ h .«gate_count» = ap length (gates-led h i) ∙ singles-length (h .«gate_count») (gateOf h) in
       let given : length (outputsOf (toOutputs h i)) ≡ i = ap length (outputs-led h i) ∙ singles-length i (λ j. getD (h .signals) j 0) in
-      turn-more (toOutputs h i) (Output s) p
+      next-in-order (toOutputs h i) (Output s) p
       (record {
         first = refl;
         in-range = refl;

@@ -19,6 +19,7 @@ use Rattle.sheet.specs.declared.Reply.{Reply}
 use Rattle.sheet.specs.Cases.{sheetReply}
 use Rattle.sheet.specs.Gathered.{gathered}
 use Rattle.sheet.specs.Judged.{Reading, holds, refused}
+use Rattle.sheet.proofs.SayingSame.{say-same-gathered}
 use Rattle.reader.specs.Reading.{readingOf, replyTold}
 use Rattle.reader.proofs.Numbers.{reading-early}
 use Rattle.reader.proofs.Replies.{refused-reply}
@@ -29,9 +30,9 @@ use Rattle.unit.proofs.Rivals.{commands-only}
 use Rattle.reader.proofs.Placed.{placed-all}
 use Rattle.quote.specs.Quote.{quotedOf, bufferQuoted}
 use Rattle.clean.specs.Copy.{copyCommands, copyBytes, longestCopy}
-use Rattle.clean.specs.Cleaned.{cleanedFrom, cleanedOf, bufferFrom, bufferCleaned}
-use Rattle.clean.specs.CleanCopy.{GatherAlike, CleanCopy, CleanPromise}
-use Rattle.clean.proofs.ReadingCopies.{copy-read, copy-gathers, copy-agrees, copy-limits}
+use Rattle.clean.specs.Cleaned.{cleanedFrom, cleanedOf, bufferCleanedFrom, bufferCleaned}
+use Rattle.clean.specs.CleanCopy.{GatherAlike, SameCopy, CleanCopy, CleanPromise}
+use Rattle.clean.proofs.ReadingCopies.{copy-read, copy-gathers, copy-says, copy-limits}
 use Rattle.clean.proofs.CopyLengths.{copy-length, copy-short}
 
 -- 10 is neither a refusal of reading nor 12
@@ -58,24 +59,25 @@ module _ (sheet : List ℕ) (cs : List Command) (e : readingOf sheet ≡ holds c
   text : List ℕ
   text = copyBytes (gathered cs)
 
-  alike : GatherAlike text sheet
+  alike : GatherAlike sheet text
   unfolding text
-  alike = record { commands = copyCommands (gathered cs); held = copy-read cs s; others = cs; held-others = e; gathers = copy-gathers cs s }
+  alike = record { commands = cs; held = e; others = copyCommands (gathered cs); held-others = copy-read cs s; gathers = sym (copy-gathers cs s) }
 
   short : length text ≤ longestCopy
   unfolding text
   short = subst (λ k. k ≤ longestCopy) (sym (copy-length (gathered cs))) (copy-short (gathered cs) (placed-all cs s))
 
-  equal : (other : List ℕ) → GatherAlike other sheet → (buffer : List ℕ)
-      → (cleanedOf other (length buffer) ≡ cleanedOf sheet (length buffer)) × (bufferCleaned other buffer ≡ bufferCleaned sheet buffer)
-  unfolding cleanedOf cleanedFrom bufferCleaned bufferFrom
-  equal other g buffer =
-      let same : gathered (g .commands) ≡ gathered cs = g .gathers ∙ ap gathered (commands-only sheet (g .others) cs (g .held-others) e) in
-      (rw (e, g .held, same), rw (e, g .held, same))
+  equal-from : (other : List ℕ) (ds : List Command) → readingOf other ≡ holds ds → gathered cs ≡ gathered ds → SameCopy sheet other
+  unfolding cleanedOf cleanedFrom bufferCleaned bufferCleanedFrom
+  equal-from other ds held same buffer = (rw (e, held, same), rw (e, held, same))
+
+  equal : (other : List ℕ) → GatherAlike sheet other → SameCopy sheet other
+  equal other g =
+      equal-from other (g .others) (g .held-others) (ap gathered (commands-only sheet cs (g .commands) e (g .held)) ∙ g .gathers)
 
   again : (buffer : List ℕ) → length text ≤ length buffer
       → (cleanedOf text (length buffer) ≡ accepting acceptedOutcome (length text)) × (bufferCleaned text buffer ≡ text ++ drop (length text) buffer)
-  unfolding text cleanedOf cleanedFrom bufferCleaned bufferFrom
+  unfolding text cleanedOf cleanedFrom bufferCleaned bufferCleanedFrom
   again buffer l =
       let fits : fitted text (length buffer) ≡ accepting acceptedOutcome (length text) = fitted-room text (length buffer) l in
       (rw (copy-read cs s, copy-gathers cs s) fits, rw (copy-read cs s, copy-gathers cs s) (ap (bufferWith text buffer) fits))
@@ -96,25 +98,26 @@ module _ (sheet : List ℕ) (cs : List Command) (e : readingOf sheet ≡ holds c
   clean-copy =
       record {
         same = alike;
-        agrees = copy-agrees cs s;
+        says-same = copy-says cs s;
         one-limit = copy-limits cs s;
         length-told = copy-length (gathered cs);
         short = short;
         again = again;
         equal = equal;
+        equal-said = λ other ds held said. equal-from other ds held (say-same-gathered cs ds said);
         same-quote = same-quote;
       }
 
 -- the promise of the equations
 pub clean-promised : (sheet buffer : List ℕ) → CleanPromise sheet (cleanedOf sheet (length buffer)) (bufferCleaned sheet buffer)
-unfolding cleanedOf cleanedFrom bufferCleaned bufferFrom text
+unfolding cleanedOf cleanedFrom bufferCleaned bufferCleanedFrom text
 clean-promised sheet buffer = record {
   never-empty = never-ten sheet (length buffer) (readingOf sheet) refl;
   copied = copied (readingOf sheet) refl;
 }
   where
     copied : (x : Reading) → readingOf sheet ≡ x → T (not (isRefused (cleanedFrom x (length buffer))))
-        → CleanCopy sheet (take (cleanedFrom x (length buffer) .value) (bufferFrom x buffer))
+        → CleanCopy sheet (take (cleanedFrom x (length buffer) .value) (bufferCleanedFrom x buffer))
     copied (refused f) e h = absurd h
     copied (holds cs) e h = subst (CleanCopy sheet) (sym (front-written (copyBytes (gathered cs)) buffer h)) (clean-copy sheet cs e)
 
@@ -122,14 +125,14 @@ clean-promised sheet buffer = record {
 module _ (sheet buffer : List ℕ) (r : Reply) (e : sheetReply r ≡ replyTold (readingOf sheet)) where
   pub refused-cleaned : (f : Refusal) → r .answer ≡ Refused f
       → (writtenCase (NotWritten f) ≡ cleanedOf sheet (length buffer)) × (buffer ≡ bufferCleaned sheet buffer)
-  unfolding cleanedOf cleanedFrom bufferCleaned bufferFrom
+  unfolding cleanedOf cleanedFrom bufferCleaned bufferCleanedFrom
   refused-cleaned f a = let x = refused-reply r (readingOf sheet) e f a in (rw x, rw x)
 
   pub written-cleaned : (own : WasRead (r .sheet)) → own .bytes ≡ sheet → {c : Case} {after : List ℕ}
       → (c ≡ fitted (copyBytes (r .sheet)) (length buffer))
       × (after ≡ bufferWith (copyBytes (r .sheet)) buffer (fitted (copyBytes (r .sheet)) (length buffer)))
       → (c ≡ cleanedOf sheet (length buffer)) × (after ≡ bufferCleaned sheet buffer)
-  unfolding cleanedOf cleanedFrom bufferCleaned bufferFrom
+  unfolding cleanedOf cleanedFrom bufferCleaned bufferCleanedFrom
   written-cleaned own same h =
       let held : readingOf sheet ≡ holds (own .commands) = ap readingOf (sym same) ∙ own .held in
       rw held (rw (own .gathers) at h)

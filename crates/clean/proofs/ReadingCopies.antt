@@ -14,13 +14,13 @@ use Rattle.base.proofs.Each.{each-none}
 use Rattle.base.proofs.Tests.{decide, cond-has, cond-has₂}
 use Rattle.sheet.specs.declared.Command.{Command}
 use Rattle.sheet.specs.declared.Command.the-variants.{End, Limit}
-use Rattle.sheet.specs.Agreeing.{Agreeing}
+use Rattle.sheet.specs.SaySame.{SaySame}
 use Rattle.sheet.specs.Commands.{collect, rowIn, dontCareIn, limitIn, gateIn, outputIn, inputsOf, wiresOf, rowsOn, dontCaresOn, limitsOn, gatesOf, outputsOf}
 use Rattle.sheet.specs.Commands.{isMarked, noGate}
 use Rattle.sheet.specs.Gathered.{gathered, meet, limitOn, gateAt, outputAt}
 use Rattle.sheet.specs.Limits.{maxPatterns, maxWires, allOnes}
 use Rattle.sheet.specs.Judged.{holds}
-use Rattle.sheet.proofs.Agreement.{agreeing-gathered}
+use Rattle.sheet.proofs.SayingSame.{say-same-gathered}
 use Rattle.sheet.proofs.Fields.{wires-field, value-field, limit-field, output-field, pattern-room, present-mark, present-value, impossible-mark}
 use Rattle.sheet.proofs.Lists.{about-same, silent}
 use Rattle.sheet.proofs.Permitted.{out-of-all, limit-below}
@@ -169,21 +169,21 @@ module _ (cs : List Command) (s : Sound cs) where
   pub copy-limits : (p : ℕ) → limitsOn p copy ≡ cond (eqb (limitOn p copy) (allOnes (wiresOf copy))) [] (limitOn p copy ∷ [])
   copy-limits p = rw (same-limits p, same-wires) (limits-are p)
 
-  pub copy-agrees : Agreeing (copyCommands (gathered cs)) cs
-  copy-agrees =
+  pub copy-says : SaySame cs (copyCommands (gathered cs))
+  copy-says =
       record {
-        inputs = same-inputs;
-        wires = same-wires;
-        rows = same-rows;
-        dont-cares = same-cares;
-        permitted = same-limits;
-        gates = same-gates;
-        outputs = same-outputs;
+        inputs = sym same-inputs;
+        wires = sym same-wires;
+        rows = λ p. sym (same-rows p);
+        dont-cares = λ p. sym (same-cares p);
+        permitted = λ p. sym (same-limits p);
+        gates = sym same-gates;
+        outputs = sym same-outputs;
       }
 
   -- the copy gathers the same
   pub copy-gathers : gathered (copyCommands (gathered cs)) ≡ gathered cs
-  copy-gathers = agreeing-gathered copy cs copy-agrees
+  copy-gathers = sym (say-same-gathered cs copy copy-says)
 
   complete : Complete copy
   complete p l = rw (same-cares p, same-rows p) (go (s .each-pattern p (subst (λ n. p < 2 ^ n) same-inputs l)))

@@ -10,18 +10,20 @@ use Rattle.sheet.specs.Judged.{Reading, holds, refused}
 use Rattle.reader.specs.Reading.{readingOf}
 use Rattle.clean.specs.Copy.{copyBytes}
 
+-- the reply to what was read and a buffer of so many bytes
 unfoldable pub cleanedFrom : Reading → ℕ → Case
 cleanedFrom (refused f) room = refusedCase f
 cleanedFrom (holds cs) room = fitted (copyBytes (gathered cs)) room
 
--- the reply to the bytes of a sheet and a buffer of so many bytes
+-- the same by the bytes of a sheet
 unfoldable pub cleanedOf : List ℕ → ℕ → Case
 cleanedOf sheet room = cleanedFrom (readingOf sheet) room
 
-unfoldable pub bufferFrom : Reading → List ℕ → List ℕ
-bufferFrom (refused f) buffer = buffer
-bufferFrom (holds cs) buffer = let copy = copyBytes (gathered cs) in bufferWith copy buffer (fitted copy (length buffer))
+-- what the lent buffer holds then, by what was read
+unfoldable pub bufferCleanedFrom : Reading → List ℕ → List ℕ
+bufferCleanedFrom (refused f) buffer = buffer
+bufferCleanedFrom (holds cs) buffer = let copy = copyBytes (gathered cs) in bufferWith copy buffer (fitted copy (length buffer))
 
--- what the lent buffer holds then
+-- the same by the bytes of a sheet
 unfoldable pub bufferCleaned : List ℕ → List ℕ → List ℕ
-bufferCleaned sheet buffer = bufferFrom (readingOf sheet) buffer
+bufferCleaned sheet buffer = bufferCleanedFrom (readingOf sheet) buffer

@@ -23,13 +23,13 @@ use Rattle.reader.proofs.Passages.{InOrder, Complete}
 use Rattle.reader.proofs.Enough.{readingAt, reading-step, reading-whole}
 
 -- commands each of which is in order after those before it, 00 not among them
-pub data InTurn : List Command → Type 0 where
-  no-turns : InTurn []
-  turn-more : (before : List Command) (c : Command) → InTurn before → InOrder before c → isEnd c ≡ false → InTurn (before ++ c ∷ [])
+pub data AllInOrder : List Command → Type 0 where
+  none-yet : AllInOrder []
+  next-in-order : (before : List Command) (c : Command) → AllInOrder before → InOrder before c → isEnd c ≡ false → AllInOrder (before ++ c ∷ [])
 
-in-turn : (t e : Bool) → t ≡ e → cond t (not e) (not (not e)) ≡ false
-in-turn true e f = ap not (sym f)
-in-turn false e f = ap (λ x. not (not x)) (sym f)
+turn-passes : (t e : Bool) → t ≡ e → cond t (not e) (not (not e)) ≡ false
+turn-passes true e f = ap not (sym f)
+turn-passes false e f = ap (λ x. not (not x)) (sym f)
 
 module _ (x : List ℕ) (before : List Command) where
   -- the command whose first byte b stands after x, with its operands at the front of ys
@@ -45,7 +45,7 @@ module _ (x : List ℕ) (before : List Command) where
       let e3 = getD-append-add x (b ∷ ys) 3 0 in
       let some : leb (length (x ++ b ∷ ys)) (length x) ≡ false = lt-leb (length (x ++ b ∷ ys)) (length x) (omega arith) in
       let whole : ltb (length (x ++ b ∷ ys) - length x) (widthOf b) ≡ false = le-ltb (length (x ++ b ∷ ys) - length x) (widthOf b) (omega arith) in
-      rw (some, e0, e1, e2, e3, w, in-turn (eqb b 1) (isEmpty before) (sym t ∙ o .first), whole, e, o .in-range)
+      rw (some, e0, e1, e2, e3, w, turn-passes (eqb b 1) (isEmpty before) (sym t ∙ o .first), whole, e, o .in-range)
 
   next-back : (c : Command) (q : List ℕ) → InOrder before c
       → nextOf (x ++ (commandBytes c ++ q)) (readerAt (length x) before)
@@ -65,10 +65,10 @@ module _ (x : List ℕ) (before : List Command) where
   one-back c q o = rw (next-back c q o, o .made, o .new, o .room)
 
 -- the reading of the bytes of commands in order comes to the end of them
-through : (cs : List Command) → InTurn cs → (q : List ℕ) → readingOf (bytesOf cs ++ q) ≡ readingAt (bytesOf cs ++ q) (length (bytesOf cs)) cs
+through : (cs : List Command) → AllInOrder cs → (q : List ℕ) → readingOf (bytesOf cs ++ q) ≡ readingAt (bytesOf cs ++ q) (length (bytesOf cs)) cs
 unfolding collect
-through cs no-turns q = reading-whole q
-through cs (turn-more before c p o n) q =
+through cs none-yet q = reading-whole q
+through cs (next-in-order before c p o n) q =
     let x = bytesOf before in
     let s = x ++ (commandBytes c ++ q) in
     rw (collect-snoc commandBytes before c, append-assoc x (commandBytes c) q, length-append x (commandBytes c))
@@ -76,7 +76,7 @@ through cs (turn-more before c p o n) q =
     ∙ ap (continued (readingAt s)) (one-back x before c q o) ∙ rw n)
 
 -- commands in order, then 00, with no pattern missing
-pub commands-back : (cs : List Command) → InTurn cs → isEmpty cs ≡ false → Complete (cs ++ End ∷ [])
+pub commands-back : (cs : List Command) → AllInOrder cs → isEmpty cs ≡ false → Complete (cs ++ End ∷ [])
     → readingOf (bytesOf (cs ++ End ∷ [])) ≡ holds (cs ++ End ∷ [])
 unfolding ending
 commands-back cs p some all =

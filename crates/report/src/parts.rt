@@ -23,7 +23,7 @@ pub fn put_counts(out: &mut [u8], at: usize, cells: u32, floor: u32, visits: u32
     put_named(out, second, b" visits ", visits as u64)
 }
 
-// A number that is not above the most there may be.
+// The lower of a number and the most there may be.
 pub fn lower_of(k: usize, most: usize) -> usize
     ensures { λ r. ⌜ (r ≡ min most k) × (r ≤ most) ⌝ }
 {

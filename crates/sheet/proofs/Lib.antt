@@ -9,4 +9,4 @@ pub mod Growing
 pub mod Fields
 pub mod Judging
 pub mod Permitted
-pub mod Agreement
+pub mod SayingSame

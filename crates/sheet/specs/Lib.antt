@@ -3,7 +3,7 @@ pub mod Limits
 pub mod Commands
 pub mod Bytes
 pub mod Gathered
-pub mod Agreeing
+pub mod SaySame
 pub mod Judged
 pub mod Cases
 pub mod Inner

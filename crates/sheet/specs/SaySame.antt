@@ -6,7 +6,7 @@ use Rattle.sheet.specs.declared.Command.{Command}
 use Rattle.sheet.specs.Commands.{inputsOf, wiresOf, rowsOn, dontCaresOn, gatesOf, outputsOf}
 use Rattle.sheet.specs.Gathered.{limitOn}
 
-pub record Agreeing (cs ds : List Command) : Type 0 where
+pub record SaySame (cs ds : List Command) : Type 0 where
   -- n and m
   pub inputs : inputsOf cs ≡ inputsOf ds
   pub wires : wiresOf cs ≡ wiresOf ds
