@@ -50,12 +50,12 @@ enum {
     DAGMETZI_OUT_OF_RANGE = 3,   /* an operand; of a relation: its sizes (place 0), or a set (place: the pattern) */
     DAGMETZI_TRAILING = 4,       /* something stands behind the end; place: there */
     DAGMETZI_OUT_OF_TURN = 5,    /* a command, or a stage's wire, where another is due */
-    DAGMETZI_NO_SIGNAL = 6,      /* a signal that is not made yet */
+    DAGMETZI_NO_SIGNAL = 6,      /* a signal that is not made yet; of a list: an entry that is not there yet */
     DAGMETZI_REPEATED = 7,       /* the pattern has a value already, or is impossible already */
     DAGMETZI_TOO_MANY = 8,       /* the 33rd gate or the 9th output */
     DAGMETZI_MISSING_ROW = 9,    /* a pattern with no value that is not impossible; place: the lowest */
     DAGMETZI_EMPTY = 10,         /* no value is left for a pattern; place: the lowest */
-    DAGMETZI_NOT_ASCENDING = 11, /* a selector input that is not above its parent's */
+    DAGMETZI_NOT_ASCENDING = 11, /* a selector input that is not above its parent's; of a list: that the namer's does not precede */
     DAGMETZI_SHORT_BUFFER = 12,  /* the buffer is shorter than the stage or the copy; place: the length needed */
     DAGMETZI_SIZES_DIFFER = 13   /* audit: the stage has another n or m than the sheet; place 0 */
 };
@@ -66,6 +66,9 @@ enum {
 
 /* No stage has more bytes than this: a quote's buffer of this length is never too short. */
 #define DAGMETZI_LONGEST_STAGE 196
+
+/* The same for the board that shares selectors. */
+#define DAGMETZI_LONGEST_SHARED 200
 
 /* No clean copy of a sheet has more bytes than this. */
 #define DAGMETZI_LONGEST_COPY 260
@@ -85,6 +88,19 @@ uint32_t dagmetzi_audit(const uint8_t *sheet, size_t sheet_length, const uint8_t
  * as it was. */
 uint32_t dagmetzi_search(uint8_t n, uint8_t m, const uint16_t sets[DAGMETZI_PATTERNS], uint32_t budget,
                          uint16_t tables[DAGMETZI_WIRES], uint64_t reply[DAGMETZI_NUMBERS]);
+
+/* The same three for the board on which a selector's result may feed several selectors of its own wire: a wire is a list
+ * of entries, a decision diagram, and each entry is a cell. The stage sheets are this board's own (docs/FORMATS.md), and
+ * the audit counts every entry, also one that repeats another or is never reached. Sizes, refusals and replies are as
+ * above. */
+uint32_t dagmetzi_quote_shared(const uint8_t *sheet, size_t sheet_length, uint32_t budget, uint8_t *buffer,
+                               size_t buffer_length, uint64_t reply[DAGMETZI_NUMBERS]);
+
+uint32_t dagmetzi_audit_shared(const uint8_t *sheet, size_t sheet_length, const uint8_t *stage, size_t stage_length,
+                               uint64_t reply[DAGMETZI_NUMBERS]);
+
+uint32_t dagmetzi_search_shared(uint8_t n, uint8_t m, const uint16_t sets[DAGMETZI_PATTERNS], uint32_t budget,
+                                uint16_t tables[DAGMETZI_WIRES], uint64_t reply[DAGMETZI_NUMBERS]);
 
 /* The clean copy of a unit sheet, written to the front of `buffer`; what is behind it stays. It says what the sheet says,
  * in one order: two sheets that say the same have the same copy, and a copy is its own copy. Refused are sheets that

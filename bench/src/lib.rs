@@ -1,7 +1,16 @@
 //! The library's calls through the C boundary, as `include/dagmetzi.h` declares them.
 
+use trials::board::Board;
+
 /// The calls as C sees them: a slice is a pointer and a length.
 mod c {
+    /// A sheet and its length, the budget, a buffer and its length, the reply.
+    pub type Quote = unsafe extern "C" fn(*const u8, usize, u32, *mut u8, usize, *mut u64) -> u32;
+    /// A sheet and its length, a stage and its length, the reply.
+    pub type Audit = unsafe extern "C" fn(*const u8, usize, *const u8, usize, *mut u64) -> u32;
+    /// n, m, the sets, the budget, the tables, the reply.
+    pub type Search = unsafe extern "C" fn(u8, u8, *const u16, u32, *mut u16, *mut u64) -> u32;
+
     extern "C" {
         pub fn dagmetzi_quote(
             sheet: *const u8,
@@ -29,6 +38,32 @@ mod c {
         ) -> u32;
 
         pub fn dagmetzi_search(n: u8, m: u8, sets: *const u16, budget: u32, tables: *mut u16, reply: *mut u64) -> u32;
+
+        pub fn dagmetzi_quote_shared(
+            sheet: *const u8,
+            sheet_length: usize,
+            budget: u32,
+            buffer: *mut u8,
+            buffer_length: usize,
+            reply: *mut u64,
+        ) -> u32;
+
+        pub fn dagmetzi_audit_shared(
+            sheet: *const u8,
+            sheet_length: usize,
+            stage: *const u8,
+            stage_length: usize,
+            reply: *mut u64,
+        ) -> u32;
+
+        pub fn dagmetzi_search_shared(
+            n: u8,
+            m: u8,
+            sets: *const u16,
+            budget: u32,
+            tables: *mut u16,
+            reply: *mut u64,
+        ) -> u32;
     }
 }
 
@@ -64,20 +99,27 @@ fn told(refusal: u32, reply: [u64; 6]) -> Told {
     Told { refusal, outcome, cells, floor, visits, length, place }
 }
 
-pub fn quote(sheet: &[u8], budget: u32, buffer: &mut [u8]) -> Told {
+/// On either board, as in the calls below.
+pub fn quote(board: Board, sheet: &[u8], budget: u32, buffer: &mut [u8]) -> Told {
+    let call: c::Quote = match board {
+        Board::Tree => c::dagmetzi_quote,
+        Board::Shared => c::dagmetzi_quote_shared,
+    };
     let mut reply = [FILL; 6];
     // SAFETY: a slice is never null, what is written is borrowed apart from the rest, and a reply has six numbers.
-    let refusal = unsafe {
-        c::dagmetzi_quote(sheet.as_ptr(), sheet.len(), budget, buffer.as_mut_ptr(), buffer.len(), reply.as_mut_ptr())
-    };
+    let refusal =
+        unsafe { call(sheet.as_ptr(), sheet.len(), budget, buffer.as_mut_ptr(), buffer.len(), reply.as_mut_ptr()) };
     told(refusal, reply)
 }
 
-pub fn audit(sheet: &[u8], stage: &[u8]) -> Told {
+pub fn audit(board: Board, sheet: &[u8], stage: &[u8]) -> Told {
+    let call: c::Audit = match board {
+        Board::Tree => c::dagmetzi_audit,
+        Board::Shared => c::dagmetzi_audit_shared,
+    };
     let mut reply = [FILL; 6];
     // SAFETY: as above.
-    let refusal =
-        unsafe { c::dagmetzi_audit(sheet.as_ptr(), sheet.len(), stage.as_ptr(), stage.len(), reply.as_mut_ptr()) };
+    let refusal = unsafe { call(sheet.as_ptr(), sheet.len(), stage.as_ptr(), stage.len(), reply.as_mut_ptr()) };
     told(refusal, reply)
 }
 
@@ -90,10 +132,14 @@ pub fn clean(sheet: &[u8], buffer: &mut [u8]) -> Told {
     told(refusal, reply)
 }
 
-pub fn search(n: u8, m: u8, sets: &[u16; 16], budget: u32) -> (Told, [u16; 4]) {
+pub fn search(board: Board, n: u8, m: u8, sets: &[u16; 16], budget: u32) -> (Told, [u16; 4]) {
+    let call: c::Search = match board {
+        Board::Tree => c::dagmetzi_search,
+        Board::Shared => c::dagmetzi_search_shared,
+    };
     let mut reply = [FILL; 6];
     let mut tables = [LENT_TABLE; 4];
     // SAFETY: as above; there are 16 sets and 4 tables.
-    let refusal = unsafe { c::dagmetzi_search(n, m, sets.as_ptr(), budget, tables.as_mut_ptr(), reply.as_mut_ptr()) };
+    let refusal = unsafe { call(n, m, sets.as_ptr(), budget, tables.as_mut_ptr(), reply.as_mut_ptr()) };
     (told(refusal, reply), tables)
 }

@@ -6,7 +6,8 @@ mod rows;
 mod timing;
 
 use inputs::{sheet, FAMILIES};
-use rows::{copies, quotes, Searches, Sheets, BUDGET};
+use rows::{copies, quotes, shared_quotes, Searches, Sheets, BUDGET};
+use trials::board::{Board, BOARDS};
 use trials::random::Random;
 
 const SIZES: [(u8, u8); 4] = [(2, 2), (3, 3), (4, 3), (4, 4)];
@@ -23,8 +24,11 @@ fn header() {
     println!("The ratio is the library's time over Rust's.");
 }
 
-fn print_searches(searches: &[Searches]) {
-    println!("\nSearches. A visit: what a search takes longer than with budget 0, over its visits.");
+fn print_searches(board: Board, searches: &[Searches]) {
+    match board {
+        Board::Tree => println!("\nSearches. A visit: what a search takes longer than with budget 0, over its visits."),
+        Board::Shared => println!("\nSearches on the board that shares selectors, of the same relations."),
+    }
     println!("                                        us a search                 ns a visit");
     println!("size   relations     visits    library      Rust  ratio    library      Rust  ratio");
     for row in searches {
@@ -46,22 +50,31 @@ fn print_sheets<const ROOM: usize>(what: &str, rust: &str, sheets: &[Sheets<ROOM
 /// machine for a while, the row has others.
 fn main() {
     let mut rng = Random::new(20_131_111);
-    let (mut searched, mut quoted, mut copied) = (Vec::new(), Vec::new(), Vec::new());
+    let mut searched = BOARDS.map(|_| Vec::new());
+    let (mut quoted, mut shared, mut copied) = (Vec::new(), Vec::new(), Vec::new());
     for (n, m) in SIZES {
         for (name, draw) in FAMILIES {
-            searched.push(Searches::new(name, (n, m), (0..COUNT).map(|_| draw(&mut rng, n, m)).collect()));
+            let drawn: Vec<_> = (0..COUNT).map(|_| draw(&mut rng, n, m)).collect();
+            for board in BOARDS {
+                searched[board as usize].push(Searches::new(board, name, (n, m), drawn.clone()));
+            }
         }
         let sheets: Vec<_> = (0..COUNT).map(|_| sheet(&mut rng, n, m)).collect();
         quoted.push(quotes((n, m), sheets.clone()));
+        shared.push(shared_quotes((n, m), sheets.clone()));
         copied.push(copies((n, m), sheets));
     }
     for _ in 0..ROUNDS {
-        searched.iter_mut().for_each(Searches::round);
+        searched.iter_mut().flatten().for_each(Searches::round);
         quoted.iter_mut().for_each(Sheets::round);
+        shared.iter_mut().for_each(Sheets::round);
         copied.iter_mut().for_each(Sheets::round);
     }
     header();
-    print_searches(&searched);
+    for board in BOARDS {
+        print_searches(board, &searched[board as usize]);
+    }
     print_sheets("Quotes", "the tuned search stands between the reader and the writer", &quoted);
+    print_sheets("Sharing quotes", "the tuned search stands between the reader and the writer", &shared);
     print_sheets("Clean copies", "stand the reader and the copy", &copied);
 }

@@ -1,18 +1,20 @@
 //! The rows of the tables: what is timed together. Each reply is compared once, before the timing.
 
 use crate::timing::{columns, Timing};
+use trials::board::Board;
 use trials::clean::{self, LONGEST_COPY};
-use trials::{fast, relation, stage};
+use trials::diagram::LONGEST_SHARED;
+use trials::stage::LONGEST_STAGE;
+use trials::{fast, relation};
 
 /// The budget of the program.
 pub const BUDGET: u32 = 10_000;
 /// A row with fewer visits a search than this tells nothing of the time of a visit.
 const FEW: f64 = 2.0;
-/// No stage has more bytes.
-const LONGEST_STAGE: usize = 196;
 
-/// Searches of relations of n inputs and m wires, at the budget and at budget 0.
+/// Searches of relations of n inputs and m wires on a board, at the budget and at budget 0.
 pub struct Searches {
+    board: Board,
     name: &'static str,
     n: u8,
     m: u8,
@@ -23,18 +25,18 @@ pub struct Searches {
 }
 
 impl Searches {
-    pub fn new(name: &'static str, (n, m): (u8, u8), drawn: Vec<[u16; 16]>) -> Searches {
-        let visits = drawn.iter().map(|sets| compared_search(n, m, sets)).sum();
-        Searches { name, n, m, drawn, visits, whole: Timing::new(), start: Timing::new() }
+    pub fn new(board: Board, name: &'static str, (n, m): (u8, u8), drawn: Vec<[u16; 16]>) -> Searches {
+        let visits = drawn.iter().map(|sets| compared_search(board, n, m, sets)).sum();
+        Searches { board, name, n, m, drawn, visits, whole: Timing::new(), start: Timing::new() }
     }
 
     pub fn round(&mut self) {
-        let (n, m) = (self.n, self.m);
+        let (board, n, m) = (self.board, self.n, self.m);
         for (timing, budget) in [(&mut self.whole, BUDGET), (&mut self.start, 0)] {
             timing.round(
                 &self.drawn,
-                |sets| bench::search(n, m, sets, budget).0.visits,
-                |sets| fast::search(n.into(), sets, budget).visits.into(),
+                |sets| bench::search(board, n, m, sets, budget).0.visits,
+                |sets| fast::search(board, n.into(), sets, budget).visits.into(),
             );
         }
     }
@@ -49,12 +51,12 @@ impl Searches {
 }
 
 /// The visits of a search by both.
-fn compared_search(n: u8, m: u8, sets: &[u16; 16]) -> u64 {
-    let (told, tables) = bench::search(n, m, sets, BUDGET);
-    let a = fast::search(n.into(), sets, BUDGET);
+fn compared_search(board: Board, n: u8, m: u8, sets: &[u16; 16]) -> u64 {
+    let (told, tables) = bench::search(board, n, m, sets, BUDGET);
+    let a = fast::search(board, n.into(), sets, BUDGET);
     let same = (told.refusal, told.cells, told.floor, told.visits, told.outcome)
         == (0, a.cells.into(), a.floor.into(), a.visits.into(), a.stopped.into());
-    assert!(same && tables == a.tables, "the two searches differ on {n} {m} {sets:?}");
+    assert!(same && tables == a.tables, "the two searches differ on {board:?} {n} {m} {sets:?}");
     told.visits
 }
 
@@ -71,10 +73,25 @@ pub struct Sheets<const ROOM: usize> {
 }
 
 pub type Quotes = Sheets<LONGEST_STAGE>;
+pub type SharedQuotes = Sheets<LONGEST_SHARED>;
 pub type Copies = Sheets<LONGEST_COPY>;
 
 pub fn quotes(size: (u8, u8), drawn: Vec<Vec<u8>>) -> Quotes {
-    Sheets::new(size, drawn, |sheet, buffer| bench::quote(sheet, BUDGET, buffer).length, rust_quote)
+    Sheets::new(
+        size,
+        drawn,
+        |sheet, buffer| bench::quote(Board::Tree, sheet, BUDGET, buffer).length,
+        |sheet, buffer| rust_quote(Board::Tree, sheet, buffer),
+    )
+}
+
+pub fn shared_quotes(size: (u8, u8), drawn: Vec<Vec<u8>>) -> SharedQuotes {
+    Sheets::new(
+        size,
+        drawn,
+        |sheet, buffer| bench::quote(Board::Shared, sheet, BUDGET, buffer).length,
+        |sheet, buffer| rust_quote(Board::Shared, sheet, buffer),
+    )
 }
 
 pub fn copies(size: (u8, u8), drawn: Vec<Vec<u8>>) -> Copies {
@@ -103,11 +120,11 @@ impl<const ROOM: usize> Sheets<ROOM> {
 }
 
 /// The reader, relation and writer of the trials about the tuned search: the length written.
-fn rust_quote(sheet: &[u8], buffer: &mut [u8]) -> u64 {
+fn rust_quote(board: Board, sheet: &[u8], buffer: &mut [u8]) -> u64 {
     let unit = trials::sheet::read(sheet).expect("drawn to be read");
     let r = relation::of_unit(&unit).expect("drawn to be well defined");
-    let answer = fast::search(r.n, &r.sets, BUDGET);
-    stage::write(r.n as u8, r.m as u8, &answer.tables, buffer).expect("long enough") as u64
+    let answer = fast::search(board, r.n, &r.sets, BUDGET);
+    board.write(r.n as u8, r.m as u8, &answer.tables, buffer).expect("long enough") as u64
 }
 
 /// The reader and the copy of the trials.

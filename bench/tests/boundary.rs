@@ -3,8 +3,11 @@
 
 use bench::{Told, BEST, DIFFERS, FITS, LENT_TABLE, REFUSED, STAGE_REFUSED, STOPPED, WRITTEN};
 use trials::audit::Audit;
+use trials::board::{Board, BOARDS};
 use trials::case::Case;
 use trials::clean::LONGEST_COPY;
+use trials::diagram::LONGEST_LISTS;
+use trials::draw::diagrams::largest_stage;
 use trials::draw::relations::{half_dense, junk_past_the_last, malformed, sets};
 use trials::fast;
 use trials::pick::Picker;
@@ -13,6 +16,7 @@ use trials::random::Random;
 use trials::refusal::Refusal;
 use trials::relation::handed;
 use trials::rows::A;
+use trials::stage::LONGEST_STAGE;
 
 /// What lent buffers are filled with at the start.
 const FILL: u8 = 0xEE;
@@ -39,10 +43,10 @@ fn written(length: usize) -> Told {
 }
 
 /// The reply and the tables that the tuned search gives, or the refusal, which leaves the tables as they were lent.
-fn searched(n: u8, m: u8, sets: &[u16; 16], budget: u32) -> (Told, [u16; 4]) {
+fn searched(board: Board, n: u8, m: u8, sets: &[u16; 16], budget: u32) -> (Told, [u16; 4]) {
     match handed(n, m, sets) {
         Ok(r) => {
-            let a = fast::search(r.n, &r.sets, budget);
+            let a = fast::search(board, r.n, &r.sets, budget);
             (found(a.cells, a.floor, a.visits, a.stopped, 0), a.tables)
         }
         Err(r) => (refused(REFUSED, &r), [LENT_TABLE; 4]),
@@ -57,8 +61,8 @@ fn lent(room: usize, call: impl FnOnce(&mut [u8]) -> Told) -> (Told, Vec<u8>) {
 }
 
 /// The reply and the buffer that the independent quote gives.
-fn quoted(sheet: &[u8], budget: u32, room: usize, picker: &mut Picker) -> (Told, Vec<u8>) {
-    lent(room, |buffer| match trials::quote::quote(sheet, budget, buffer, picker) {
+fn quoted(board: Board, sheet: &[u8], budget: u32, room: usize, picker: &mut Picker) -> (Told, Vec<u8>) {
+    lent(room, |buffer| match trials::quote::quote(board, sheet, budget, buffer, picker) {
         Ok(q) => found(q.answer.cells, q.answer.floor, q.answer.visits, q.answer.stopped, q.length),
         Err(r) => refused(REFUSED, &r),
     })
@@ -72,8 +76,8 @@ fn cleaned(sheet: &[u8], room: usize) -> (Told, Vec<u8>) {
     })
 }
 
-fn audited(sheet: &[u8], stage: &[u8]) -> Told {
-    match trials::audit::audit(sheet, stage) {
+fn audited(board: Board, sheet: &[u8], stage: &[u8]) -> Told {
+    match trials::audit::audit(board, sheet, stage) {
         Audit::Judged { fits, cells } => {
             let outcome = if fits { FITS } else { DIFFERS };
             Told { outcome, ..found(cells, 0, 0, false, 0) }
@@ -83,8 +87,8 @@ fn audited(sheet: &[u8], stage: &[u8]) -> Told {
     }
 }
 
-fn library_quote(sheet: &[u8], budget: u32, room: usize) -> (Told, Vec<u8>) {
-    lent(room, |buffer| bench::quote(sheet, budget, buffer))
+fn library_quote(board: Board, sheet: &[u8], budget: u32, room: usize) -> (Told, Vec<u8>) {
+    lent(room, |buffer| bench::quote(board, sheet, budget, buffer))
 }
 
 fn library_clean(sheet: &[u8], room: usize) -> (Told, Vec<u8>) {
@@ -106,11 +110,13 @@ fn searches_agree() {
                 junk_past_the_last(&mut rng, n, &mut given);
             }
             let budget = rng.of(&[0, 1, 2, 5, 20, 100, 600, 10_000]);
-            assert_eq!(
-                bench::search(n, m, &given, budget),
-                searched(n, m, &given, budget),
-                "{n} {m} {given:?} {budget}"
-            );
+            for board in BOARDS {
+                assert_eq!(
+                    bench::search(board, n, m, &given, budget),
+                    searched(board, n, m, &given, budget),
+                    "{board:?} {n} {m} {given:?} {budget}"
+                );
+            }
         }
     }
 }
@@ -124,16 +130,36 @@ fn sheet_a_is_its_own_copy() {
     assert_eq!(library_clean(&A, 28), (written(28), A.to_vec()));
 }
 
-/// Sheet A at buffers of every length about its stage's, and an audit of the stage written.
+/// Sheet A at buffers of every length about its stages', and an audit of the stage written.
 #[test]
 fn sheet_a_agrees() {
     let mut picker = Picker::new();
-    for room in [0, 1, 15, 16, 17, 196] {
-        assert_eq!(library_quote(&A, 10_000, room), quoted(&A, 10_000, room, &mut picker));
+    for (board, length) in [(Board::Tree, 16), (Board::Shared, 18)] {
+        for room in [0, 1, length - 1, length, length + 1, board.longest(), 5_000] {
+            assert_eq!(library_quote(board, &A, 10_000, room), quoted(board, &A, 10_000, room, &mut picker));
+        }
+        let (told, buffer) = library_quote(board, &A, 10_000, board.longest());
+        assert_eq!(told, found(2, 2, 0, false, length));
+        assert_eq!(bench::audit(board, &A, &buffer[..length]), found(2, 0, 0, false, 0));
     }
-    let (told, buffer) = library_quote(&A, 10_000, 196);
-    assert_eq!(told, found(2, 2, 0, false, 16));
-    assert_eq!(bench::audit(&A, &buffer[..16]), found(2, 0, 0, false, 0));
+}
+
+/// The longest stages that are read, cut short at places all over them, and with bytes behind them; then zeros of any
+/// length.
+#[test]
+fn long_stages_agree() {
+    let wide: Vec<u8> = [0x01, 0x04, 0x04].into_iter().chain((0..16).flat_map(|p| [0x03, p])).chain([0x00]).collect();
+    let trees = Board::Tree.bytes_of(4, 4, &[0x6996, 0x9669, 0x6996, 0x9669]);
+    let lists = largest_stage(&mut Random::new(32), 4, 4);
+    assert_eq!((trees.len(), lists.len()), (LONGEST_STAGE, LONGEST_LISTS));
+    for (board, mut stage) in [(Board::Tree, trees), (Board::Shared, lists)] {
+        let longest = stage.len();
+        stage.resize(70_000, 0);
+        for length in (0..longest + 2).step_by(7).chain([longest - 1, longest, longest + 1, 4_096, 70_000]) {
+            let stage = &stage[..length];
+            assert_eq!(bench::audit(board, &wide, stage), audited(board, &wide, stage), "{board:?} {length}");
+        }
+    }
 }
 
 /// Every quote, audit, search and clean copy among the cases drawn for the program.
@@ -143,14 +169,17 @@ fn drawn_cases_agree() {
     let mut held = 0;
     for case in cases() {
         match &case {
-            Case::Quote { budget, room, sheet } => {
+            Case::Quote { board, budget, room, sheet } => {
                 let room = usize::from(*room);
-                let expected = quoted(sheet, *budget, room, &mut picker);
-                assert_eq!(library_quote(sheet, *budget, room), expected, "{case:?}");
+                let expected = quoted(*board, sheet, *budget, room, &mut picker);
+                assert_eq!(library_quote(*board, sheet, *budget, room), expected, "{case:?}");
             }
-            Case::Audit { sheet, stage } => assert_eq!(bench::audit(sheet, stage), audited(sheet, stage), "{case:?}"),
-            Case::Search { n, m, budget, sets } => {
-                assert_eq!(bench::search(*n, *m, sets, *budget), searched(*n, *m, sets, *budget), "{case:?}");
+            Case::Audit { board, sheet, stage } => {
+                assert_eq!(bench::audit(*board, sheet, stage), audited(*board, sheet, stage), "{case:?}");
+            }
+            Case::Search { board, n, m, budget, sets } => {
+                let expected = searched(*board, *n, *m, sets, *budget);
+                assert_eq!(bench::search(*board, *n, *m, sets, *budget), expected, "{case:?}");
             }
             Case::Clean { room, sheet } => {
                 let room = usize::from(*room);
@@ -160,5 +189,5 @@ fn drawn_cases_agree() {
         }
         held += 1;
     }
-    assert!(held > 20_000, "only {held} cases");
+    assert!(held > 24_000, "only {held} cases");
 }

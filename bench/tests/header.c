@@ -1,6 +1,6 @@
-/* A caller in C: sheet A quoted, its stage audited, its relation searched, its clean copy written, as the header
- * declares the calls. Prints what each call returns and the numbers of its reply, then the stage, the tables and the
- * copy. */
+/* A caller in C: sheet A quoted, its stage audited, its relation searched, the same for the board that shares
+ * selectors, its clean copy written, as the header declares the calls. Prints what each call returns and the numbers of
+ * its reply, then the stages, the tables and the copy. */
 #include "../../include/dagmetzi.h"
 #include <stdio.h>
 
@@ -24,18 +24,27 @@ int main(void) {
                              0x02, 0x04, 0x02, 0x00, 0x01, 0x04, 0x00, 0x02, 0x01, 0x05, 0x02, 0x05, 0x03, 0x00};
     const uint16_t sets[DAGMETZI_PATTERNS] = {2, 9, 9, 4};
     uint8_t stage[DAGMETZI_LONGEST_STAGE] = {0};
+    uint8_t shared[DAGMETZI_LONGEST_SHARED] = {0};
     uint8_t copy[DAGMETZI_LONGEST_COPY] = {0};
     uint16_t tables[DAGMETZI_WIRES];
+    uint16_t shared_tables[DAGMETZI_WIRES];
     uint64_t reply[DAGMETZI_NUMBERS];
     uint64_t stage_length;
+    uint64_t shared_length;
 
     print_reply(dagmetzi_quote(sheet, sizeof sheet, 10000, stage, sizeof stage, reply), reply);
     stage_length = reply[DAGMETZI_LENGTH];
     print_reply(dagmetzi_audit(sheet, sizeof sheet, stage, (size_t)stage_length, reply), reply);
     print_reply(dagmetzi_search(2, 2, sets, 10000, tables, reply), reply);
+    print_reply(dagmetzi_quote_shared(sheet, sizeof sheet, 10000, shared, sizeof shared, reply), reply);
+    shared_length = reply[DAGMETZI_LENGTH];
+    print_reply(dagmetzi_audit_shared(sheet, sizeof sheet, shared, (size_t)shared_length, reply), reply);
+    print_reply(dagmetzi_search_shared(2, 2, sets, 10000, shared_tables, reply), reply);
     print_reply(dagmetzi_clean(sheet, sizeof sheet, copy, sizeof copy, reply), reply);
     print_bytes(stage, stage_length);
     printf("%u %u %u %u\n", tables[0], tables[1], tables[2], tables[3]);
+    print_bytes(shared, shared_length);
+    printf("%u %u %u %u\n", shared_tables[0], shared_tables[1], shared_tables[2], shared_tables[3]);
     print_bytes(copy, reply[DAGMETZI_LENGTH]);
     return reply[DAGMETZI_OUTCOME] != DAGMETZI_WRITTEN;
 }

@@ -4,6 +4,7 @@
 use bench::Told;
 use std::path::{Path, PathBuf};
 use std::process::{Command, Output};
+use trials::board::BOARDS;
 use trials::clean::LONGEST_COPY;
 use trials::rows::A;
 
@@ -19,15 +20,18 @@ fn bytes_line(bytes: &[u8]) -> String {
 }
 
 fn expected() -> String {
-    let mut buffer = [0; 196];
-    let quote = bench::quote(&A, 10_000, &mut buffer);
-    let stage = &buffer[..quote.length as usize];
-    let (search, tables) = bench::search(2, 2, &A_SETS, 10_000);
+    let (mut replies, mut lent) = (String::new(), String::new());
+    for board in BOARDS {
+        let mut buffer = vec![0; board.longest()];
+        let quote = bench::quote(board, &A, 10_000, &mut buffer);
+        let stage = &buffer[..quote.length as usize];
+        let (search, tables) = bench::search(board, 2, 2, &A_SETS, 10_000);
+        replies += &[quote, bench::audit(board, &A, stage), search].map(|told| line(&told)).concat();
+        lent += &(bytes_line(stage) + &tables.map(|t| t.to_string()).join(" ") + "\n");
+    }
     let mut copy = [0; LONGEST_COPY];
     let clean = bench::clean(&A, &mut copy);
-    let replies = [quote, bench::audit(&A, stage), search, clean].map(|told| line(&told)).concat();
-    let tables = tables.map(|t| t.to_string()).join(" ");
-    replies + &bytes_line(stage) + &tables + "\n" + &bytes_line(&copy[..clean.length as usize])
+    replies + &line(&clean) + &lent + &bytes_line(&copy[..clean.length as usize])
 }
 
 fn run(command: &mut Command) -> Output {

@@ -1,8 +1,10 @@
-//! Document 01, "Audit": does a stage's value lie in R(p) for every p?
+//! Document 01, "Audit": does a stage's value lie in R(p) for every p? Of
+//! either board: the sheet is the same, and only the stage is read otherwise.
 
+use crate::board::Board;
 use crate::refusal::{Refusal, SIZES_DIFFER};
 use crate::search::value_at;
-use crate::{relation, sheet, stage};
+use crate::{relation, sheet};
 
 #[derive(Clone, Copy, PartialEq, Eq, Debug)]
 pub enum Audit {
@@ -12,19 +14,18 @@ pub enum Audit {
 }
 
 /// The sheet (with 10) is judged before the stage; 13 is the stage's.
-pub fn audit(sheet: &[u8], stage: &[u8]) -> Audit {
+pub fn audit(board: Board, sheet: &[u8], stage: &[u8]) -> Audit {
     let r = match sheet::read(sheet).and_then(|unit| relation::of_unit(&unit)) {
         Ok(r) => r,
         Err(refusal) => return Audit::SheetRefused(refusal),
     };
-    let stage = match stage::read(stage) {
+    let stage = match board.read(stage) {
         Ok(stage) => stage,
         Err(refusal) => return Audit::StageRefused(refusal),
     };
     if stage.n != r.n || stage.m != r.m {
         return Audit::StageRefused(Refusal { number: SIZES_DIFFER, place: 0 });
     }
-    let tables = stage.tables();
-    let fits = (0..r.patterns()).all(|p| r.sets[p] >> value_at(r.m, &tables, p) & 1 == 1);
-    Audit::Judged { fits, cells: stage.cells() }
+    let fits = (0..r.patterns()).all(|p| r.sets[p] >> value_at(r.m, &stage.tables, p) & 1 == 1);
+    Audit::Judged { fits, cells: stage.cells }
 }

@@ -9,6 +9,8 @@
 //! * `W` write a stage: n (1), m (1), buffer length (1), four tables (2 each).
 //! * `R` read a stage: length (2), stage.
 //! * `C` clean a sheet: buffer length (2, at most 320), sheet length (2), sheet.
+//! * `q`, `a`, `s`, `w`, `r`: the same for the board that shares selectors, with
+//!   stages in its form (at most 3,056 bytes, or 3,057 to be refused).
 //!
 //! Replies, a line each (a quote that is not refused has two):
 //!
@@ -19,29 +21,30 @@
 //!   "refused N at P".
 //! * `W`, `C`: "LENGTH PAIRS +"; or "refused N at P +".
 //! * `R`: "N M T0 T1 T2 T3 cells C"; or "refused N at P".
+//! * A small letter: as its capital.
 //!
 //! Buffers start filled with EE. The + says that every byte of the buffer past
 //! the stage or the copy (on a refusal: every byte) still is EE.
 
 use crate::audit::{audit, Audit};
+use crate::board::Board;
 use crate::clean::clean;
 use crate::pick::Picker;
 use crate::quote::quote;
 use crate::refusal::Refusal;
-use crate::relation::handed;
+use crate::relation::{handed, Relation};
 use crate::search::{search, Answer};
-use crate::stage;
 
 /// What lent buffers are filled with at the start.
 const FILL: u8 = 0xEE;
 
 #[derive(Clone, PartialEq, Eq, Debug)]
 pub enum Case {
-    Quote { budget: u32, room: u8, sheet: Vec<u8> },
-    Audit { sheet: Vec<u8>, stage: Vec<u8> },
-    Search { n: u8, m: u8, budget: u32, sets: [u16; 16] },
-    Write { n: u8, m: u8, room: u8, tables: [u16; 4] },
-    Read { stage: Vec<u8> },
+    Quote { board: Board, budget: u32, room: u8, sheet: Vec<u8> },
+    Audit { board: Board, sheet: Vec<u8>, stage: Vec<u8> },
+    Search { board: Board, n: u8, m: u8, budget: u32, sets: [u16; 16] },
+    Write { board: Board, n: u8, m: u8, room: u8, tables: [u16; 4] },
+    Read { board: Board, stage: Vec<u8> },
     Clean { room: u16, sheet: Vec<u8> },
 }
 
@@ -62,43 +65,61 @@ pub struct Reply {
 }
 
 impl Case {
+    /// Small letters are the board that shares selectors.
     pub fn kind(&self) -> u8 {
-        match self {
-            Case::Quote { .. } => b'Q',
-            Case::Audit { .. } => b'A',
-            Case::Search { .. } => b'S',
-            Case::Write { .. } => b'W',
-            Case::Read { .. } => b'R',
-            Case::Clean { .. } => b'C',
+        let (letter, board) = match self {
+            Case::Quote { board, .. } => (b'Q', *board),
+            Case::Audit { board, .. } => (b'A', *board),
+            Case::Search { board, .. } => (b'S', *board),
+            Case::Write { board, .. } => (b'W', *board),
+            Case::Read { board, .. } => (b'R', *board),
+            Case::Clean { .. } => (b'C', Board::Tree),
+        };
+        match board {
+            Board::Tree => letter,
+            Board::Shared => letter.to_ascii_lowercase(),
         }
+    }
+
+    /// The same call on that board. Panics on a clean copy, which has none.
+    pub fn on(mut self, to: Board) -> Case {
+        match &mut self {
+            Case::Quote { board, .. }
+            | Case::Audit { board, .. }
+            | Case::Search { board, .. }
+            | Case::Write { board, .. }
+            | Case::Read { board, .. } => *board = to,
+            Case::Clean { .. } => panic!("a clean copy has no board"),
+        }
+        self
     }
 
     /// Appends the record: the kind byte, then numbers low byte first.
     pub fn record(&self, out: &mut Vec<u8>) {
         out.push(self.kind());
         match self {
-            Case::Quote { budget, room, sheet } => {
+            Case::Quote { budget, room, sheet, .. } => {
                 out.extend(budget.to_le_bytes());
                 out.push(*room);
                 out.extend(length(sheet));
                 out.extend(sheet);
             }
-            Case::Audit { sheet, stage } => {
+            Case::Audit { sheet, stage, .. } => {
                 out.extend(length(sheet));
                 out.extend(length(stage));
                 out.extend(sheet);
                 out.extend(stage);
             }
-            Case::Search { n, m, budget, sets } => {
+            Case::Search { n, m, budget, sets, .. } => {
                 out.extend([*n, *m]);
                 out.extend(budget.to_le_bytes());
                 out.extend(sets.iter().flat_map(|s| s.to_le_bytes()));
             }
-            Case::Write { n, m, room, tables } => {
+            Case::Write { n, m, room, tables, .. } => {
                 out.extend([*n, *m, *room]);
                 out.extend(tables.iter().flat_map(|t| t.to_le_bytes()));
             }
-            Case::Read { stage } => {
+            Case::Read { stage, .. } => {
                 out.extend(length(stage));
                 out.extend(stage);
             }
@@ -113,59 +134,67 @@ impl Case {
     /// The expected reply, lines with their line ends.
     pub fn reply(&self, picker: &mut Picker) -> Reply {
         match self {
-            Case::Quote { budget, room, sheet } => quote_reply(sheet, *budget, *room, picker),
-            Case::Audit { sheet, stage } => audit_reply(sheet, stage),
-            Case::Search { n, m, budget, sets } => search_reply(*n, *m, *budget, sets, picker),
-            Case::Write { n, m, room, tables } => write_reply((*room).into(), |b| stage::write(*n, *m, tables, b)),
-            Case::Read { stage } => read_reply(stage),
+            Case::Quote { board, budget, room, sheet } => quote_reply(*board, sheet, *budget, *room, picker),
+            Case::Audit { board, sheet, stage } => audit_reply(*board, sheet, stage),
+            Case::Search { board, n, m, budget, sets } => search_reply(*board, handed(*n, *m, sets), *budget, picker),
+            Case::Write { board, n, m, room, tables } => {
+                write_reply((*room).into(), |b| board.write(*n, *m, tables, b))
+            }
+            Case::Read { board, stage } => read_reply(*board, stage),
             Case::Clean { room, sheet } => write_reply((*room).into(), |b| clean(sheet, b)),
         }
     }
 }
 
+fn take<'a>(bytes: &mut &'a [u8], count: usize) -> &'a [u8] {
+    let (taken, rest) = bytes.split_at(count);
+    *bytes = rest;
+    taken
+}
+
+fn number(bytes: &mut &[u8], count: usize) -> u32 {
+    take(bytes, count).iter().rev().fold(0, |n, &b| n << 8 | u32::from(b))
+}
+
 /// The cases of a sequence of records. Panics on anything else.
 pub fn read_records(mut bytes: &[u8]) -> Vec<Case> {
-    fn take<'a>(bytes: &mut &'a [u8], count: usize) -> &'a [u8] {
-        let (taken, rest) = bytes.split_at(count);
-        *bytes = rest;
-        taken
-    }
-    fn number(bytes: &mut &[u8], count: usize) -> u32 {
-        take(bytes, count).iter().rev().fold(0, |n, &b| n << 8 | u32::from(b))
-    }
     let mut cases = Vec::new();
     while !bytes.is_empty() {
-        let it = &mut bytes;
-        cases.push(match take(it, 1)[0] {
-            b'Q' => {
-                let (budget, room) = (number(it, 4), number(it, 1) as u8);
-                let length = number(it, 2) as usize;
-                Case::Quote { budget, room, sheet: take(it, length).to_vec() }
-            }
-            b'A' => {
-                let (sheet, stage) = (number(it, 2) as usize, number(it, 2) as usize);
-                Case::Audit { sheet: take(it, sheet).to_vec(), stage: take(it, stage).to_vec() }
-            }
-            b'S' => {
-                let (n, m, budget) = (number(it, 1) as u8, number(it, 1) as u8, number(it, 4));
-                Case::Search { n, m, budget, sets: [0; 16].map(|_: u16| number(it, 2) as u16) }
-            }
-            b'W' => {
-                let (n, m, room) = (number(it, 1) as u8, number(it, 1) as u8, number(it, 1) as u8);
-                Case::Write { n, m, room, tables: [0; 4].map(|_: u16| number(it, 2) as u16) }
-            }
-            b'R' => {
-                let length = number(it, 2) as usize;
-                Case::Read { stage: take(it, length).to_vec() }
-            }
-            b'C' => {
-                let (room, length) = (number(it, 2) as u16, number(it, 2) as usize);
-                Case::Clean { room, sheet: take(it, length).to_vec() }
-            }
-            kind => panic!("no kind {kind}"),
-        });
+        cases.push(read_record(&mut bytes));
     }
     cases
+}
+
+fn read_record(it: &mut &[u8]) -> Case {
+    let kind = take(it, 1)[0];
+    let board = if kind.is_ascii_lowercase() { Board::Shared } else { Board::Tree };
+    match kind.to_ascii_uppercase() {
+        b'Q' => {
+            let (budget, room, length) = (number(it, 4), number(it, 1) as u8, number(it, 2) as usize);
+            Case::Quote { board, budget, room, sheet: take(it, length).to_vec() }
+        }
+        b'A' => {
+            let (sheet, stage) = (number(it, 2) as usize, number(it, 2) as usize);
+            Case::Audit { board, sheet: take(it, sheet).to_vec(), stage: take(it, stage).to_vec() }
+        }
+        b'S' => {
+            let (n, m, budget) = (number(it, 1) as u8, number(it, 1) as u8, number(it, 4));
+            Case::Search { board, n, m, budget, sets: [0; 16].map(|_: u16| number(it, 2) as u16) }
+        }
+        b'W' => {
+            let (n, m, room) = (number(it, 1) as u8, number(it, 1) as u8, number(it, 1) as u8);
+            Case::Write { board, n, m, room, tables: [0; 4].map(|_: u16| number(it, 2) as u16) }
+        }
+        b'R' => {
+            let length = number(it, 2) as usize;
+            Case::Read { board, stage: take(it, length).to_vec() }
+        }
+        b'C' if board == Board::Tree => {
+            let (room, length) = (number(it, 2) as u16, number(it, 2) as usize);
+            Case::Clean { room, sheet: take(it, length).to_vec() }
+        }
+        _ => panic!("no kind {kind}"),
+    }
 }
 
 fn length(bytes: &[u8]) -> [u8; 2] {
@@ -212,9 +241,9 @@ fn unwritten(buffer: &[u8], r: Refusal) -> Reply {
     Reply { text: format!("{} {}\n", refused(&r), untouched(buffer)), outcome: Outcome::Refused(r) }
 }
 
-fn quote_reply(sheet: &[u8], budget: u32, room: u8, picker: &mut Picker) -> Reply {
+fn quote_reply(board: Board, sheet: &[u8], budget: u32, room: u8, picker: &mut Picker) -> Reply {
     let mut buffer = vec![FILL; room.into()];
-    match quote(sheet, budget, &mut buffer, picker) {
+    match quote(board, sheet, budget, &mut buffer, picker) {
         Ok(q) => {
             let text = format!("{}\n{}\n", found(&q.answer), written(&buffer, q.length));
             Reply { text, outcome: Outcome::Found(q.answer) }
@@ -223,8 +252,8 @@ fn quote_reply(sheet: &[u8], budget: u32, room: u8, picker: &mut Picker) -> Repl
     }
 }
 
-fn audit_reply(sheet: &[u8], stage: &[u8]) -> Reply {
-    match audit(sheet, stage) {
+fn audit_reply(board: Board, sheet: &[u8], stage: &[u8]) -> Reply {
+    match audit(board, sheet, stage) {
         Audit::Judged { fits, cells } => {
             let word = if fits { "fits" } else { "differs" };
             Reply { text: format!("{word} {cells}\n"), outcome: Outcome::Judged { fits } }
@@ -234,10 +263,10 @@ fn audit_reply(sheet: &[u8], stage: &[u8]) -> Reply {
     }
 }
 
-fn search_reply(n: u8, m: u8, budget: u32, sets: &[u16; 16], picker: &mut Picker) -> Reply {
-    match handed(n, m, sets) {
+fn search_reply(board: Board, handed: Result<Relation, Refusal>, budget: u32, picker: &mut Picker) -> Reply {
+    match handed {
         Ok(r) => {
-            let answer = search(&r, budget, picker);
+            let answer = search(board, &r, budget, picker);
             let text = format!("{} {}\n", numbers(&answer.tables), found(&answer));
             Reply { text, outcome: Outcome::Found(answer) }
         }
@@ -254,10 +283,10 @@ fn write_reply(room: usize, write: impl FnOnce(&mut [u8]) -> Result<usize, Refus
     }
 }
 
-fn read_reply(bytes: &[u8]) -> Reply {
-    match stage::read(bytes) {
+fn read_reply(board: Board, bytes: &[u8]) -> Reply {
+    match board.read(bytes) {
         Ok(s) => {
-            let text = format!("{} {} {} cells {}\n", s.n, s.m, numbers(&s.tables()), s.cells());
+            let text = format!("{} {} {} cells {}\n", s.n, s.m, numbers(&s.tables), s.cells);
             Reply { text, outcome: Outcome::Read }
         }
         Err(r) => Reply { text: format!("{}\n", refused(&r)), outcome: Outcome::Refused(r) },

@@ -23,8 +23,3 @@ pub fn cells(n: u32, table: u16) -> u32 {
         1 + cells(n - 1, zero) + cells(n - 1, one)
     }
 }
-
-/// The cells of a stage: the sum over its wires.
-pub fn stage_cells(n: u32, m: u32, tables: &[u16; 4]) -> u32 {
-    (0..m as usize).map(|j| cells(n, tables[j])).sum()
-}

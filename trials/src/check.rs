@@ -1,33 +1,37 @@
 //! What must hold of the cases: of every search, told by the second solver; of
-//! every clean copy, told by the sheet's own commands.
+//! every clean copy, told by the sheet's own commands; of every stage that is
+//! read, told by its tables.
 
 use crate::arrange::arrange;
+use crate::board::{Board, BOARDS};
 use crate::case::{Case, Outcome};
 use crate::clean::{clean, copy};
-use crate::least::{least, price_list};
+use crate::least::{least, Prices};
 use crate::refusal::{Refusal, EMPTY, SHORT_BUFFER};
 use crate::relation::sets_of;
 use crate::search::Answer;
 use crate::sheet::{self, all_values, Unit};
 use crate::{fast, relation};
 
-/// How many searches were held against the second solver, how many were too
-/// long for it, and how many copies were held against their sheets.
+/// How many searches were held against the second solver and how many were too
+/// long for it, on each board; how many copies were held against their sheets;
+/// and how many stages against their tables.
 #[derive(Default)]
 pub struct Checked {
-    pub held: usize,
-    pub left: usize,
+    pub held: [usize; 2],
+    pub left: [usize; 2],
     pub copies: usize,
+    pub stages: usize,
 }
 
 pub struct Checker {
-    list: Vec<(u32, u16)>,
+    prices: [Prices; 2],
     pub checked: Checked,
 }
 
 impl Default for Checker {
     fn default() -> Self {
-        Checker { list: price_list(4), checked: Checked::default() }
+        Checker { prices: BOARDS.map(Prices::new), checked: Checked::default() }
     }
 }
 
@@ -36,7 +40,19 @@ impl Checker {
     pub fn check(&mut self, case: &Case, outcome: &Outcome) {
         match case {
             Case::Clean { room, sheet } => self.check_clean((*room).into(), sheet, outcome),
-            _ => self.check_search(case, outcome),
+            Case::Quote { board, budget, .. } | Case::Search { board, budget, .. } => {
+                self.check_search(*board, *budget, case, outcome);
+            }
+            Case::Audit { board, stage, .. } | Case::Read { board, stage } => self.check_stage(*board, stage),
+            Case::Write { .. } => {}
+        }
+    }
+
+    /// No stage of either form has fewer cells than its tables count.
+    fn check_stage(&mut self, board: Board, stage: &[u8]) {
+        if let Ok(it) = board.read(stage) {
+            assert!(board.stage_cells(it.n, it.m, &it.tables) <= it.cells, "fewer cells than counted: {stage:?}");
+            self.checked.stages += 1;
         }
     }
 
@@ -61,26 +77,26 @@ impl Checker {
     /// * best: the cells are the least there are;
     /// * always: floor <= least <= cells;
     /// * refusal 10 just where no function is compatible.
-    fn check_search(&mut self, case: &Case, outcome: &Outcome) {
+    fn check_search(&mut self, board: Board, budget: u32, case: &Case, outcome: &Outcome) {
         let Some((n, m, sets)) = sets_of_case(case) else { return };
         let empty = matches!(outcome, Outcome::Refused(r) if r.number == EMPTY);
         let answer = match outcome {
             Outcome::Found(answer) => Some(answer),
             _ => None,
         };
-        match least(n, m, &sets, &self.list) {
+        match least(&self.prices[board as usize], n, m, &sets) {
             Ok(None) => assert!(empty, "no function, yet not refused: {case:?}"),
             Ok(Some(least)) => {
                 assert!(!empty, "refused, yet there is a function: {case:?}");
                 if let Some(answer) = answer {
                     hold(answer, least, case);
-                    self.checked.held += 1;
+                    self.checked.held[board as usize] += 1;
                 }
             }
-            Err(_) => self.checked.left += 1,
+            Err(_) => self.checked.left[board as usize] += 1,
         }
-        if let (Some(answer), Case::Quote { budget, .. } | Case::Search { budget, .. }) = (answer, case) {
-            same_as_fast(answer, n, &sets, *budget);
+        if let Some(answer) = answer {
+            same_as_fast(answer, &fast::search(board, n, &sets, budget));
         }
     }
 }
@@ -108,8 +124,8 @@ fn hold(answer: &Answer, least: u32, case: &Case) {
     }
 }
 
-fn same_as_fast(answer: &Answer, n: u32, sets: &[u16; 16], budget: u32) {
-    let fast::Answer { tables, cells, floor, visits, stopped } = fast::search(n, sets, budget);
+fn same_as_fast(answer: &Answer, fast: &fast::Answer) {
+    let fast::Answer { tables, cells, floor, visits, stopped } = *fast;
     assert_eq!(*answer, Answer { tables, cells, floor, visits, stopped });
 }
 

@@ -55,6 +55,7 @@ pub fn clean(sheet: &[u8], buffer: &mut [u8]) -> Result<usize, Refusal> {
 #[cfg(test)]
 mod tests {
     use super::*;
+    use crate::board::Board;
     use crate::draw::sheets::{draft, longest_draft};
     use crate::pick::Picker;
     use crate::quote::quote;
@@ -123,7 +124,7 @@ mod tests {
             assert_eq!(cleaned(&copy), copy);
             let mut quoted = |sheet: &[u8]| {
                 let mut stage = [0; 196];
-                (quote(sheet, 50, &mut stage, &mut picker), stage)
+                (quote(Board::Tree, sheet, 50, &mut stage, &mut picker), stage)
             };
             assert_eq!(quoted(&copy), quoted(&sheet));
         }

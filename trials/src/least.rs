@@ -4,14 +4,17 @@
 //!
 //! * `plain`: every function of the whole relation, one after another.
 //! * `by_halves`: every function on the lower half of the patterns and every
-//!   function on the upper half, joined exactly.
+//!   function on the upper half, joined exactly. For trees alone: what halves
+//!   cost together, selectors shared, is not told by what each costs.
 //! * `by_tables`: every table for wire 0, then for wire 1, and so on, cheap
 //!   ones first, as long as they can still undercut the cheapest stage known.
 //!
 //! The sets may be empty or not: without a compatible function the reply is
 //! `None`.
 
-use crate::cells::cells;
+use crate::board::Board;
+use crate::cells::{cells, full};
+use std::borrow::Cow;
 use std::collections::HashMap;
 
 /// One table (or part of one) for each wire.
@@ -27,10 +30,17 @@ pub fn functions(sets: &[u16]) -> u64 {
 }
 
 /// Every function of the whole relation, one after another. For few of them.
-pub fn plain(n: u32, m: u32, sets: &[u16; 16]) -> Option<u32> {
-    fn go(n: u32, m: u32, sets: &[u16; 16], p: usize, tables: &mut [u16; 4], least: &mut Option<u32>) {
+pub fn plain(board: Board, n: u32, m: u32, sets: &[u16; 16]) -> Option<u32> {
+    fn go(
+        board: Board,
+        (n, m): (u32, u32),
+        sets: &[u16; 16],
+        p: usize,
+        tables: &mut [u16; 4],
+        least: &mut Option<u32>,
+    ) {
         if p == 1 << n {
-            let price = (0..m as usize).map(|j| cells(n, tables[j])).sum();
+            let price = board.stage_cells(n, m, tables);
             *least = Some(least.map_or(price, |l| l.min(price)));
             return;
         }
@@ -38,14 +48,14 @@ pub fn plain(n: u32, m: u32, sets: &[u16; 16]) -> Option<u32> {
             for j in 0..m as usize {
                 tables[j] = tables[j] & !(1 << p) | ((v >> j & 1) as u16) << p;
             }
-            go(n, m, sets, p + 1, tables, least);
+            go(board, (n, m), sets, p + 1, tables, least);
         }
         for table in tables.iter_mut() {
             *table &= !(1 << p);
         }
     }
     let mut least = None;
-    go(n, m, sets, 0, &mut [0; 4], &mut least);
+    go(board, (n, m), sets, 0, &mut [0; 4], &mut least);
     least
 }
 
@@ -136,6 +146,30 @@ pub fn by_halves(n: u32, m: u32, sets: &[u16; 16]) -> Option<u32> {
     least.map(u32::from)
 }
 
+/// A table and its cells, the cells first.
+type Priced = (u32, u16);
+
+/// The cells of all tables on a board.
+pub struct Prices {
+    board: Board,
+    /// For each number of inputs, by the table's number.
+    cells: [Vec<u8>; 5],
+    /// The same, cheap ones first.
+    sorted: [Vec<Priced>; 5],
+}
+
+impl Prices {
+    pub fn new(board: Board) -> Prices {
+        let cells = [0, 1, 2, 3, 4].map(|n| (0..=full(n)).map(|t| board.cells(n, t) as u8).collect::<Vec<u8>>());
+        let sorted = [0, 1, 2, 3, 4].map(|n| {
+            let mut all: Vec<Priced> = cells[n].iter().map(|&price| price.into()).zip(0..).collect();
+            all.sort_unstable();
+            all
+        });
+        Prices { board, cells, sorted }
+    }
+}
+
 /// The reply of `by_tables` when it was told to try no more.
 #[derive(Clone, Copy, PartialEq, Eq, Debug)]
 pub struct GaveUp;
@@ -143,54 +177,111 @@ pub struct GaveUp;
 struct ByTables<'a> {
     n: u32,
     m: u32,
-    /// All tables of n inputs and their cells, cheap ones first.
-    list: &'a [(u32, u16)],
+    prices: &'a Prices,
     least: Option<u32>,
     steps: u64,
 }
 
-/// All tables of n inputs with their cells, cheap ones first.
-pub fn price_list(n: u32) -> Vec<(u32, u16)> {
-    let mut list: Vec<(u32, u16)> = (0..1u32 << (1 << n)).map(|t| (cells(n, t as u16), t as u16)).collect();
-    list.sort();
-    list
-}
-
-/// Every table for each wire in turn; gives up after so many tables looked at.
-pub fn by_tables(n: u32, m: u32, sets: &[u16; 16], list: &[(u32, u16)], steps: u64) -> Result<Option<u32>, GaveUp> {
-    let mut it = ByTables { n, m, list, least: None, steps };
+/// Every table for each wire in turn; gives up after so many steps, each a look
+/// at a table, or at the few that a wire can have.
+pub fn by_tables(prices: &Prices, n: u32, m: u32, sets: &[u16; 16], steps: u64) -> Result<Option<u32>, GaveUp> {
+    let mut it = ByTables { n, m, prices, least: None, steps };
     it.wire(0, sets, 0)?;
     Ok(it.least)
 }
 
-impl ByTables<'_> {
-    /// The sets left when the wire follows the table; `None` if one is empty.
-    fn left(&self, sets: &[u16; 16], wire: u32, table: u16) -> Option<[u16; 16]> {
-        const ONE: [u16; 4] = [0xAAAA, 0xCCCC, 0xF0F0, 0xFF00];
-        let mut left = *sets;
+/// The values where a wire is 1.
+const ONE: [u16; 4] = [0xAAAA, 0xCCCC, 0xF0F0, 0xFF00];
+
+/// A wire's patterns: those that must be 1, those that may be either; the rest
+/// must be 0.
+#[derive(Clone, Copy)]
+struct Bits {
+    must: u16,
+    free: u16,
+}
+
+impl Bits {
+    fn allow(self, table: u16) -> bool {
+        table & !self.free == self.must
+    }
+
+    /// All tables that are allowed, from the highest down.
+    fn allowed(self) -> impl Iterator<Item = u16> {
+        let next = move |part: &u16| part.checked_sub(1).map(|below| below & self.free);
+        std::iter::successors(Some(self.free), next).map(move |part| self.must | part)
+    }
+}
+
+impl<'a> ByTables<'a> {
+    /// What the sets leave to a wire; `None` if one of them is empty.
+    fn bits(&self, sets: &[u16; 16], wire: u32) -> Option<Bits> {
+        let mut bits = Bits { must: 0, free: 0 };
         for p in 0..1usize << self.n {
-            left[p] &= if table >> p & 1 == 1 { ONE[wire as usize] } else { !ONE[wire as usize] };
-            if left[p] == 0 {
+            let (zero, one) = (sets[p] & !ONE[wire as usize] != 0, sets[p] & ONE[wire as usize] != 0);
+            if !zero && !one {
                 return None;
             }
+            bits.must |= u16::from(!zero) << p;
+            bits.free |= u16::from(zero && one) << p;
         }
-        Some(left)
+        Some(bits)
+    }
+
+    /// Whether so few tables are allowed that they are better listed than
+    /// looked for among all.
+    fn are_few(&self, bits: Bits) -> bool {
+        self.prices.cells[self.n as usize].len() >> bits.free.count_ones() >= 128
+    }
+
+    fn price(&self, table: u16) -> u32 {
+        self.prices.cells[self.n as usize][usize::from(table)].into()
+    }
+
+    /// The tables to be looked at for a wire, cheap ones first: those that
+    /// leave a stage cheaper than the cheapest known, or all.
+    fn tables(&self, bits: Bits, spent: u32) -> Cow<'a, [Priced]> {
+        if !self.are_few(bits) {
+            return Cow::Borrowed(&self.prices.sorted[self.n as usize]);
+        }
+        let priced = bits.allowed().map(|table| (self.price(table), table));
+        let mut all: Vec<Priced> = priced.filter(|&(price, _)| self.undercuts(spent + price)).collect();
+        all.sort_unstable();
+        Cow::Owned(all)
+    }
+
+    /// Whether a stage of so many cells is cheaper than the cheapest known.
+    fn undercuts(&self, cells: u32) -> bool {
+        self.least.is_none_or(|least| cells < least)
     }
 
     /// The cells of the cheapest table that a wire can have at all.
-    fn cheapest(&mut self, sets: &[u16; 16], wire: u32) -> Result<Option<u32>, GaveUp> {
-        for &(price, table) in self.list {
+    fn cheapest(&mut self, bits: Bits) -> Result<u32, GaveUp> {
+        if self.are_few(bits) {
             self.step()?;
-            if self.left(sets, wire, table).is_some() {
-                return Ok(Some(price));
+            return Ok(bits.allowed().map(|table| self.price(table)).min().expect("one at least"));
+        }
+        for &(price, table) in &self.prices.sorted[self.n as usize] {
+            self.step()?;
+            if bits.allow(table) {
+                return Ok(price);
             }
         }
-        Ok(None)
+        unreachable!("no set is empty")
     }
 
     fn step(&mut self) -> Result<(), GaveUp> {
         self.steps = self.steps.checked_sub(1).ok_or(GaveUp)?;
         Ok(())
+    }
+
+    /// The sets left when the wire follows the table.
+    fn left(&self, sets: &[u16; 16], wire: u32, table: u16) -> [u16; 16] {
+        let mut left = *sets;
+        for p in 0..1usize << self.n {
+            left[p] &= if table >> p & 1 == 1 { ONE[wire as usize] } else { !ONE[wire as usize] };
+        }
+        left
     }
 
     fn wire(&mut self, wire: u32, sets: &[u16; 16], spent: u32) -> Result<(), GaveUp> {
@@ -200,38 +291,44 @@ impl ByTables<'_> {
         }
         let mut rest = 0;
         for later in wire + 1..self.m {
-            let Some(price) = self.cheapest(sets, later)? else { return Ok(()) };
-            rest += price;
+            let Some(bits) = self.bits(sets, later) else { return Ok(()) };
+            rest += self.cheapest(bits)?;
+            if !self.undercuts(spent + rest) {
+                return Ok(());
+            }
         }
-        for &(price, table) in self.list {
+        let Some(bits) = self.bits(sets, wire) else { return Ok(()) };
+        for &(price, table) in self.tables(bits, spent + rest).iter() {
             self.step()?;
-            if self.least.is_some_and(|l| spent + price + rest >= l) {
+            if !self.undercuts(spent + price + rest) {
                 break;
             }
-            if let Some(left) = self.left(sets, wire, table) {
-                self.wire(wire + 1, &left, spent + price)?;
+            if bits.allow(table) {
+                self.wire(wire + 1, &self.left(sets, wire, table), spent + price)?;
             }
         }
         Ok(())
     }
 }
 
-/// The least cells by whichever way is short enough: by halves always up to
-/// three inputs and for few functions, else by tables until it gives up.
-pub fn least(n: u32, m: u32, sets: &[u16; 16], list: &[(u32, u16)]) -> Result<Option<u32>, GaveUp> {
+/// The least cells by whichever way is short enough: trees by halves always up
+/// to three inputs and for few functions, else by tables until it gives up.
+pub fn least(prices: &Prices, n: u32, m: u32, sets: &[u16; 16]) -> Result<Option<u32>, GaveUp> {
     const FEW: u64 = 10_000;
+    const STEPS: u64 = 200_000;
     let width = 1usize << (n - 1);
     let most = functions(&sets[..width]).max(functions(&sets[width..2 * width]));
-    if n <= 3 || most <= FEW {
+    if prices.board == Board::Tree && (n <= 3 || most <= FEW) {
         Ok(by_halves(n, m, sets))
     } else {
-        by_tables(n, m, sets, list, 400_000)
+        by_tables(prices, n, m, sets, STEPS)
     }
 }
 
 #[cfg(test)]
 mod tests {
     use super::*;
+    use crate::board::BOARDS;
     use crate::random::Random;
 
     /// Sets of few values, now and then an empty one.
@@ -248,24 +345,44 @@ mod tests {
         sets
     }
 
-    #[test]
-    fn the_three_ways_agree() {
+    /// All sizes, many times over.
+    fn drawn(mut each: impl FnMut(u32, u32, [u16; 16])) {
         let mut rng = Random::new(77);
-        for n in 1..=4 {
-            let list = price_list(n);
-            for m in 1..=4 {
-                for _ in 0..60 {
-                    let sets = few(&mut rng, n, m, if n == 4 { 2 } else { 4 });
-                    let halves = by_halves(n, m, &sets);
-                    if functions(&sets[..1 << n]) <= 20_000 {
-                        assert_eq!(plain(n, m, &sets), halves);
-                    }
-                    if let Ok(least) = by_tables(n, m, &sets, &list, 300_000) {
-                        assert_eq!(least, halves);
-                    }
-                }
+        for (n, m) in (1..=4).flat_map(|n| (1..=4).map(move |m| (n, m))) {
+            for _ in 0..60 {
+                each(n, m, few(&mut rng, n, m, if n == 4 { 2 } else { 4 }));
             }
         }
+    }
+
+    #[test]
+    fn the_ways_agree() {
+        for board in BOARDS {
+            let prices = Prices::new(board);
+            let mut held = 0;
+            drawn(|n, m, sets| {
+                let by_tables = by_tables(&prices, n, m, &sets, 300_000);
+                if functions(&sets[..1 << n]) <= 20_000 && by_tables.is_ok() {
+                    assert_eq!(by_tables, Ok(plain(board, n, m, &sets)));
+                    held += 1;
+                }
+            });
+            assert!(held > 400, "{board:?}: {held}");
+        }
+    }
+
+    #[test]
+    fn trees_by_halves_agree() {
+        let prices = Prices::new(Board::Tree);
+        drawn(|n, m, sets| {
+            let halves = by_halves(n, m, &sets);
+            if functions(&sets[..1 << n]) <= 20_000 {
+                assert_eq!(plain(Board::Tree, n, m, &sets), halves);
+            }
+            if let Ok(least) = by_tables(&prices, n, m, &sets, 300_000) {
+                assert_eq!(least, halves);
+            }
+        });
     }
 
     #[test]
@@ -273,6 +390,9 @@ mod tests {
         let mut sets = [1; 16];
         sets[3] = 0;
         assert_eq!(by_halves(2, 2, &sets), None);
-        assert_eq!(plain(2, 2, &sets), None);
+        for board in BOARDS {
+            assert_eq!(plain(board, 2, 2, &sets), None);
+            assert_eq!(by_tables(&Prices::new(board), 2, 2, &sets, 1), Ok(None));
+        }
     }
 }

@@ -4,6 +4,8 @@
 //! * `sheet`, `unit`, `relation`, `cells`, `pick`, `search`, `stage`, `quote`,
 //!   `audit`: document 01, one subject each, as literally as it is written.
 //! * `clean`: document 02, E1; `buffer`: how all writers treat what is lent.
+//! * `diagram`: document 02, E2; `board`: which of the two boards it is, handed
+//!   to all calls; `commands`: what their stage sheets have in common.
 //! * `least`: a second solver that tries every function, free of the search.
 //! * `arrange`: a second way to the clean copy, by sorting the sheet's commands.
 //! * `fast`: the same search as `search`, tuned for speed, for the benchmark.
@@ -16,11 +18,14 @@
 
 pub mod arrange;
 pub mod audit;
+pub mod board;
 pub mod buffer;
 pub mod case;
 pub mod cells;
 pub mod check;
 pub mod clean;
+pub mod commands;
+pub mod diagram;
 pub mod draw;
 pub mod fast;
 pub mod least;

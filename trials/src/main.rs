@@ -4,11 +4,14 @@
 
 use std::path::Path;
 use std::process::ExitCode;
+use trials::board::Board;
 use trials::check::{Checked, Checker};
 use trials::pick::Picker;
 use trials::plan::cases;
 use trials::program::Outcomes;
 use trials::tally::tallied;
+
+const NAMES: [(&str, Board); 2] = [("trees", Board::Tree), ("shared selectors", Board::Shared)];
 
 fn main() -> ExitCode {
     let arguments: Vec<String> = std::env::args().skip(1).collect();
@@ -49,10 +52,14 @@ fn write(directory: &Path) -> ExitCode {
 }
 
 fn count() -> ExitCode {
-    let (tally, Checked { held, left, copies }) = tallied();
+    let (tally, Checked { held, left, copies, stages }) = tallied();
     print!("{}", tally.report());
-    println!("searches held against the second solver: {held}, too long for it: {left}");
+    for (name, board) in NAMES {
+        let (held, left) = (held[board as usize], left[board as usize]);
+        println!("{name}: searches held against the second solver: {held}, too long for it: {left}");
+    }
     println!("clean copies held against their sheets: {copies}");
+    println!("stages held against their tables' count: {stages}");
     ExitCode::SUCCESS
 }
 
@@ -70,9 +77,10 @@ fn program(path: &Path) -> ExitCode {
     }
     let Outcomes { quotes, audits, copies, complaints, faults } = outcomes;
     let faults = faults.len();
-    println!(
-        "program: {quotes} quotes, {audits} audits, {copies} copies, {complaints} complaints, {faults} not as expected"
-    );
+    for (name, board) in NAMES {
+        println!("program, {name}: {} quotes, {} audits", quotes[board as usize], audits[board as usize]);
+    }
+    println!("program: {copies} copies, {complaints} complaints, {faults} not as expected");
     if faults == 0 {
         ExitCode::SUCCESS
     } else {

@@ -1,6 +1,7 @@
 //! Document 01, "Search": projection, pick and floor, as literally defined.
 
-use crate::cells::{cells, full};
+use crate::board::{Board, BOARDS};
+use crate::cells::full;
 use crate::relation::Relation;
 use std::collections::HashMap;
 
@@ -34,16 +35,17 @@ pub fn fits(it: &Projection, table: u16) -> bool {
 }
 
 /// All tables of n inputs, by (cells, number).
-pub fn tables_by_cells(n: u32) -> Vec<u16> {
+pub fn tables_by_cells(board: Board, n: u32) -> Vec<u16> {
     let mut all: Vec<u16> = (0..=full(n)).collect();
-    all.sort_by_key(|&t| (cells(n, t), t));
+    all.sort_by_cached_key(|&t| (board.cells(n, t), t));
     all
 }
 
 /// Finds picks; remembers those found, since the same ones come up often.
 pub struct Picker {
-    by_cells: Vec<u16>,
-    found: HashMap<Projection, u16>,
+    /// For each board, the tables of four inputs.
+    by_cells: [Vec<u16>; 2],
+    found: HashMap<(Board, Projection), u16>,
 }
 
 impl Default for Picker {
@@ -54,39 +56,40 @@ impl Default for Picker {
 
 impl Picker {
     pub fn new() -> Picker {
-        Picker { by_cells: tables_by_cells(4), found: HashMap::new() }
+        Picker { by_cells: BOARDS.map(|board| tables_by_cells(board, 4)), found: HashMap::new() }
     }
 
     /// The pick: fewest cells, then the smallest number.
-    pub fn pick(&mut self, it: &Projection) -> u16 {
-        if let Some(&table) = self.found.get(it) {
+    pub fn pick(&mut self, board: Board, it: &Projection) -> u16 {
+        if let Some(&table) = self.found.get(&(board, *it)) {
             return table;
         }
-        let table = if it.n == 4 { self.first_that_fits(it) } else { try_every_table(it) };
-        self.found.insert(*it, table);
+        let table = if it.n == 4 { self.first_that_fits(board, it) } else { try_every_table(board, it) };
+        self.found.insert((board, *it), table);
         table
     }
 
-    fn first_that_fits(&self, it: &Projection) -> u16 {
-        *self.by_cells.iter().find(|&&t| fits(it, t)).expect("a well-defined relation has a pick")
+    fn first_that_fits(&self, board: Board, it: &Projection) -> u16 {
+        let tables = &self.by_cells[board as usize];
+        *tables.iter().find(|&&t| fits(it, t)).expect("a well-defined relation has a pick")
     }
 
     /// The picks of all wires; 0 past wire m-1.
-    pub fn picks(&mut self, r: &Relation) -> [u16; 4] {
+    pub fn picks(&mut self, board: Board, r: &Relation) -> [u16; 4] {
         let mut tables = [0; 4];
         for j in 0..r.m {
-            tables[j as usize] = self.pick(&project(r, j));
+            tables[j as usize] = self.pick(board, &project(r, j));
         }
         tables
     }
 }
 
 /// Up to three inputs: look at every table.
-fn try_every_table(it: &Projection) -> u16 {
+fn try_every_table(board: Board, it: &Projection) -> u16 {
     let mut best: Option<(u32, u16)> = None;
     for table in 0..=full(it.n) {
         if fits(it, table) {
-            let price = (cells(it.n, table), table);
+            let price = (board.cells(it.n, table), table);
             if best.is_none_or(|b| price < b) {
                 best = Some(price);
             }

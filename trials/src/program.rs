@@ -7,19 +7,25 @@
 //!   "sheet refused N at P" or "stage refused N at P".
 //! * `clean SHEET` prints the copy of document 02, E1, as hex pairs; or
 //!   "refused N at P".
+//! * `shared SHEET` and `audit-shared SHEET STAGE` print as the quote and as the
+//!   audit, for the board of document 02, E2.
 
 use crate::audit::{audit, Audit};
+use crate::board::{Board, BOARDS};
 use crate::case::{found, pairs, refused, Case, Outcome};
 use crate::check::Checker;
 use crate::clean::{clean, LONGEST_COPY};
+use crate::diagram::{LONGEST_LISTS, MOST_ENTRIES};
+use crate::draw::diagrams::largest_stage;
 use crate::draw::sheets::longest_draft;
 use crate::pick::Picker;
 use crate::plan::cases;
 use crate::quote::quote;
 use crate::random::Random;
 use crate::refusal::{refuse, Refusal, TOO_LONG};
+use crate::rows::shared::A_LISTS;
 use crate::rows::{A, A_STAGE};
-use crate::stage::bytes_of;
+use crate::stage::LONGEST_STAGE;
 use std::ffi::{OsStr, OsString};
 use std::fs::File;
 use std::io::{Result, Write};
@@ -29,20 +35,21 @@ use std::process::{Command, Output, Stdio};
 use std::time::Duration;
 
 const SEED: u64 = 0x0B5E_55ED_C0DE_2013;
-/// The program's budget, its longest sheet, and room for the longest stage.
+/// The program's budget, and its longest sheet.
 const BUDGET: u32 = 10_000;
 const LONGEST_SHEET: usize = 4_096;
-const LONGEST_STAGE: usize = 196;
-/// Of the drawn cases, one in so many is run: some hundreds of each kind.
-const ONE_QUOTE_IN: usize = 24;
-const ONE_AUDIT_IN: usize = 11;
+/// Of the drawn cases, one in so many is run: some hundreds of each kind. Quotes
+/// and audits for each board.
+const ONE_QUOTE_IN: [usize; 2] = [24, 5];
+const ONE_AUDIT_IN: [usize; 2] = [11, 4];
 const ONE_COPY_IN: usize = 9;
 
-/// What was run, and what did not come out as expected.
+/// What was run, for each board where it has one, and what did not come out as
+/// expected.
 #[derive(Default)]
 pub struct Outcomes {
-    pub quotes: usize,
-    pub audits: usize,
+    pub quotes: [usize; 2],
+    pub audits: [usize; 2],
     pub copies: usize,
     pub complaints: usize,
     pub faults: Vec<String>,
@@ -86,28 +93,25 @@ impl Bench {
 
     /// A part of the drawn cases of `plan`.
     fn drawn(&mut self) -> Result<()> {
-        let (mut quotes, mut audits, mut copies) = (0, 0, 0);
+        let (mut quotes, mut audits, mut copies) = ([0; 2], [0; 2], 0);
         for case in cases() {
             match case {
-                Case::Quote { sheet, .. } => {
-                    quotes += 1;
-                    if quotes % ONE_QUOTE_IN == 1 {
-                        self.quote(&sheet)?;
+                Case::Quote { board, sheet, .. } => {
+                    if is_one_in(ONE_QUOTE_IN[board as usize], &mut quotes[board as usize]) {
+                        self.quote(board, &sheet)?;
                     }
                 }
-                Case::Audit { sheet, stage } => {
-                    audits += 1;
-                    if audits % ONE_AUDIT_IN == 1 {
-                        self.audit(&sheet, &stage)?;
+                Case::Audit { board, sheet, stage } => {
+                    if is_one_in(ONE_AUDIT_IN[board as usize], &mut audits[board as usize]) {
+                        self.audit(board, &sheet, &stage)?;
                     }
                 }
                 Case::Clean { sheet, .. } => {
-                    copies += 1;
-                    if copies % ONE_COPY_IN == 1 {
+                    if is_one_in(ONE_COPY_IN, &mut copies) {
                         self.clean(&sheet)?;
                     }
                 }
-                _ => {}
+                Case::Search { .. } | Case::Write { .. } | Case::Read { .. } => {}
             }
         }
         Ok(())
@@ -117,50 +121,74 @@ impl Bench {
     fn lengths(&mut self) -> Result<()> {
         let full = longest_draft(&mut self.rng).sheet(&mut self.rng);
         let mut sheets = vec![vec![], A.to_vec(), long_sheet(), full];
-        let mut stages = vec![vec![], A_STAGE.to_vec(), longest_stage()];
         for length in [LONGEST_SHEET - 1, LONGEST_SHEET, LONGEST_SHEET + 1, 5_000, 70_000] {
             sheets.extend([self.grown(&long_sheet(), length), self.grown(&A, length), self.grown(&[], length)]);
         }
-        for length in [LONGEST_STAGE, LONGEST_STAGE + 1, 4_095, 4_096, 4_097, 5_000, 70_000] {
-            stages.extend([
-                self.grown(&longest_stage(), length),
-                self.grown(&A_STAGE, length),
-                self.grown(&[], length),
-            ]);
-            stages.push(
-                [0x20, 0x04, 0x04, 0x21, 0x00].into_iter().chain([0x22, 0x04].repeat(length)).take(length).collect(),
-            );
-        }
         for sheet in &sheets {
-            self.quote(sheet)?;
             self.clean(sheet)?;
-            self.audit(sheet, &A_STAGE)?;
-            self.audit(sheet, &self.grown_by_one(&A_STAGE))?;
+            for board in BOARDS {
+                self.quote(board, sheet)?;
+                self.audit(board, sheet, stage_of_a(board))?;
+                self.audit(board, sheet, &self.grown_by_one(stage_of_a(board)))?;
+            }
         }
         let wide =
             [0x01, 0x04, 0x04].into_iter().chain((0..16).flat_map(|p| [0x03, p])).chain([0x00]).collect::<Vec<u8>>();
-        for stage in &stages {
-            self.audit(&A, stage)?;
-            self.audit(&wide, stage)?;
-            self.audit(&long_sheet(), stage)?;
+        for board in BOARDS {
+            for stage in self.stages_of_all_lengths(board) {
+                self.audit(board, &A, &stage)?;
+                self.audit(board, &wide, &stage)?;
+                self.audit(board, &long_sheet(), &stage)?;
+            }
         }
         Ok(())
+    }
+
+    /// The longest stage, and others that are cut or filled up to such lengths;
+    /// among them one without an end.
+    fn stages_of_all_lengths(&mut self, board: Board) -> Vec<Vec<u8>> {
+        let longest = match board {
+            Board::Tree => longest_trees(),
+            Board::Shared => largest_stage(&mut self.rng, 4, 4),
+        };
+        let (start, again): (&[u8], &[u8]) = match board {
+            Board::Tree => (&[0x20, 0x04, 0x04, 0x21, 0x00], &[0x22, 0x04]),
+            Board::Shared => (&[0x20, 0x04, 0x04, 0x26, 0x00, MOST_ENTRIES], &[0x04, 0x00, 0x01]),
+        };
+        let of_a = stage_of_a(board);
+        let mut stages = vec![vec![], of_a.to_vec(), longest.clone()];
+        for length in [LONGEST_STAGE, LONGEST_LISTS]
+            .into_iter()
+            .flat_map(|longest| [longest, longest + 1])
+            .chain([4_095, 4_096, 4_097, 5_000, 70_000])
+        {
+            stages.extend([self.grown(&longest, length), self.grown(of_a, length), self.grown(&[], length)]);
+            let endless = start.iter().chain(again.iter().cycle());
+            stages.push(endless.copied().take(length).collect());
+        }
+        stages
     }
 
     /// Input that comes in pieces, through standard input and through a name.
     fn pieces(&mut self) -> Result<()> {
         for size in [1, 5, 27] {
-            let quoted = self.quote_lines(&A);
+            let quoted = self.quote_lines(Board::Tree, &A);
             let output = self.piped(&[], &A, size)?;
             self.expect("a quote in pieces", &output, &quoted);
-            self.outcomes.quotes += 1;
+            let quoted = self.quote_lines(Board::Shared, &A);
+            let output = self.piped(&["shared".into(), "/dev/stdin".into()], &A, size)?;
+            self.expect("a shared quote in pieces", &output, &quoted);
             let output = self.piped(&["clean".into(), "/dev/stdin".into()], &A, size)?;
             self.expect("a copy in pieces", &output, &clean_line(&A));
             self.outcomes.copies += 1;
-            self.put("stage", &A_STAGE)?;
-            let output = self.piped(&["audit".into(), "/dev/stdin".into(), "stage".into()], &A, size)?;
-            self.expect("an audit in pieces", &output, &audit_line(&A, &A_STAGE));
-            self.outcomes.audits += 1;
+            for board in BOARDS {
+                let stage = stage_of_a(board);
+                self.put("stage", stage)?;
+                let output = self.piped(&[audit_word(board).into(), "/dev/stdin".into(), "stage".into()], &A, size)?;
+                self.expect("an audit in pieces", &output, &audit_line(board, &A, stage));
+                self.outcomes.quotes[board as usize] += 1;
+                self.outcomes.audits[board as usize] += 1;
+            }
         }
         Ok(())
     }
@@ -173,24 +201,40 @@ impl Bench {
         self.unknown_words()?;
         self.wrong_counts()?;
         self.unreadable_names()?;
-        // A name is bytes, not text.
-        let name = OsString::from_vec(vec![0xFF, 0x20, 0xC3]);
-        std::fs::write(self.folder.join(&name), A)?;
-        let output = self.command(&["audit".into(), name.clone(), "stage".into()]).output()?;
-        self.expect("a name that is no text", &output, &audit_line(&A, &A_STAGE));
-        self.outcomes.audits += 1;
-        let output = self.command(&["clean".into(), name]).output()?;
-        self.expect("a name that is no text", &output, &clean_line(&A));
-        self.outcomes.copies += 1;
+        self.names_that_are_no_text()?;
         // A folder as standard input.
         let output = self.command(&[]).stdin(File::open(&self.folder)?).output()?;
         self.expect_complaint("a folder as input", &output, "dagmetzi: cannot read standard input: ");
         Ok(())
     }
 
+    /// A name is bytes, not text.
+    fn names_that_are_no_text(&mut self) -> Result<()> {
+        const LABEL: &str = "a name that is no text";
+        let name = OsString::from_vec(vec![0xFF, 0x20, 0xC3]);
+        std::fs::write(self.folder.join(&name), A)?;
+        for board in BOARDS {
+            let output = self.command(&[audit_word(board).into(), name.clone(), "stage".into()]).output()?;
+            self.expect(LABEL, &output, &audit_line(board, &A, &A_STAGE));
+            self.outcomes.audits[board as usize] += 1;
+        }
+        let output = self.command(&["clean".into(), name.clone()]).output()?;
+        self.expect(LABEL, &output, &clean_line(&A));
+        self.outcomes.copies += 1;
+        let lines = self.quote_lines(Board::Shared, &A);
+        let output = self.command(&["shared".into(), name]).output()?;
+        self.expect(LABEL, &output, &lines);
+        self.outcomes.quotes[Board::Shared as usize] += 1;
+        Ok(())
+    }
+
     fn unknown_words(&mut self) -> Result<()> {
         let near_a_word = ["Audit", "audit ", "audits", "audi", "Clean", "clean ", "cleans", "clea"];
-        for word in near_a_word.into_iter().chain(["frob", "-h", "--help", "quote"]) {
+        let near_shared = ["Shared", "shared ", "shareds", "share", "quote-shared"];
+        let near_audit_shared =
+            ["Audit-shared", "audit-share", "audit-shareds", "audit_shared", "audit shared", "audit-"];
+        let near = near_a_word.into_iter().chain(near_shared).chain(near_audit_shared);
+        for word in near.chain(["frob", "-h", "--help", "quote"]) {
             self.complains(&[word], &format!("dagmetzi: unknown word {word}: "))?;
             self.complains(&[word, "sheet", "stage"], &format!("dagmetzi: unknown word {word}: "))?;
         }
@@ -200,10 +244,14 @@ impl Bench {
 
     fn wrong_counts(&mut self) -> Result<()> {
         for names in [&[][..], &["sheet"], &["sheet", "stage", "stage"], &["", "", ""]] {
-            self.complains(&[&["audit"], names].concat(), "dagmetzi: wrong number of names for audit: ")?;
+            for word in BOARDS.map(audit_word) {
+                self.complains(&[&[word], names].concat(), &format!("dagmetzi: wrong number of names for {word}: "))?;
+            }
         }
         for names in [&[][..], &["sheet", "sheet"], &["missing", "sheet"], &["", ""], &["sheet", "stage", "stage"]] {
-            self.complains(&[&["clean"], names].concat(), "dagmetzi: wrong number of names for clean: ")?;
+            for word in ["clean", "shared"] {
+                self.complains(&[&[word], names].concat(), &format!("dagmetzi: wrong number of names for {word}: "))?;
+            }
         }
         Ok(())
     }
@@ -224,10 +272,13 @@ impl Bench {
             (&longer, "cannot take an argument that long: "),
         ] {
             let message = format!("dagmetzi: {message}");
-            self.complains(&["audit", name, "stage"], &message)?;
-            self.complains(&["audit", "sheet", name], &message)?;
-            self.complains(&["audit", name, "missing too"], &message)?;
+            for word in BOARDS.map(audit_word) {
+                self.complains(&[word, name, "stage"], &message)?;
+                self.complains(&[word, "sheet", name], &message)?;
+                self.complains(&[word, name, "missing too"], &message)?;
+            }
             self.complains(&["clean", name], &message)?;
+            self.complains(&["shared", name], &message)?;
         }
         self.complains(&[&longer], "dagmetzi: cannot take an argument that long: ")
     }
@@ -260,12 +311,19 @@ impl Bench {
         child.wait_with_output()
     }
 
-    fn quote(&mut self, sheet: &[u8]) -> Result<()> {
+    /// The tree's sheet comes through standard input, the other by its name.
+    fn quote(&mut self, board: Board, sheet: &[u8]) -> Result<()> {
         self.put("sheet", sheet)?;
-        let output = self.command(&[]).stdin(File::open(self.folder.join("sheet"))?).output()?;
-        let lines = self.quote_lines(sheet);
-        self.expect(&format!("quote of {}", pairs(sheet)), &output, &lines);
-        self.outcomes.quotes += 1;
+        let output = match board {
+            Board::Tree => self.command(&[]).stdin(File::open(self.folder.join("sheet"))?).output()?,
+            Board::Shared => {
+                let [name] = self.named(["sheet"]);
+                self.command(&["shared".into(), name]).output()?
+            }
+        };
+        let lines = self.quote_lines(board, sheet);
+        self.expect(&format!("{board:?}: quote of {}", pairs(sheet)), &output, &lines);
+        self.outcomes.quotes[board as usize] += 1;
         Ok(())
     }
 
@@ -284,13 +342,14 @@ impl Bench {
         Ok(())
     }
 
-    fn audit(&mut self, sheet: &[u8], stage: &[u8]) -> Result<()> {
+    fn audit(&mut self, board: Board, sheet: &[u8], stage: &[u8]) -> Result<()> {
         self.put("sheet", sheet)?;
         self.put("stage", stage)?;
         let [sheet_name, stage_name] = self.named(["sheet", "stage"]);
-        let output = self.command(&["audit".into(), sheet_name, stage_name]).output()?;
-        self.expect(&format!("audit of {} by {}", pairs(stage), pairs(sheet)), &output, &audit_line(sheet, stage));
-        self.outcomes.audits += 1;
+        let output = self.command(&[audit_word(board).into(), sheet_name, stage_name]).output()?;
+        let label = format!("{board:?}: audit of {} by {}", pairs(stage), pairs(sheet));
+        self.expect(&label, &output, &audit_line(board, sheet, stage));
+        self.outcomes.audits[board as usize] += 1;
         Ok(())
     }
 
@@ -304,16 +363,17 @@ impl Bench {
     // What is expected.
 
     /// The search behind it is held against the second solver.
-    fn quote_lines(&mut self, sheet: &[u8]) -> String {
+    fn quote_lines(&mut self, board: Board, sheet: &[u8]) -> String {
         if let Err(r) = taken(sheet) {
             return format!("{}\n", refused(&r));
         }
-        let mut stage = [0; LONGEST_STAGE];
-        let (outcome, lines) = match quote(sheet, BUDGET, &mut stage, &mut self.picker) {
+        let mut stage = vec![0; board.longest()];
+        let (outcome, lines) = match quote(board, sheet, BUDGET, &mut stage, &mut self.picker) {
             Ok(q) => (Outcome::Found(q.answer), format!("{}\n{}\n", found(&q.answer), pairs(&stage[..q.length]))),
             Err(r) => (Outcome::Refused(r), format!("{}\n", refused(&r))),
         };
-        self.checker.check(&Case::Quote { budget: BUDGET, room: LONGEST_STAGE as u8, sheet: sheet.to_vec() }, &outcome);
+        let room = board.longest() as u8;
+        self.checker.check(&Case::Quote { board, budget: BUDGET, room, sheet: sheet.to_vec() }, &outcome);
         lines
     }
 
@@ -353,6 +413,27 @@ impl Bench {
     }
 }
 
+/// Whether this one is run, of so many each; counts them.
+fn is_one_in(many: usize, count: &mut usize) -> bool {
+    *count += 1;
+    *count % many == 1
+}
+
+fn audit_word(board: Board) -> &'static str {
+    match board {
+        Board::Tree => "audit",
+        Board::Shared => "audit-shared",
+    }
+}
+
+/// Sheet A's smallest stage.
+fn stage_of_a(board: Board) -> &'static [u8] {
+    match board {
+        Board::Tree => &A_STAGE,
+        Board::Shared => &A_LISTS,
+    }
+}
+
 /// A sheet that is too long is refused before anything else is looked at.
 fn taken(sheet: &[u8]) -> std::result::Result<&[u8], Refusal> {
     if sheet.len() > LONGEST_SHEET {
@@ -369,8 +450,8 @@ fn clean_line(sheet: &[u8]) -> String {
     }
 }
 
-fn audit_line(sheet: &[u8], stage: &[u8]) -> String {
-    match taken(sheet).map_or_else(Audit::SheetRefused, |sheet| audit(sheet, stage)) {
+fn audit_line(board: Board, sheet: &[u8], stage: &[u8]) -> String {
+    match taken(sheet).map_or_else(Audit::SheetRefused, |sheet| audit(board, sheet, stage)) {
         Audit::Judged { fits: true, cells } => format!("fits cells {cells}\n"),
         Audit::Judged { fits: false, cells } => format!("differs cells {cells}\n"),
         Audit::SheetRefused(r) => format!("sheet {}\n", refused(&r)),
@@ -386,8 +467,8 @@ fn long_sheet() -> Vec<u8> {
 }
 
 /// Four parities of four inputs: no tree has more selectors.
-fn longest_stage() -> Vec<u8> {
-    bytes_of(4, 4, &[0x6996, 0x9669, 0x6996, 0x9669])
+fn longest_trees() -> Vec<u8> {
+    Board::Tree.bytes_of(4, 4, &[0x6996, 0x9669, 0x6996, 0x9669])
 }
 
 #[cfg(test)]
@@ -397,16 +478,20 @@ mod tests {
     #[test]
     fn the_longest_are_as_long_as_they_should_be() {
         assert_eq!(long_sheet().len(), LONGEST_SHEET);
-        assert_eq!(longest_stage().len(), LONGEST_STAGE);
+        assert_eq!(longest_trees().len(), LONGEST_STAGE);
     }
 
     #[test]
     fn the_lines_of_sheet_a() {
-        assert_eq!(audit_line(&A, &A_STAGE), "fits cells 2\n");
-        assert_eq!(audit_line(&long_sheet(), &A_STAGE), "fits cells 2\n");
-        assert_eq!(audit_line(&A, &longest_stage()), "stage refused 13 at 0\n");
-        assert_eq!(audit_line(&A, &[]), "stage refused 1 at 0\n");
-        assert_eq!(audit_line(&[0; LONGEST_SHEET + 1], &[]), "sheet refused 14 at 4096\n");
+        for board in BOARDS {
+            let stage = stage_of_a(board);
+            assert_eq!(audit_line(board, &A, stage), "fits cells 2\n");
+            assert_eq!(audit_line(board, &long_sheet(), stage), "fits cells 2\n");
+            assert_eq!(audit_line(board, &A, &[]), "stage refused 1 at 0\n");
+            assert_eq!(audit_line(board, &[0; LONGEST_SHEET + 1], &[]), "sheet refused 14 at 4096\n");
+        }
+        assert_eq!(audit_line(Board::Tree, &A, &longest_trees()), "stage refused 13 at 0\n");
+        assert_eq!(audit_line(Board::Shared, &A, &longest_trees()), "stage refused 2 at 3\n");
         assert_eq!(clean_line(&A), format!("{}\n", pairs(&A)));
         assert_eq!(clean_line(&long_sheet()), clean_line(&A));
         assert_eq!(clean_line(&[]), "refused 1 at 0\n");

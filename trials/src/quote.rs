@@ -1,9 +1,11 @@
-//! Document 01, "Quote": sheet in, stage out.
+//! Document 01, "Quote": sheet in, stage out. Document 02, E2, has the same
+//! for the other board.
 
+use crate::board::Board;
 use crate::pick::Picker;
 use crate::refusal::Refusal;
 use crate::search::{search, Answer};
-use crate::{relation, sheet, stage};
+use crate::{relation, sheet};
 
 /// What the quote tells, beside the bytes it writes.
 #[derive(Clone, Copy, PartialEq, Eq, Debug)]
@@ -13,10 +15,16 @@ pub struct Quote {
 }
 
 /// The whole way from the bytes of a sheet to the bytes of its stage.
-pub fn quote(sheet: &[u8], budget: u32, buffer: &mut [u8], picker: &mut Picker) -> Result<Quote, Refusal> {
+pub fn quote(
+    board: Board,
+    sheet: &[u8],
+    budget: u32,
+    buffer: &mut [u8],
+    picker: &mut Picker,
+) -> Result<Quote, Refusal> {
     let unit = sheet::read(sheet)?;
     let r = relation::of_unit(&unit)?;
-    let answer = search(&r, budget, picker);
-    let length = stage::write(r.n as u8, r.m as u8, &answer.tables, buffer)?;
+    let answer = search(board, &r, budget, picker);
+    let length = board.write(r.n as u8, r.m as u8, &answer.tables, buffer)?;
     Ok(Quote { answer, length })
 }

@@ -1,6 +1,7 @@
-//! Document 01, "Search": exactly as written, one step after another.
+//! Document 01, "Search": exactly as written, one step after another. The board
+//! is handed down to where a table's cells are counted.
 
-use crate::cells::stage_cells;
+use crate::board::Board;
 use crate::pick::Picker;
 use crate::relation::Relation;
 
@@ -15,6 +16,7 @@ pub struct Answer {
 }
 
 struct Search<'a> {
+    board: Board,
     picker: &'a mut Picker,
     best: [u16; 4],
     best_cells: u32,
@@ -23,11 +25,11 @@ struct Search<'a> {
     stopped: bool,
 }
 
-pub fn search(r: &Relation, budget: u32, picker: &mut Picker) -> Answer {
-    let best = first_answer(r, picker);
-    let root_floor = floor(r, picker);
-    let best_cells = stage_cells(r.n, r.m, &best);
-    let mut s = Search { picker, best, best_cells, visits: 0, budget, stopped: false };
+pub fn search(board: Board, r: &Relation, budget: u32, picker: &mut Picker) -> Answer {
+    let best = first_answer(board, r, picker);
+    let root_floor = floor(board, r, picker);
+    let best_cells = board.stage_cells(r.n, r.m, &best);
+    let mut s = Search { board, picker, best, best_cells, visits: 0, budget, stopped: false };
     s.treat(r);
     Answer {
         tables: s.best,
@@ -40,11 +42,11 @@ pub fn search(r: &Relation, budget: u32, picker: &mut Picker) -> Answer {
 
 /// The first answer: each wire, the lowest first, is given its pick, and only
 /// the values that have it so are kept for the next wire.
-pub fn first_answer(r: &Relation, picker: &mut Picker) -> [u16; 4] {
+pub fn first_answer(board: Board, r: &Relation, picker: &mut Picker) -> [u16; 4] {
     let mut left = *r;
     let mut tables = [0; 4];
     for j in 0..r.m {
-        let table = picker.pick(&crate::pick::project(&left, j));
+        let table = picker.pick(board, &crate::pick::project(&left, j));
         for p in 0..r.patterns() {
             left = with_wire(&left, p, j, table >> p & 1);
         }
@@ -54,8 +56,8 @@ pub fn first_answer(r: &Relation, picker: &mut Picker) -> [u16; 4] {
 }
 
 /// The floor: the sum of the picks' cells.
-pub fn floor(r: &Relation, picker: &mut Picker) -> u32 {
-    stage_cells(r.n, r.m, &picker.picks(r))
+pub fn floor(board: Board, r: &Relation, picker: &mut Picker) -> u32 {
+    board.stage_cells(r.n, r.m, &picker.picks(board, r))
 }
 
 /// The relation with that wire at that bit on that pattern.
@@ -88,7 +90,7 @@ fn lowest_conflict(r: &Relation, tables: &[u16; 4]) -> Option<usize> {
 impl Search<'_> {
     fn treat(&mut self, part: &Relation) {
         // 1. Discarded at no charge.
-        if floor(part, self.picker) >= self.best_cells {
+        if floor(self.board, part, self.picker) >= self.best_cells {
             return;
         }
         // 2. The budget is used up.
@@ -98,10 +100,10 @@ impl Search<'_> {
         }
         // 3. One visit.
         self.visits += 1;
-        let picks = self.picker.picks(part);
+        let picks = self.picker.picks(self.board, part);
         let Some(p) = lowest_conflict(part, &picks) else {
             self.best = picks;
-            self.best_cells = stage_cells(part.n, part.m, &picks);
+            self.best_cells = self.board.stage_cells(part.n, part.m, &picks);
             return;
         };
         // 4. Split.

@@ -6,7 +6,7 @@ use crate::pick::Picker;
 use crate::plan::cases;
 use std::fmt::Write;
 
-const KINDS: &[u8; 6] = b"QASWRC";
+const KINDS: &[u8; 11] = b"QASWRCqaswr";
 
 /// The row of a kind.
 fn row(kind: u8) -> usize {

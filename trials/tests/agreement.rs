@@ -1,5 +1,7 @@
-//! The two searches and the second solver agree on relations drawn by chance.
+//! The two searches and the second solver agree on relations drawn by chance, on
+//! both boards.
 
+use trials::board::BOARDS;
 use trials::case::{Case, Outcome};
 use trials::check::Checker;
 use trials::draw::relations::{half_dense, sets};
@@ -9,6 +11,10 @@ use trials::random::Random;
 use trials::relation::{handed, Relation};
 use trials::search::search;
 
+fn sizes() -> impl Iterator<Item = (u8, u8)> {
+    (1..=4).flat_map(|n| (1..=4).map(move |m| (n, m)))
+}
+
 /// best => the least cells; floor <= least always; and the fast search gives
 /// the same reply (the checker looks at both).
 #[test]
@@ -16,16 +22,19 @@ fn the_search_finds_the_least() {
     let mut rng = Random::new(2024);
     let mut picker = Picker::new();
     let mut checker = Checker::default();
-    for (n, m) in (1..=4).flat_map(|n| (1..=4).map(move |m| (n, m))) {
-        for _ in 0..250 {
-            let sets = sets(&mut rng, n, m);
-            let budget = rng.of(&[0, 1, 3, 30, 2_000, 2_000]);
-            let r = handed(n, m, &sets).expect("drawn to be well defined");
-            let answer = search(&r, budget, &mut picker);
-            checker.check(&Case::Search { n, m, budget, sets }, &Outcome::Found(answer));
+    for board in BOARDS {
+        for (n, m) in sizes() {
+            for _ in 0..250 {
+                let sets = sets(&mut rng, n, m);
+                let budget = rng.of(&[0, 1, 3, 30, 2_000, 2_000]);
+                let r = handed(n, m, &sets).expect("drawn to be well defined");
+                let answer = search(board, &r, budget, &mut picker);
+                checker.check(&Case::Search { board, n, m, budget, sets }, &Outcome::Found(answer));
+            }
         }
+        let (held, left) = (checker.checked.held[board as usize], checker.checked.left[board as usize]);
+        assert!(held > 3_500, "{board:?}: {held} held, {left} left");
     }
-    assert!(checker.checked.held > 3_500, "{} held, {} left", checker.checked.held, checker.checked.left);
 }
 
 /// Tables, cells, floor, visits and mark are the same.
@@ -33,13 +42,13 @@ fn the_search_finds_the_least() {
 fn the_fast_search_is_the_search() {
     let mut rng = Random::new(7);
     let mut picker = Picker::new();
-    for (n, m) in (1..=4).flat_map(|n| (1..=4).map(move |m| (n, m))) {
+    for (board, (n, m)) in BOARDS.into_iter().flat_map(|board| sizes().map(move |size| (board, size))) {
         for i in 0..400 {
             let sets = if i % 4 == 0 { half_dense(&mut rng, n.into(), m.into()).sets } else { sets(&mut rng, n, m) };
             let budget = rng.of(&[0, 1, 2, 5, 20, 100, 600]);
             let r = handed(n, m, &sets).expect("drawn to be well defined");
-            let slow = search(&r, budget, &mut picker);
-            let fast = fast::search(r.n, &r.sets, budget);
+            let slow = search(board, &r, budget, &mut picker);
+            let fast = fast::search(board, r.n, &r.sets, budget);
             assert_eq!(
                 (fast.tables, fast.cells, fast.floor, fast.visits, fast.stopped),
                 (slow.tables, slow.cells, slow.floor, slow.visits, slow.stopped)
@@ -63,12 +72,17 @@ fn time_per_visit() {
     let start = std::time::Instant::now();
     let mut rng = Random::new(11);
     let relations: Vec<_> = (0..300).map(|_| half_dense(&mut rng, 4, 4)).collect();
-    let mut least = f64::MAX;
+    let mut least = [f64::MAX; 2];
     for _ in 0..8 {
-        let before = clock(start);
-        let search = |r: &Relation| u64::from(fast::search(r.n, &r.sets, 10_000).visits);
-        let visits: u64 = (0..5).flat_map(|_| &relations).map(search).sum();
-        least = least.min((clock(start) - before) / visits as f64);
+        for board in BOARDS {
+            let before = clock(start);
+            let search = |r: &Relation| u64::from(fast::search(board, r.n, &r.sets, 10_000).visits);
+            let visits: u64 = (0..5).flat_map(|_| &relations).map(search).sum();
+            let least = &mut least[board as usize];
+            *least = least.min((clock(start) - before) / visits as f64);
+        }
     }
-    println!("{least:.1} ns per visit, the least of 8 rounds");
+    for board in BOARDS {
+        println!("{board:?}: {:.1} ns per visit, the least of 8 rounds", least[board as usize]);
+    }
 }

@@ -25,7 +25,7 @@ trailing = 4
 abbrev pub outOfTurn : ℕ
 outOfTurn = 5
 
--- a signal that no earlier command made
+-- a signal that no earlier command made; in a list of entries, a number that no earlier entry has
 abbrev pub noSignal : ℕ
 noSignal = 6
 

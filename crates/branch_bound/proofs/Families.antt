@@ -20,13 +20,14 @@ use Rattle.relation.proofs.Decide.{value-cong}
 use Rattle.relation.proofs.Families.{drawnTables, family-stage, family-compatible, family-total, least-drives, least-family, least-total}
 use Rattle.branch_bound.specs.Search.{Board, totalOn, floor, run}
 use Rattle.branch_bound.specs.SearchPromise.{Fair, Promise}
-use Rattle.branch_bound.specs.TreeBoard.{tree}
+use Rattle.table.specs.declared.BoardKind.{BoardKind}
+use Rattle.branch_bound.specs.Boards.{boardOf}
 use Rattle.branch_bound.specs.Smallest.{Smallest}
 use Rattle.branch_bound.proofs.Treating.{run-promise}
 
-pub fair : (n m : ℕ) → m ≤ maxWires → Fair (tree n m)
-unfolding tree
-fair n m few = record { order = λ s t ls lt h. h; few = few }
+pub fair : (kind : BoardKind) (n m : ℕ) → m ≤ maxWires → Fair (boardOf kind n m)
+unfolding boardOf
+fair kind n m few = record { order = λ s t ls lt h. h; few = few }
 
 module _ (D : Drawing) (b : Board) (counts : FairCount D (b .n) (b .count)) (fairly : Fair b) (budget : ℕ) (R : Rel) (ne : WellDefined (b .n) (b .m) R) where
   promise : Promise b budget R (run b budget R)

@@ -9,8 +9,9 @@ use Rattle.relation.specs.declared.Relation.{Relation}
 use Rattle.relation.specs.Source.{Rel}
 use Rattle.relation.specs.Handed.{relationOf, checkOf}
 use Rattle.branch_bound.specs.declared.State.{State}
-use Rattle.branch_bound.specs.Search.{floor, run}
-use Rattle.branch_bound.specs.TreeBoard.{tree}
+use Rattle.table.specs.declared.BoardKind.{BoardKind}
+use Rattle.branch_bound.specs.Search.{Board, floor, run}
+use Rattle.branch_bound.specs.Boards.{boardOf}
 
 -- the two outcomes of a search that refuses nothing
 abbrev pub bestOutcome : ℕ
@@ -33,12 +34,12 @@ markOf true = accepting stoppedOutcome 0
 markOf false = accepting bestOutcome 0
 
 -- the floor is the relation's own where the search was stopped; else it is the cells found
-unfoldable pub answerOf : ℕ → ℕ → Rel → State → SearchReply
-answerOf n m R s =
+unfoldable pub answerOf : Board → Rel → State → SearchReply
+answerOf b R s =
     record {
       tables = s .tables;
       cells = s .cells;
-      floor = cond (s .stopped) (floor (tree n m) R) (s .cells);
+      floor = cond (s .stopped) (floor b R) (s .cells);
       visits = s .visits;
       mark = markOf (s .stopped);
     }
@@ -48,11 +49,12 @@ unfoldable pub refusedWith : Case → SearchReply
 refusedWith c = record { tables = tabulate maxWires (λ _. zero); cells = zero; floor = zero; visits = zero; mark = c }
 
 -- the reply once the relation's test has answered c
-unfoldable pub searchTested : Relation → ℕ → Case → SearchReply
-searchTested r budget c =
-    let found = answerOf (r .n) (r .m) (relationOf r) (run (tree (r .n) (r .m)) budget (relationOf r)) in
+unfoldable pub searchTested : BoardKind → Relation → ℕ → Case → SearchReply
+searchTested kind r budget c =
+    let board = boardOf kind (r .n) (r .m) in
+    let found = answerOf board (relationOf r) (run board budget (relationOf r)) in
     cond (isRefused c) (refusedWith c) found
 
--- the reply to any relation and budget: the relation's test comes first
-unfoldable pub searchOf : Relation → ℕ → SearchReply
-searchOf r budget = searchTested r budget (checkOf r)
+-- the reply to any relation and budget, on either board: the relation's test comes first
+unfoldable pub searchOf : BoardKind → Relation → ℕ → SearchReply
+searchOf kind r budget = searchTested kind r budget (checkOf r)

@@ -3,6 +3,7 @@
 use Prim.Native.Nat.{ℕ}
 use mathlib.Core.Bool.{cond}
 use mathlib.Core.List.{List, [], _∷_}
+use Rattle.table.specs.declared.BoardKind.{BoardKind}
 use Rattle.base.specs.Cases.{Case, isRefused}
 use Rattle.branch_bound.specs.Reply.{SearchReply, searchOf}
 use Rattle.quote.specs.Cases.{QuoteReply}
@@ -20,8 +21,8 @@ abbrev pub auditNumbers : Case → List ℕ
 auditNumbers c = c .outcome ∷ c .value ∷ 0 ∷ 0 ∷ 0 ∷ c .place ∷ []
 
 -- the search of a relation that is handed over by its sizes and the sets of its patterns
-abbrev pub searchHanded : (n m : ℕ) → List ℕ → ℕ → SearchReply
-searchHanded n m sets budget = searchOf (record { n = n; m = m; sets = sets }) budget
+abbrev pub searchHanded : BoardKind → (n m : ℕ) → List ℕ → ℕ → SearchReply
+searchHanded kind n m sets budget = searchOf kind (record { n = n; m = m; sets = sets }) budget
 
 -- the tables lent, after a search: a refusal leaves them as they were
 abbrev pub tablesAfter : SearchReply → List ℕ → List ℕ

@@ -28,6 +28,7 @@ use Rattle.reader.specs.Inner.WasRead.{WasRead}
 use Rattle.unit.proofs.Alike.{same-formed}
 use Rattle.unit.proofs.Rivals.{commands-only}
 use Rattle.reader.proofs.Placed.{placed-all}
+use Rattle.table.specs.declared.BoardKind.{BoardKind}
 use Rattle.quote.specs.Quote.{quotedOf, bufferQuoted}
 use Rattle.clean.specs.Copy.{copyCommands, copyBytes, longestCopy}
 use Rattle.clean.specs.Cleaned.{cleanedFrom, cleanedOf, bufferCleanedFrom, bufferCleaned}
@@ -83,10 +84,11 @@ module _ (sheet : List ℕ) (cs : List Command) (e : readingOf sheet ≡ holds c
       (rw (copy-read cs s, copy-gathers cs s) fits, rw (copy-read cs s, copy-gathers cs s) (ap (bufferWith text buffer) fits))
 
   -- the copy and the sheet form the same relation
-  same-quote : (budget : ℕ) (buffer : List ℕ)
-      → (quotedOf text budget (length buffer) ≡ quotedOf sheet budget (length buffer)) × (bufferQuoted text budget buffer ≡ bufferQuoted sheet budget buffer)
+  same-quote : (kind : BoardKind) (budget : ℕ) (buffer : List ℕ)
+      → (quotedOf kind text budget (length buffer) ≡ quotedOf kind sheet budget (length buffer))
+      × (bufferQuoted kind text budget buffer ≡ bufferQuoted kind sheet budget buffer)
   unfolding text quotedOf bufferQuoted
-  same-quote budget buffer =
+  same-quote kind budget buffer =
       let own : WasRead (gathered cs) = record { bytes = sheet; commands = cs; held = e; gathers = refl } in
       let copied : WasRead (gathered cs) =
       record { bytes = text; commands = copyCommands (gathered cs); held = copy-read cs s; gathers = sym (copy-gathers cs s) } in

@@ -14,6 +14,7 @@ use Rattle.sheet.specs.Gathered.{gathered, limitOn}
 use Rattle.sheet.specs.Judged.{holds}
 use Rattle.sheet.specs.Limits.{allOnes}
 use Rattle.reader.specs.Reading.{readingOf}
+use Rattle.table.specs.declared.BoardKind.{BoardKind}
 use Rattle.quote.specs.Quote.{quotedOf, bufferQuoted}
 use Rattle.clean.specs.Copy.{copyLength, longestCopy}
 use Rattle.clean.specs.Cleaned.{cleanedOf, bufferCleaned}
@@ -49,9 +50,10 @@ pub record CleanCopy (sheet copy : List ℕ) : Type 0 where
   pub equal : (other : List ℕ) → GatherAlike sheet other → SameCopy sheet other
   -- and so does every sheet whose commands say the same
   pub equal-said : (other : List ℕ) (ds : List Command) → readingOf other ≡ holds ds → SaySame (same .commands) ds → SameCopy sheet other
-  -- its quote is the quote of the sheet, refusals included
-  pub same-quote : (budget : ℕ) (buffer : List ℕ)
-      → (quotedOf copy budget (length buffer) ≡ quotedOf sheet budget (length buffer)) × (bufferQuoted copy budget buffer ≡ bufferQuoted sheet budget buffer)
+  -- its quote is the quote of the sheet, on either board, refusals included
+  pub same-quote : (kind : BoardKind) (budget : ℕ) (buffer : List ℕ)
+      → (quotedOf kind copy budget (length buffer) ≡ quotedOf kind sheet budget (length buffer))
+      × (bufferQuoted kind copy budget buffer ≡ bufferQuoted kind sheet budget buffer)
 
 -- the reply to a sheet, and the buffer that is left
 pub record CleanPromise (sheet : List ℕ) (r : Case) (buffer : List ℕ) : Type 0 where

@@ -16,11 +16,13 @@ use Rattle.relation.specs.Inner.Source.{fits}
 use Rattle.relation.specs.Handed.{relationOf, widePattern, checkOf}
 use Rattle.branch_bound.specs.Reply.{bestOutcome, stoppedOutcome, SearchReply, markOf, answerOf, refusedWith, searchTested, searchOf}
 use Rattle.branch_bound.specs.Search.{replyTables, pick, picks, floor, left, quick, start, split, expand, charge, treat, visit, searchPart, run}
-use Rattle.branch_bound.specs.TreeBoard.{tree}
+use Rattle.table.specs.declared.BoardKind.the-variants.{Tree}
+use Rattle.branch_bound.specs.Boards.{boardOf}
 use Rattle.reader.specs.Reading.{readingOf}
 use Rattle.reader.proofs.Rows.{sheetA}
-use Rattle.stage.specs.Bytes.{treeBytes, wiresBytes, stageBytes}
-use Rattle.stage.specs.Written.{stageTrees, stageOf, firstOut, writtenOf, bufferAfter}
+use Rattle.stage.specs.Bytes.{wiresBytes, stageBytes}
+use Rattle.stage.specs.TreeBytes.{treeBytes}
+use Rattle.stage.specs.Written.{stageDrawn, stageOf, firstOut, writtenOf, bufferAfter}
 use Rattle.unit.specs.Formed.{formedOf}
 use Rattle.unit.specs.Present.{presentTable, presentTables, presentCells}
 use Rattle.unit.proofs.Rows as UnitRows
@@ -45,12 +47,12 @@ unfolding markOf answerOf refusedWith searchTested searchOf
 reply-opened = 0
 
 unfoldable search-opened : ℕ
-unfolding replyTables total pick picks floor left quick start split expand charge treat visit searchPart run tree reply-opened
+unfolding replyTables total pick picks floor left quick start split expand charge treat visit searchPart run boardOf reply-opened
 search-opened = 0
 
 -- a stage, a quote,
 unfoldable stage-opened : ℕ
-unfolding treeBytes wiresBytes stageBytes stageTrees stageOf firstOut writtenOf bufferAfter presentTable presentTables presentCells
+unfolding treeBytes wiresBytes stageBytes stageDrawn stageOf firstOut writtenOf bufferAfter presentTable presentTables presentCells
 stage-opened = 0
 
 unfoldable quote-opened : ℕ
@@ -94,22 +96,22 @@ pub record Starred : Type 0 where
   pub a-relation : formedOf sheetA
       ≡ record { relation = record { n = 2; m = 2; sets = 2 ∷ 9 ∷ 9 ∷ 4 ∷ 0 ∷ 0 ∷ 0 ∷ 0 ∷ 0 ∷ 0 ∷ 0 ∷ 0 ∷ 0 ∷ 0 ∷ 0 ∷ 0 ∷ [] }; answer = acceptedCase }
   -- what the program prints for its bytes, to the last one
-  pub a-printed : printedOf sheetA ≡ linesA
+  pub a-printed : printedOf Tree sheetA ≡ linesA
   -- the cells of the present stage, by the tables that its own 02 commands tell
   pub a-present : presentCells (readingOf sheetA) ≡ 4
   -- B with a budget of 1, and B0 with none
-  pub b : Says (searchOf relationB 1) 3 3 1 bestOutcome
-  pub b0 : Says (searchOf relationB 0) 3 2 0 stoppedOutcome
+  pub b : Says (searchOf Tree relationB 1) 3 3 1 bestOutcome
+  pub b0 : Says (searchOf Tree relationB 0) 3 2 0 stoppedOutcome
   -- C with a budget of 2, and C1 with 1
-  pub c : Says (searchOf relationC 2) 0 0 2 bestOutcome
-  pub c1 : Says (searchOf relationC 1) 1 0 1 stoppedOutcome
+  pub c : Says (searchOf Tree relationC 2) 0 0 2 bestOutcome
+  pub c1 : Says (searchOf Tree relationC 1) 1 0 1 stoppedOutcome
   -- Tables: the cells of five functions of three inputs
   pub tables : (cells 3 0x00 ≡ 0) × (cells 3 0xAA ≡ 1) × (cells 3 0xF0 ≡ 1) × (cells 3 0xE8 ≡ 5) × (cells 3 0x96 ≡ 7)
   -- the empty sheet and the lone 00, with any buffer
-  pub empty-sheet : (room : ℕ) → quotedOf [] budget room ≡ refusedQuote (refusalAt cutShort 0)
-  pub lone-end : (room : ℕ) → quotedOf (0 ∷ []) budget room ≡ refusedQuote (refusalAt outOfTurn 0)
+  pub empty-sheet : (room : ℕ) → quotedOf Tree [] budget room ≡ refusedQuote (refusalAt cutShort 0)
+  pub lone-end : (room : ℕ) → quotedOf Tree (0 ∷ []) budget room ≡ refusedQuote (refusalAt outOfTurn 0)
   -- sheet A limited on pattern 2, as `limitedA` has it
-  pub a-limited : (room : ℕ) → quotedOf limitedA budget room ≡ refusedQuote (refusalAt empty 2)
+  pub a-limited : (room : ℕ) → quotedOf Tree limitedA budget room ≡ refusedQuote (refusalAt empty 2)
 
 pub starred : Starred
 unfolding opened

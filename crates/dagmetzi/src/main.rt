@@ -10,15 +10,19 @@ mod words; // what each word does
 
 // Does what a word says, with so many arguments after it.
 fn do_word(word: &[u8], count: usize) {
-    if same(word, b"audit") {
+    if same(word, b"shared") {
+        words::shared(count);
+    } else if same(word, b"audit") {
         words::audit(count);
+    } else if same(word, b"audit-shared") {
+        words::audit_shared(count);
     } else if same(word, b"clean") {
         words::clean(count);
     } else {
         messages::advise(
             b"unknown word ",
             word,
-            b": try audit SHEET STAGE or clean SHEET",
+            b": try shared SHEET, audit SHEET STAGE, audit-shared SHEET STAGE or clean SHEET",
         );
     }
 }

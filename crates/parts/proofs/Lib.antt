@@ -1,3 +1,4 @@
+pub mod BoardNumbers
 pub mod Packing
 pub mod Changes
 pub mod PairBits

@@ -13,11 +13,11 @@ use lib.Seq.{getD-set-same, getD-set-other}
 use Rattle.base.proofs.Tests.{cond-has, decide, eq-test}
 use Rattle.sheet.specs.Limits.{maxInputs, maxWires, maxPatterns, maxValues}
 use Rattle.table.specs.Bits.{bit}
-use Rattle.table.specs.Cells.{cells}
+use Rattle.table.specs.declared.BoardKind.{BoardKind}
 use Rattle.table.specs.Pick.{suits, leastOf, orZero}
 use Rattle.table.specs.Inner.Ranks.{masked, pickOf, rank}
 use Rattle.table.proofs.Bits.{bit-lt, all-at, all-intro, tabulate-at, tabulate-cong}
-use Rattle.table.proofs.Halving.{BestTable, least-best}
+use Rattle.table.proofs.Least.{Least, least-is}
 use Rattle.table.proofs.Masks.{least-shrink, pick-some}
 use Rattle.relation.specs.Tests.{ofSets, keep, occurs, isOpen}
 use Rattle.relation.specs.Inner.Members.{member, withBit}
@@ -32,11 +32,12 @@ use Rattle.relation.proofs.Masks.{mask-projection}
 use Rattle.parts.specs.Inner.Pairs.{pairOf, pairsOf, cutPair, cutPairs}
 use Rattle.sheet.specs.Inner.Sized.{Sized}
 use Rattle.parts.specs.Inner.Parts.{PartSets, rankOf, ranksOf, rankAgain, ranksAgain}
+use Rattle.nodes.specs.Counts.{countOf}
 use Rattle.parts.proofs.Packing.{rank-table}
 use Rattle.parts.proofs.PairCuts.{pair-cut}
 use Rattle.parts.proofs.Keeping.{narrow, cover, kept-pick, kept-least, rank-between}
 
-module _ {n m : ℕ} (sz : Sized n m) {sets : List ℕ} (ok : PartSets n m sets) {p j b : ℕ} (lp : p < 2 ^ n) (lj : j < m)
+module _ (kind : BoardKind) {n m : ℕ} (sz : Sized n m) {sets : List ℕ} (ok : PartSets n m sets) {p j b : ℕ} (lp : p < 2 ^ n) (lj : j < m)
     (free-there : T (isOpen m (ofSets sets p) j)) (lb : b < 2) where
   there : p < maxPatterns
   there = lt-of-lt-of-le lp (pow-mono {i = n} {j = maxInputs} (sz .n-most))
@@ -73,7 +74,7 @@ module _ {n m : ℕ} (sz : Sized n m) {sets : List ℕ} (ok : PartSets n m sets)
       (λ i l. ap (λ x. cutPair x p w i) (tabulate-at maxWires (pairOf sets) i l) ∙ sym (pair-cut sets p j b i there (ok .long) small))
 
   -- a pick whose bit on p still occurs still suits, and so is still the pick
-  module _ (i : ℕ) (still : T (occurs maxWires (member (withBit (getD sets p 0) j b)) i (bit (pickOf n (maskOf sets i 0) (maskOf sets i 1)) p))) where
+  module _ (i : ℕ) (still : T (occurs maxWires (member (withBit (getD sets p 0) j b)) i (bit (pickOf (countOf kind n) n (maskOf sets i 0) (maskOf sets i 1)) p))) where
     told : (q c : ℕ) → q < 2 ^ n → c < 2 → masked (maskOf sets i 0) (maskOf sets i 1) q c ≡ occurs m (ofSets sets q) i c
     told q c l lc = mask-projection n m sets i q c (sz .m-most) (sz .n-most) (narrow sz ok) l lc
 
@@ -81,11 +82,14 @@ module _ {n m : ℕ} (sz : Sized n m) {sets : List ℕ} (ok : PartSets n m sets)
         → masked (maskOf (narrowed sets p j b) i 0) (maskOf (narrowed sets p j b) i 1) q c ≡ occurs m (ofSets (narrowed sets p j b) q) i c
     told-with q c l lc = mask-projection n m (narrowed sets p j b) i q c (sz .m-most) (sz .n-most) (narrow sz with-sets) l lc
 
-    has-pick : leastOf (cells n) n (masked (maskOf sets i 0) (maskOf sets i 1)) ≡ some (pickOf n (maskOf sets i 0) (maskOf sets i 1))
-    has-pick = pick-some n (maskOf sets i 0) (maskOf sets i 1) (cover sz ok i)
+    has-pick : leastOf (countOf kind n) n (masked (maskOf sets i 0) (maskOf sets i 1)) ≡ some (pickOf (countOf kind n) n (maskOf sets i 0) (maskOf sets i 1))
+    has-pick = pick-some (countOf kind n) n (maskOf sets i 0) (maskOf sets i 1) (cover sz ok i)
 
-    suited : T (suits n (masked (maskOf sets i 0) (maskOf sets i 1)) (pickOf n (maskOf sets i 0) (maskOf sets i 1)))
-    suited = subst (BestTable n (masked (maskOf sets i 0) (maskOf sets i 1))) has-pick (least-best n (masked (maskOf sets i 0) (maskOf sets i 1))) .suited
+    suited : T (suits n (masked (maskOf sets i 0) (maskOf sets i 1)) (pickOf (countOf kind n) n (maskOf sets i 0) (maskOf sets i 1)))
+    unfolding leastOf
+    suited =
+        let fit = suits n (masked (maskOf sets i 0) (maskOf sets i 1)) in
+        subst (Least (countOf kind n) fit (2 ^ (2 ^ n))) has-pick (least-is (countOf kind n) fit (2 ^ (2 ^ n))) .1
 
     set-there : getD (narrowed sets p j b) p 0 ≡ withBit (getD sets p 0) j b
     unfolding narrowed
@@ -95,10 +99,10 @@ module _ {n m : ℕ} (sz : Sized n m) {sets : List ℕ} (ok : PartSets n m sets)
     unfolding narrowed
     set-other q ne = getD-set-other sets p q (withBit (getD sets p 0) j b) 0 ne
 
-    bit-occurs : (q : ℕ) → q < 2 ^ n → T (occurs m (ofSets (narrowed sets p j b) q) i (bit (pickOf n (maskOf sets i 0) (maskOf sets i 1)) q))
+    bit-occurs : (q : ℕ) → q < 2 ^ n → T (occurs m (ofSets (narrowed sets p j b) q) i (bit (pickOf (countOf kind n) n (maskOf sets i 0) (maskOf sets i 1)) q))
     unfolding suits
     bit-occurs q l =
-        let t = pickOf n (maskOf sets i 0) (maskOf sets i 1) in
+        let t = pickOf (countOf kind n) n (maskOf sets i 0) (maskOf sets i 1) in
         ⊎-elim
         (λ e.
         let d = eqb→eq q p e in
@@ -113,10 +117,10 @@ module _ {n m : ℕ} (sz : Sized n m) {sets : List ℕ} (ok : PartSets n m sets)
         rw (member-sets (narrowed sets p j b) q, set-other q ne) (rw (member-sets sets q) at f))
         (decide (eqb q p))
 
-    still-pick : pickOf n (maskOf (narrowed sets p j b) i 0) (maskOf (narrowed sets p j b) i 1) ≡ pickOf n (maskOf sets i 0) (maskOf sets i 1)
+    still-pick : pickOf (countOf kind n) n (maskOf (narrowed sets p j b) i 0) (maskOf (narrowed sets p j b) i 1) ≡ pickOf (countOf kind n) n (maskOf sets i 0) (maskOf sets i 1)
     unfolding pickOf suits orZero
     still-pick =
-        let t = pickOf n (maskOf sets i 0) (maskOf sets i 1) in
+        let t = pickOf (countOf kind n) n (maskOf sets i 0) (maskOf sets i 1) in
         let P = masked (maskOf sets i 0) (maskOf sets i 1) in
         let Q = masked (maskOf (narrowed sets p j b) i 0) (maskOf (narrowed sets p j b) i 1) in
         let inside : (q c : ℕ) → q < 2 ^ n → c < 2 → T (Q q c) → T (P q c) =
@@ -124,19 +128,19 @@ module _ {n m : ℕ} (sz : Sized n m) {sets : List ℕ} (ok : PartSets n m sets)
         (occurs-part m (ofSets (narrowed sets p j b) q) (ofSets sets q) i c (λ v g. keep-part (ofSets sets) p j b q v (subst (λ R. T (R q v)) with-keep g))
         (rw (told-with q c l lc) at h)) in
         let suited-with : T (suits n Q t) = all-intro (2 ^ n) (λ q. Q q (bit t q)) (λ q l. rw (told-with q (bit t q) l (bit-lt t q)) (bit-occurs q l)) in
-        ap orZero (least-shrink (cells n) n P Q t inside has-pick suited-with)
+        ap orZero (least-shrink (countOf kind n) n P Q t inside has-pick suited-with)
 
-  pub with-ranks : ranksAgain n (ranksOf n sets) p (withBit (getD sets p 0) j b) (pairsOf (narrowed sets p j b)) ≡ ranksOf n (narrowed sets p j b)
+  pub with-ranks : ranksAgain kind n (ranksOf kind n sets) p (withBit (getD sets p 0) j b) (pairsOf (narrowed sets p j b)) ≡ ranksOf kind n (narrowed sets p j b)
   unfolding ranksAgain rankAgain ranksOf pairsOf
   with-ranks =
       let W = narrowed sets p j b in
       let w = withBit (getD sets p 0) j b in
-      tabulate-cong maxWires (λ i. rankAgain n (getD (ranksOf n sets) i 0) p i w (getD (pairsOf W) i 0)) (rankOf n W)
+      tabulate-cong maxWires (λ i. rankAgain kind n (getD (ranksOf kind n sets) i 0) p i w (getD (pairsOf W) i 0)) (rankOf kind n W)
       (λ i l.
-      let t = pickOf n (maskOf sets i 0) (maskOf sets i 1) in
-      let lt : t < 2 ^ (2 ^ n) = rw (kept-pick sz ok i) (kept-least sz ok i .0) in
-      let er = tabulate-at maxWires (rankOf n sets) i l in
+      let t = pickOf (countOf kind n) n (maskOf sets i 0) (maskOf sets i 1) in
+      let lt : t < 2 ^ (2 ^ n) = rw (kept-pick kind sz ok i) (kept-least kind sz ok i .0) in
+      let er = tabulate-at maxWires (rankOf kind n sets) i l in
       let ep = tabulate-at maxWires (pairOf W) i l in
-      let et = rank-table n t (sz .n-most) lt in
+      let et = rank-table (countOf kind n) n t (sz .n-most) lt in
       rw (er, ep, et)
-      (cond-has (λ x. x ≡ rankOf n W i) (occurs maxWires (member w) i (bit t p)) (λ h. ap (rank n) (sym (still-pick i h))) (λ _. rank-between n W i)))
+      (cond-has (λ x. x ≡ rankOf kind n W i) (occurs maxWires (member w) i (bit t p)) (λ h. ap (rank (countOf kind n)) (sym (still-pick i h))) (λ _. rank-between kind n W i)))

@@ -8,7 +8,6 @@ use lib.ListN.{getD}
 use lib.Pow.{pow-mono}
 use Rattle.sheet.specs.Limits.{maxInputs, maxWires, maxPatterns}
 use Rattle.table.specs.Bits.{bit}
-use Rattle.table.specs.Cells.{cells}
 use Rattle.table.specs.Inner.Ranks.{rank, tableSpace}
 use Rattle.table.proofs.Bits.{bit-mod, tabulate-at}
 use Rattle.parts.specs.Inner.Ranks.{tableIn, cellsIn, tablesIn}
@@ -17,13 +16,13 @@ use Rattle.parts.specs.Inner.Ranks.{tableIn, cellsIn, tablesIn}
 whole : (n t : ℕ) → n ≤ maxInputs → t < 2 ^ (2 ^ n) → t < tableSpace
 whole n t h l = lt-of-lt-of-le l (pow-mono {i = 2 ^ n} {j = 2 ^ maxInputs} (pow-mono {i = n} {j = maxInputs} h))
 
-pub rank-table : (n t : ℕ) → n ≤ maxInputs → t < 2 ^ (2 ^ n) → tableIn (rank n t) ≡ t
+pub rank-table : (count : ℕ → ℕ) (n t : ℕ) → n ≤ maxInputs → t < 2 ^ (2 ^ n) → tableIn (rank count t) ≡ t
 unfolding tableIn rank
-rank-table n t h l = digits-mod (cells n t) (whole n t h l)
+rank-table count n t h l = digits-mod (count t) (whole n t h l)
 
-pub rank-cells : (n t : ℕ) → n ≤ maxInputs → t < 2 ^ (2 ^ n) → cellsIn (rank n t) ≡ cells n t
+pub rank-cells : (count : ℕ → ℕ) (n t : ℕ) → n ≤ maxInputs → t < 2 ^ (2 ^ n) → cellsIn (rank count t) ≡ count t
 unfolding cellsIn rank
-rank-cells n t h l = digits-div (cells n t) (whole n t h l)
+rank-cells count n t h l = digits-div (count t) (whole n t h l)
 
 -- the table's bits are the lowest of its rank
 pub packed-bit : (r q : ℕ) → q < maxPatterns → bit (tableIn r) q ≡ bit r q

@@ -2,4 +2,5 @@
 pub mod Ranks
 pub mod Changes
 pub mod Pairs
+pub mod Boards
 pub mod Parts

@@ -2,6 +2,8 @@
 // A split changes the set of one pattern: the masks lose at most that pattern, and a pick whose bit there still occurs is still the pick, since it is
 // the least over more tables.
 // Inner functions: the search meets what they require (`search_sets`, the first answer and `split`).
+use crate::boards::inputs_of;
+use crate::boards::pick_on;
 use crate::pairs::pair_of;
 use crate::pairs::pairs_of;
 use crate::ranks::table_of;
@@ -9,15 +11,15 @@ use relation::patterns::bit_of;
 use relation::values::has;
 use sheet::Sheet;
 use table::picks::ENTRIES;
-use table::picks::pick;
 ghost use mathlib.Core.Path.{_≡_};
 ghost use Prim.Native.Nat.{_<_, _≤_};
 ghost use Rattle.sheet.specs.Limits.{maxInputs, maxWires, maxPatterns};
-ghost use Rattle.table.specs.Inner.Blocks.{Blocks};
+ghost use Rattle.parts.specs.Inner.Boards.{kindIn, inputsIn, Lent};
 ghost use Rattle.parts.specs.Inner.Pairs.{Covers, PairsCover};
 ghost use Rattle.sheet.specs.Inner.Sized.{Sized};
 ghost use Rattle.parts.specs.Inner.Parts.{PartSets, Carried, rankOf, ranksBetween, rankAgain, ranksAgain};
 
+pub mod boards; // a board and its inputs as one number, and picks by it
 pub mod ranks; // a pick as one number
 pub mod pairs; // the two masks of a wire in one number
 
@@ -28,62 +30,73 @@ pub struct PartPicks {
 }
 
 // The rank of one wire's pick.
-pub fn wire_rank(e: &[u16; ENTRIES], n: u8, m: u8, sets: [u16; Sheet::MAX_PATTERNS], j: u8) -> u32
-    requires { ⌜ Blocks (now e) × Sized n m × PartSets n m sets × (j < maxWires) ⌝ }
-    ensures { λ r. ⌜ r ≡ rankOf n sets j ⌝ }
+pub fn wire_rank(
+    e: &[u16; ENTRIES],
+    board: u8,
+    m: u8,
+    sets: [u16; Sheet::MAX_PATTERNS],
+    j: u8,
+) -> u32
+    requires { ⌜ Lent board (now e) × Sized (inputsIn board) m × PartSets (inputsIn board) m sets × (j < maxWires) ⌝ }
+    ensures { λ r. ⌜ r ≡ rankOf (kindIn board) (inputsIn board) sets j ⌝ }
 {
-    pick(e, n, pair_of(n, sets, j))
+    pick_on(e, board, pair_of(inputs_of(board), sets, j))
 }
 
-fn ranks_of(e: &[u16; ENTRIES], n: u8, pairs: [u32; Sheet::WIRES]) -> [u32; Sheet::WIRES]
-    requires { ⌜ Blocks (now e) × (1 ≤ n) × (n ≤ maxInputs) × PairsCover n pairs ⌝ }
-    ensures { λ r. ⌜ r ≡ ranksBetween n pairs ⌝ }
+fn ranks_of(e: &[u16; ENTRIES], board: u8, pairs: [u32; Sheet::WIRES]) -> [u32; Sheet::WIRES]
+    requires { ⌜ Lent board (now e) × (1 ≤ inputsIn board) × (inputsIn board ≤ maxInputs) × PairsCover (inputsIn board) pairs ⌝ }
+    ensures { λ r. ⌜ r ≡ ranksBetween (kindIn board) (inputsIn board) pairs ⌝ }
 {
     [
-        pick(e, n, pairs[0]),
-        pick(e, n, pairs[1]),
-        pick(e, n, pairs[2]),
-        pick(e, n, pairs[3]),
+        pick_on(e, board, pairs[0]),
+        pick_on(e, board, pairs[1]),
+        pick_on(e, board, pairs[2]),
+        pick_on(e, board, pairs[3]),
     ]
 }
 
 // The whole relation as a part.
-pub fn whole_part(e: &[u16; ENTRIES], n: u8, m: u8, sets: [u16; Sheet::MAX_PATTERNS]) -> PartPicks
-    requires { ⌜ Blocks (now e) × Sized n m × PartSets n m sets ⌝ }
-    ensures { λ r. ⌜ Carried n m sets (r .pairs) (r .ranks) ⌝ }
+pub fn whole_part(
+    e: &[u16; ENTRIES],
+    board: u8,
+    m: u8,
+    sets: [u16; Sheet::MAX_PATTERNS],
+) -> PartPicks
+    requires { ⌜ Lent board (now e) × Sized (inputsIn board) m × PartSets (inputsIn board) m sets ⌝ }
+    ensures { λ r. ⌜ Carried (kindIn board) (inputsIn board) m sets (r .pairs) (r .ranks) ⌝ }
 {
-    let pairs = pairs_of(n, sets);
-    let ranks = ranks_of(e, n, pairs);
+    let pairs = pairs_of(inputs_of(board), sets);
+    let ranks = ranks_of(e, board, pairs);
     PartPicks { pairs, ranks }
 }
 
-fn rank_again(e: &[u16; ENTRIES], n: u8, rank: u32, p: u8, j: u8, set: u16, pair: u32) -> u32
-    requires { ⌜ Blocks (now e) × (1 ≤ n) × (n ≤ maxInputs) × (p < maxPatterns) × (j < maxWires) × Covers n pair ⌝ }
-    ensures { λ r. ⌜ r ≡ rankAgain n rank p j set pair ⌝ }
+fn rank_again(e: &[u16; ENTRIES], board: u8, rank: u32, p: u8, j: u8, set: u16, pair: u32) -> u32
+    requires { ⌜ Lent board (now e) × (1 ≤ inputsIn board) × (inputsIn board ≤ maxInputs) × (p < maxPatterns) × (j < maxWires) × Covers (inputsIn board) pair ⌝ }
+    ensures { λ r. ⌜ r ≡ rankAgain (kindIn board) (inputsIn board) rank p j set pair ⌝ }
 {
     let b = (bit_of(table_of(rank), p) % 2) as u8;
     if has(set, j, b) {
         rank
     } else {
-        pick(e, n, pair)
+        pick_on(e, board, pair)
     }
 }
 
 pub fn ranks_again(
     e: &[u16; ENTRIES],
-    n: u8,
+    board: u8,
     ranks: [u32; Sheet::WIRES],
     p: u8,
     set: u16,
     pairs: [u32; Sheet::WIRES],
 ) -> [u32; Sheet::WIRES]
-    requires { ⌜ Blocks (now e) × (1 ≤ n) × (n ≤ maxInputs) × (p < maxPatterns) × PairsCover n pairs ⌝ }
-    ensures { λ r. ⌜ r ≡ ranksAgain n ranks p set pairs ⌝ }
+    requires { ⌜ Lent board (now e) × (1 ≤ inputsIn board) × (inputsIn board ≤ maxInputs) × (p < maxPatterns) × PairsCover (inputsIn board) pairs ⌝ }
+    ensures { λ r. ⌜ r ≡ ranksAgain (kindIn board) (inputsIn board) ranks p set pairs ⌝ }
 {
     [
-        rank_again(e, n, ranks[0], p, 0, set, pairs[0]),
-        rank_again(e, n, ranks[1], p, 1, set, pairs[1]),
-        rank_again(e, n, ranks[2], p, 2, set, pairs[2]),
-        rank_again(e, n, ranks[3], p, 3, set, pairs[3]),
+        rank_again(e, board, ranks[0], p, 0, set, pairs[0]),
+        rank_again(e, board, ranks[1], p, 1, set, pairs[1]),
+        rank_again(e, board, ranks[2], p, 2, set, pairs[2]),
+        rank_again(e, board, ranks[3], p, 3, set, pairs[3]),
     ]
 }

@@ -11,8 +11,9 @@ use lib.Seq.{take-all, length-take-le}
 use Rattle.base.specs.Cases.{Case, refusing, refusedOutcome, refusedCase}
 use Rattle.base.specs.Refusals.{refusalAt, tooLong}
 use Rattle.base.proofs.Tests.{decide}
-use Rattle.stage.specs.Bytes.{longestStage}
-use Rattle.stage.proofs.Prefix.{front-tells}
+use Rattle.table.specs.declared.BoardKind.{BoardKind}
+use Rattle.diagram.specs.Bytes.{longestDiagrams}
+use Rattle.diagram.proofs.Forms.{form-front}
 use Rattle.quote.specs.Cases.{QuoteReply}
 use Rattle.quote.specs.Inner.Refused.{refusedQuote}
 use Rattle.quote.specs.Quote.{bufferQuoted}
@@ -21,26 +22,32 @@ use Rattle.clean.specs.Cleaned.{cleanedOf, bufferCleaned}
 use Rattle.report.specs.Lines.{sheetText, linesOf, auditLine, copyLine}
 use Rattle.printed.specs.Printed.{longestSheet, budget, lentStage, lentCopy, tooLongLine, quoted, printedOf, auditPrintedOf, cleanPrintedOf}
 
-module _ (sheet : List ℕ) where
+module _ (kind : BoardKind) (sheet : List ℕ) where
   pub quote-too-long : (q : QuoteReply) (stage : List ℕ) → q ≡ refusedQuote (refusalAt tooLong longestSheet) → longestSheet < length sheet
-      → linesOf q stage ≡ printedOf sheet
+      → linesOf q stage ≡ printedOf kind sheet
   unfolding linesOf printedOf
   quote-too-long q stage e l = rw (e, lt-ltb longestSheet (length sheet) l)
 
-  pub quote-lines : (q : QuoteReply) (stage : List ℕ) → q ≡ quoted sheet → stage ≡ bufferQuoted sheet budget lentStage → length sheet ≤ longestSheet
-      → linesOf q stage ≡ printedOf sheet
+  pub quote-lines : (q : QuoteReply) (stage : List ℕ) → q ≡ quoted kind sheet → stage ≡ bufferQuoted kind sheet budget lentStage → length sheet ≤ longestSheet
+      → linesOf q stage ≡ printedOf kind sheet
   unfolding printedOf
   quote-lines q stage eq es l = ap₂ linesOf eq es ∙ sym (rw (le-ltb longestSheet (length sheet) l))
 
   pub audit-too-long : (c : Case) (stage : List ℕ) → c ≡ refusing refusedOutcome (refusalAt tooLong longestSheet) → longestSheet < length sheet
-      → auditLine c ≡ auditPrintedOf sheet stage
+      → auditLine c ≡ auditPrintedOf kind sheet stage
   unfolding auditPrintedOf
   audit-too-long c stage e l = rw (e, lt-ltb longestSheet (length sheet) l)
 
-  pub audit-line : (c : Case) (stage : List ℕ) → c ≡ auditedOf sheet stage → length sheet ≤ longestSheet → auditLine c ≡ auditPrintedOf sheet stage
+  pub audit-line : (c : Case) (stage : List ℕ) → c ≡ auditedOf kind sheet stage → length sheet ≤ longestSheet → auditLine c ≡ auditPrintedOf kind sheet stage
   unfolding auditPrintedOf
   audit-line c stage e l = ap auditLine e ∙ sym (rw (le-ltb longestSheet (length sheet) l))
 
+  -- what the program reads of a file is enough: of a stage, one byte more than the longest of either board has
+  pub stage-front : (stage : List ℕ) → auditPrintedOf kind sheet (take (longestDiagrams + 1) stage) ≡ auditPrintedOf kind sheet stage
+  unfolding auditPrintedOf auditedOf auditedFrom
+  stage-front stage = rw (form-front kind stage (longestDiagrams + 1) (omega arith))
+
+module _ (sheet : List ℕ) where
   pub clean-too-long : (c : Case) (copy : List ℕ) → c ≡ refusedCase (refusalAt tooLong longestSheet) → longestSheet < length sheet
       → copyLine c copy ≡ cleanPrintedOf sheet
   unfolding copyLine cleanPrintedOf
@@ -50,11 +57,6 @@ module _ (sheet : List ℕ) where
       → copyLine c copy ≡ cleanPrintedOf sheet
   unfolding cleanPrintedOf
   clean-line c copy ec eb l = ap₂ copyLine ec eb ∙ sym (rw (le-ltb longestSheet (length sheet) l))
-
-  -- what the program reads of a file is enough: of a stage, one byte more than the longest has
-  pub stage-front : (stage : List ℕ) → auditPrintedOf sheet (take (longestStage + 1) stage) ≡ auditPrintedOf sheet stage
-  unfolding auditPrintedOf auditedOf auditedFrom
-  stage-front stage = rw (front-tells stage (longestStage + 1) (omega arith))
 
   -- of a sheet, one byte more than the longest that is taken: it is whole, or too long either way
   module _ {A : Type 0} (P : List ℕ → A) (refusal : A) (long : (s : List ℕ) → longestSheet < length s → P s ≡ refusal) where
@@ -69,13 +71,13 @@ module _ (sheet : List ℕ) where
         (decide (ltb longestSheet (length sheet)))
 
 -- so of every reply that refuses a longer sheet
-pub quote-front : (sheet : List ℕ) → printedOf (take (longestSheet + 1) sheet) ≡ printedOf sheet
+pub quote-front : (kind : BoardKind) (sheet : List ℕ) → printedOf kind (take (longestSheet + 1) sheet) ≡ printedOf kind sheet
 unfolding printedOf
-quote-front sheet = sheet-front sheet printedOf (tooLongLine []) (λ s l. rw (lt-ltb longestSheet (length s) l))
+quote-front kind sheet = sheet-front sheet (printedOf kind) (tooLongLine []) (λ s l. rw (lt-ltb longestSheet (length s) l))
 
-pub audit-front : (sheet stage : List ℕ) → auditPrintedOf (take (longestSheet + 1) sheet) stage ≡ auditPrintedOf sheet stage
+pub audit-front : (kind : BoardKind) (sheet stage : List ℕ) → auditPrintedOf kind (take (longestSheet + 1) sheet) stage ≡ auditPrintedOf kind sheet stage
 unfolding auditPrintedOf
-audit-front sheet stage = sheet-front sheet (λ s. auditPrintedOf s stage) (tooLongLine sheetText) (λ s l. rw (lt-ltb longestSheet (length s) l))
+audit-front kind sheet stage = sheet-front sheet (λ s. auditPrintedOf kind s stage) (tooLongLine sheetText) (λ s l. rw (lt-ltb longestSheet (length s) l))
 
 pub clean-front : (sheet : List ℕ) → cleanPrintedOf (take (longestSheet + 1) sheet) ≡ cleanPrintedOf sheet
 unfolding cleanPrintedOf

@@ -1,14 +1,16 @@
--- Document 01, "Quote, audit, program": what the program prints for a sheet, and for a sheet and a stage. Document 02, E1: for a sheet that is to be cleaned.
+-- Document 01, "Quote, audit, program": what the program prints for a sheet, and for a sheet and a stage. Document 02, E1: for a sheet
+-- that is to be cleaned; E2: quote and audit for the board that shares selectors.
 use Prim.Native.Nat.{ℕ}
 use mathlib.Core.Bool.{Bool, cond}
 use mathlib.Core.List.{List, []}
 use lib.Dec.{ltb}
 use lib.ListN.{length, replicate}
 use Rattle.base.specs.Refusals.{tooLong}
+use Rattle.table.specs.declared.BoardKind.{BoardKind}
 use Rattle.quote.specs.Cases.{QuoteReply}
 use Rattle.quote.specs.Quote.{quotedOf, bufferQuoted}
 use Rattle.quote.specs.Audit.{auditedOf}
-use Rattle.stage.specs.Bytes.{longestStage}
+use Rattle.diagram.specs.Bytes.{longestShared}
 use Rattle.clean.specs.Copy.{longestCopy}
 use Rattle.clean.specs.Cleaned.{cleanedOf, bufferCleaned}
 use Rattle.report.specs.Lines.{sheetText, refusalLine, linesOf, auditLine, copyLine}
@@ -21,9 +23,9 @@ longestSheet = 4096
 abbrev pub budget : ℕ
 budget = 10000
 
--- the buffers that the program lends: to the quote with room for the longest stage, and for a copy with room for the longest
+-- the buffers that the program lends: to the quote with room for the longest stage of either board, and for a copy with room for the longest
 abbrev pub lentStage : List ℕ
-lentStage = replicate longestStage 0
+lentStage = replicate longestShared 0
 
 abbrev pub lentCopy : List ℕ
 lentCopy = replicate longestCopy 0
@@ -37,19 +39,19 @@ abbrev pub tooLongLine : List ℕ → List ℕ
 tooLongLine whose = refusalLine whose tooLong longestSheet
 
 -- the reply of the quote to a sheet, in the numbers of its cases
-abbrev pub quoted : List ℕ → QuoteReply
-quoted sheet = quotedOf sheet budget (length lentStage)
+abbrev pub quoted : BoardKind → List ℕ → QuoteReply
+quoted kind sheet = quotedOf kind sheet budget (length lentStage)
 
 -- the lines for a sheet
-unfoldable pub printedOf : List ℕ → List ℕ
-printedOf sheet =
-    let lines = linesOf (quoted sheet) (bufferQuoted sheet budget lentStage) in
+unfoldable pub printedOf : BoardKind → List ℕ → List ℕ
+printedOf kind sheet =
+    let lines = linesOf (quoted kind sheet) (bufferQuoted kind sheet budget lentStage) in
     cond (isTooLong sheet) (tooLongLine []) lines
 
 -- the line for a sheet and a stage
-unfoldable pub auditPrintedOf : List ℕ → List ℕ → List ℕ
-auditPrintedOf sheet stage =
-    let line = auditLine (auditedOf sheet stage) in
+unfoldable pub auditPrintedOf : BoardKind → List ℕ → List ℕ → List ℕ
+auditPrintedOf kind sheet stage =
+    let line = auditLine (auditedOf kind sheet stage) in
     cond (isTooLong sheet) (tooLongLine sheetText) line
 
 -- the line for a sheet that is to be cleaned: its copy

@@ -2,10 +2,11 @@
 use base::Refusal;
 use base::Written;
 use clean::LONGEST_COPY;
+use diagram::LONGEST_SHARED;
 use quote::Audited;
 use quote::Quoted;
 use search::Mark;
-use stage::LONGEST_STAGE;
+use table::BoardKind;
 ghost use mathlib.Core.Path.{_≡_};
 ghost use Rattle.base.specs.Refusals.{refusalAt, tooLong};
 ghost use Rattle.quote.specs.Cases.{quoteReply};
@@ -38,26 +39,26 @@ fn too_long_quote() -> Quoted
     }
 }
 
-// The lines for a sheet.
-pub fn quote_reply(sheet: &[u8], out: &mut [u8]) -> usize
-    ensures { λ r. ⌜ Printed longestReport (printedOf (now (sheet .entry))) (now (out .entry)) (now (out .exit)) r ⌝ }
+// The lines for a sheet, on either board.
+pub fn quote_reply(kind: BoardKind, sheet: &[u8], out: &mut [u8]) -> usize
+    ensures { λ r. ⌜ Printed longestReport (printedOf kind (now (sheet .entry))) (now (out .entry)) (now (out .exit)) r ⌝ }
 {
-    let mut stage = [0u8; LONGEST_STAGE];
+    let mut stage = [0u8; LONGEST_SHARED];
     if LONGEST_SHEET < sheet.len() {
         return report::report(too_long_quote(), &stage, out);
     }
-    let quoted = quote::quote(sheet, BUDGET, &mut stage);
+    let quoted = quote::quote_on(kind, sheet, BUDGET, &mut stage);
     report::report(quoted, &stage, out)
 }
 
-// The line for a sheet and a stage.
-pub fn audit_reply(sheet: &[u8], stage: &[u8], out: &mut [u8]) -> usize
-    ensures { λ r. ⌜ Printed longestReport (auditPrintedOf (now (sheet .entry)) (now (stage .entry))) (now (out .entry)) (now (out .exit)) r ⌝ }
+// The line for a sheet and a stage, on either board.
+pub fn audit_reply(kind: BoardKind, sheet: &[u8], stage: &[u8], out: &mut [u8]) -> usize
+    ensures { λ r. ⌜ Printed longestReport (auditPrintedOf kind (now (sheet .entry)) (now (stage .entry))) (now (out .entry)) (now (out .exit)) r ⌝ }
 {
     if LONGEST_SHEET < sheet.len() {
         return report::report_audit(Audited::SheetRefused(too_long()), out);
     }
-    let audited = quote::audit(sheet, stage);
+    let audited = quote::audit_on(kind, sheet, stage);
     report::report_audit(audited, out)
 }
 

@@ -1,13 +1,13 @@
--- What a search of a relation that passes its test writes: its own stage, and the promise told by stages drawn as trees.
+-- What a search of a relation that passes its test writes: its own stage, and the promise told by stages drawn, on either board.
 use Prim.Native.Nat.{ℕ, _^_, _<_, _≤_}
-use mathlib.Core.Path.{_≡_}
+use mathlib.Core.Path.{_≡_, subst}
 use mathlib.Core.Bool.{cond, not}
-use mathlib.Core.List.{List}
+use mathlib.Core.List.{List, map}
 use native.Mathlib.Omega.{arith}
 use borrow.Author.Tests.{lt-leb, le-ltb}
 use native.Mathlib.Nat.{le-refl}
 use lib.Dec.{T, ltb, leb}
-use lib.ListN.{length, getD}
+use lib.ListN.{length, getD, take}
 use Rattle.base.specs.Cases.{accepting, acceptedOutcome, acceptedCase, refusedCase}
 use Rattle.base.specs.Refusals.{refusalAt, shortBuffer}
 use Rattle.base.proofs.Lowest.{lowest-none}
@@ -15,25 +15,25 @@ use Rattle.sheet.specs.Limits.{isBeyond}
 use Rattle.sheet.specs.Inner.Sized.{Sized}
 use Rattle.sheet.proofs.Sizes.{sizes-fit}
 use Rattle.table.specs.Drawing.{got, drawnCells}
-use Rattle.table.specs.Tree.{Tree}
+use Rattle.table.specs.declared.BoardKind.{BoardKind}
 use Rattle.relation.specs.declared.Relation.{Relation}
 use Rattle.relation.specs.Families.{Family}
 use Rattle.relation.specs.Handed.{relationOf, checkOf}
 use Rattle.relation.proofs.Fits.{Fit, check-well-formed}
 use Rattle.branch_bound.specs.declared.State.{State}
 use Rattle.branch_bound.specs.Search.{floor, run}
-use Rattle.branch_bound.specs.TreeBoard.{tree}
+use Rattle.branch_bound.specs.Boards.{boardOf}
 use Rattle.branch_bound.specs.Smallest.{Smallest}
 use Rattle.branch_bound.specs.SearchPromise.{Promise}
 use Rattle.branch_bound.proofs.Families.{fair, smallest}
 use Rattle.branch_bound.proofs.Treating.{run-promise}
-use Rattle.stage.specs.Trees.{treeDrawing}
-use Rattle.stage.specs.Read.{readStage}
-use Rattle.stage.specs.Written.{stageTrees, stageOf, firstOut, writtenOf}
+use Rattle.stage.specs.Read.{readSheet}
+use Rattle.stage.specs.Written.{stageDrawn, stageOf, firstOut, writtenOf}
 use Rattle.stage.proofs.Sheets.{written-back}
-use Rattle.stage.proofs.TreeCounts.{tree-counts}
+use Rattle.diagram.specs.Forms.{formOf, drawingOf}
+use Rattle.diagram.proofs.Forms.{form-laws, form-fair, form-reduces}
 
-module _ (r : Relation) (passes : checkOf r ≡ acceptedCase) (budget : ℕ) where
+module _ (kind : BoardKind) (r : Relation) (passes : checkOf r ≡ acceptedCase) (budget : ℕ) where
   fit : Fit r
   fit = check-well-formed r passes
 
@@ -41,41 +41,43 @@ module _ (r : Relation) (passes : checkOf r ≡ acceptedCase) (budget : ℕ) whe
   sized = fit .sizes
 
   abbrev pub found : State
-  found = run (tree (r .n) (r .m)) budget (relationOf r)
+  found = run (boardOf kind (r .n) (r .m)) budget (relationOf r)
 
-  kept : Promise (tree (r .n) (r .m)) budget (relationOf r) (run (tree (r .n) (r .m)) budget (relationOf r))
-  unfolding tree
-  kept = run-promise (tree (r .n) (r .m)) (fair (r .n) (r .m) (sized .m-most)) budget (relationOf r) (fit .well-defined)
+  kept : Promise (boardOf kind (r .n) (r .m)) budget (relationOf r) (run (boardOf kind (r .n) (r .m)) budget (relationOf r))
+  unfolding boardOf
+  kept = run-promise (boardOf kind (r .n) (r .m)) (fair kind (r .n) (r .m) (sized .m-most)) budget (relationOf r) (fit .well-defined)
 
   long : r .m ≤ length (found .tables)
   long = omega (arith, kept .so-far .long, sized .m-most)
 
   in-range : (j : ℕ) → j < r .m → getD (found .tables) j 0 < 2 ^ (2 ^ r .n)
-  unfolding tree
+  unfolding boardOf
   in-range j l = kept .so-far .stage j l
 
-  abbrev pub trees : List Tree
-  trees = stageTrees (r .n) (r .m) (found .tables)
+  abbrev pub drawn : List (drawingOf kind .Shape)
+  drawn = stageDrawn (formOf kind) (r .n) (r .m) (found .tables)
 
-  told : Smallest treeDrawing (tree (r .n) (r .m)) budget (relationOf r) (run (tree (r .n) (r .m)) budget (relationOf r)) trees
-  unfolding tree stageTrees tree-counts
-  told = smallest treeDrawing (tree (r .n) (r .m)) (tree-counts (r .n)) (fair (r .n) (r .m) (sized .m-most)) budget (relationOf r) (fit .well-defined)
+  told : Smallest (drawingOf kind) (boardOf kind (r .n) (r .m)) budget (relationOf r) (run (boardOf kind (r .n) (r .m)) budget (relationOf r)) drawn
+  unfolding boardOf stageDrawn
+  told =
+      subst (λ f. Smallest (drawingOf kind) (boardOf kind (r .n) (r .m)) budget (relationOf r) found (map f (take (r .m) (found .tables)))) (form-reduces kind (r .n) (sized .n-most))
+      (smallest (drawingOf kind) (boardOf kind (r .n) (r .m)) (form-fair kind (r .n) (sized .n-most)) (fair kind (r .n) (r .m) (sized .m-most)) budget (relationOf r) (fit .well-defined))
 
   -- the stage written is compatible and has exactly the cells found
-  pub own-family : Family treeDrawing (r .n) (r .m) (relationOf r) trees
-  unfolding tree
+  pub own-family : Family (drawingOf kind) (r .n) (r .m) (relationOf r) drawn
+  unfolding boardOf
   own-family = told .family
 
-  pub own-cells : drawnCells treeDrawing trees ≡ found .cells
+  pub own-cells : drawnCells (drawingOf kind) drawn ≡ found .cells
   own-cells = told .counted
 
-  -- no stage of trees that keeps to the relation has fewer selectors
-  pub above : (x : List Tree) → Family treeDrawing (r .n) (r .m) (relationOf r) x → floor (tree (r .n) (r .m)) (relationOf r) ≤ drawnCells treeDrawing x
-  unfolding tree
+  -- no stage drawn that keeps to the relation has fewer cells
+  pub above : (x : List (drawingOf kind .Shape)) → Family (drawingOf kind) (r .n) (r .m) (relationOf r) x → floor (boardOf kind (r .n) (r .m)) (relationOf r) ≤ drawnCells (drawingOf kind) x
+  unfolding boardOf
   above = told .above
 
-  pub best : T (not (found .stopped)) → (x : List Tree) → Family treeDrawing (r .n) (r .m) (relationOf r) x → found .cells ≤ drawnCells treeDrawing x
-  unfolding tree
+  pub best : T (not (found .stopped)) → (x : List (drawingOf kind .Shape)) → Family (drawingOf kind) (r .n) (r .m) (relationOf r) x → found .cells ≤ drawnCells (drawingOf kind) x
+  unfolding boardOf
   best = told .best
 
   pub within : found .visits ≤ budget
@@ -86,9 +88,9 @@ module _ (r : Relation) (passes : checkOf r ≡ acceptedCase) (budget : ℕ) whe
 
   -- the writer refuses nothing but a short buffer
   pub written : (room : ℕ)
-      → writtenOf (r .n) (r .m) (found .tables) room
-      ≡ cond (ltb room (length (stageOf (r .n) (r .m) (found .tables)))) (refusedCase (refusalAt shortBuffer (length (stageOf (r .n) (r .m) (found .tables)))))
-      (accepting acceptedOutcome (length (stageOf (r .n) (r .m) (found .tables))))
+      → writtenOf (formOf kind) (r .n) (r .m) (found .tables) room
+      ≡ cond (ltb room (length (stageOf (formOf kind) (r .n) (r .m) (found .tables)))) (refusedCase (refusalAt shortBuffer (length (stageOf (formOf kind) (r .n) (r .m) (found .tables)))))
+      (accepting acceptedOutcome (length (stageOf (formOf kind) (r .n) (r .m) (found .tables))))
   unfolding writtenOf firstOut
   written room =
       rw (
@@ -100,5 +102,5 @@ module _ (r : Relation) (passes : checkOf r ≡ acceptedCase) (budget : ℕ) whe
       nleb : (k x : ℕ) → x < k → T (not (leb k x))
       nleb k x h = rw (lt-leb k x h) tt
 
-  pub read-back : readStage (stageOf (r .n) (r .m) (found .tables)) ≡ got (r .n) (r .m) trees
-  read-back = written-back (r .n) (r .m) (found .tables) sized long in-range
+  pub read-back : readSheet (formOf kind) (stageOf (formOf kind) (r .n) (r .m) (found .tables)) ≡ got (r .n) (r .m) drawn
+  read-back = written-back (formOf kind) (form-laws kind) (r .n) (r .m) (found .tables) sized long in-range

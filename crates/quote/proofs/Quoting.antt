@@ -6,6 +6,7 @@ use mathlib.Core.List.{List}
 use lib.ListN.{length}
 use Rattle.base.specs.declared.Refusal.{Refusal}
 use Rattle.base.specs.Cases.{Case, isRefused}
+use Rattle.table.specs.declared.BoardKind.{BoardKind}
 use Rattle.relation.specs.declared.Relation.{Relation}
 use Rattle.search.specs.declared.Answer.{Answer}
 use Rattle.search.specs.declared.Mark.the-variants.{Refused}
@@ -15,7 +16,7 @@ use Rattle.base.specs.declared.Verdict.the-variants.{Accepted, Refused as Sheet
 use Rattle.base.specs.declared.Written.{Written}
 use Rattle.base.specs.declared.Written.the-variants.{Length, Refused as NotWritten}
 use Rattle.base.specs.Cases.{writtenCase}
-use Rattle.stage.specs.Trees.{treeDrawing}
+use Rattle.diagram.specs.Forms.{formOf, drawingOf}
 use Rattle.stage.specs.Written.{writtenOf, bufferAfter}
 use Rattle.unit.specs.declared.Formed.{Formed}
 use Rattle.unit.specs.Cases.{formedReply}
@@ -38,31 +39,31 @@ module _ (a : Answer) (w : Written) {x : Case} (e : writtenCase w ≡ x) where
   unfolding withStage
   with-refusal f d eq = eq ∙ rw (← (ap writtenCase (sym d) ∙ e))
 
-module _ (r : Relation) (budget : ℕ) (buffer : List ℕ) (a : Answer) (ea : searchReply a ≡ searchOf r budget) where
+module _ (kind : BoardKind) (r : Relation) (budget : ℕ) (buffer : List ℕ) (a : Answer) (ea : searchReply a ≡ searchOf kind r budget) where
   -- the search has a stage
   pub with-stage : {q : QuoteReply} {b : List ℕ} → isRefused (markCase (a .mark)) ≡ false
-      → q ≡ withStage (searchReply a) (writtenOf (r .n) (r .m) (a .tables) (length buffer))
-      → b ≡ bufferAfter (r .n) (r .m) (a .tables) buffer → (q ≡ searched r budget (length buffer)) × (b ≡ bufferSearched r budget buffer)
+      → q ≡ withStage (searchReply a) (writtenOf (formOf kind) (r .n) (r .m) (a .tables) (length buffer))
+      → b ≡ bufferAfter (formOf kind) (r .n) (r .m) (a .tables) buffer → (q ≡ searched kind r budget (length buffer)) × (b ≡ bufferSearched kind r budget buffer)
   unfolding searched bufferSearched
   with-stage h eq eb = (eq ∙ rw (← ea, h), eb ∙ rw (← ea, h))
 
   -- the search refuses the relation
   pub no-stage : {q : QuoteReply} (f : Refusal) → a .mark ≡ Refused f → q ≡ refusedQuote f
-      → (q ≡ searched r budget (length buffer)) × (buffer ≡ bufferSearched r budget buffer)
+      → (q ≡ searched kind r budget (length buffer)) × (buffer ≡ bufferSearched kind r budget buffer)
   unfolding searched bufferSearched
   no-stage f e eq = (eq ∙ rw (← ea, e), rw (← ea, e))
 
 -- the whole quote, from what forming the relation gave
-module _ (sheet : List ℕ) (budget : ℕ) (buffer : List ℕ) (f : Formed) (ef : formedReply f ≡ formedOf sheet) where
+module _ (kind : BoardKind) (sheet : List ℕ) (budget : ℕ) (buffer : List ℕ) (f : Formed) (ef : formedReply f ≡ formedOf sheet) where
   -- the three clauses of the quote's contract
   abbrev pub ClausesKept : QuoteReply → List ℕ → Type 0
-  ClausesKept q b = (q ≡ quotedOf sheet budget (length buffer)) × ((b ≡ bufferQuoted sheet budget buffer) × Promised treeDrawing sheet budget q b)
+  ClausesKept q b = (q ≡ quotedOf kind sheet budget (length buffer)) × ((b ≡ bufferQuoted kind sheet budget buffer) × Promised (drawingOf kind) sheet budget q b)
 
-  clauses : {q : QuoteReply} {b : List ℕ} → q ≡ quotedOf sheet budget (length buffer) → b ≡ bufferQuoted sheet budget buffer → ClausesKept q b
-  clauses eq eb = (eq, (eb, rw (eq, eb) (promised sheet budget buffer)))
+  clauses : {q : QuoteReply} {b : List ℕ} → q ≡ quotedOf kind sheet budget (length buffer) → b ≡ bufferQuoted kind sheet budget buffer → ClausesKept q b
+  clauses eq eb = (eq, (eb, rw (eq, eb) (promised kind sheet budget buffer)))
 
-  pub formed-quote : {q : QuoteReply} {b : List ℕ} → f .answer ≡ Accepted → q ≡ searched (f .relation) budget (length buffer)
-      → b ≡ bufferSearched (f .relation) budget buffer → ClausesKept q b
+  pub formed-quote : {q : QuoteReply} {b : List ℕ} → f .answer ≡ Accepted → q ≡ searched kind (f .relation) budget (length buffer)
+      → b ≡ bufferSearched kind (f .relation) budget buffer → ClausesKept q b
   unfolding quotedOf bufferQuoted
   formed-quote h eq eb = clauses (eq ∙ rw (← ef, h)) (eb ∙ rw (← ef, h))
 

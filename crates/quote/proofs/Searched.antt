@@ -13,22 +13,22 @@ use Rattle.base.specs.declared.Refusal.{Refusal}
 use Rattle.base.specs.Cases.{Case, accepting, acceptedOutcome, acceptedCase, refusedCase, isRefused}
 use Rattle.base.specs.Refusals.{refusalAt, empty, shortBuffer}
 use Rattle.base.proofs.Tests.{decide}
-use Rattle.table.specs.Tree.{Tree}
+use Rattle.table.specs.declared.BoardKind.{BoardKind}
 use Rattle.relation.specs.declared.Relation.{Relation}
 use Rattle.relation.specs.Families.{Family}
 use Rattle.relation.specs.Handed.{relationOf, checkOf}
 use Rattle.branch_bound.specs.Reply.{SearchReply, markOf, answerOf}
 use Rattle.branch_bound.specs.Search.{floor}
-use Rattle.branch_bound.specs.TreeBoard.{tree}
+use Rattle.branch_bound.specs.Boards.{boardOf}
 use Rattle.search.proofs.Entry.{answered}
 use Rattle.sheet.specs.declared.Command.{Command}
 use Rattle.sheet.specs.Commands.{inputsOf, wiresOf}
 use Rattle.sheet.specs.Judged.{holds}
 use Rattle.reader.specs.Reading.{readingOf}
 use Rattle.sheet.specs.Limits.{maxPatterns}
-use Rattle.table.specs.Drawing.{got, drawnCells}
-use Rattle.stage.specs.Trees.{treeDrawing}
-use Rattle.stage.specs.Read.{readStage}
+use Rattle.table.specs.Drawing.{Drawing, got, drawnCells}
+use Rattle.stage.specs.Read.{readSheet}
+use Rattle.diagram.specs.Forms.{formOf, drawingOf}
 use Rattle.base.specs.Buffers.{bufferWith}
 use Rattle.stage.specs.Written.{stageOf, writtenOf, bufferAfter}
 use Rattle.unit.specs.Rival.{Rival}
@@ -36,12 +36,12 @@ use Rattle.unit.proofs.Rivals.{commands-only}
 use Rattle.quote.specs.Quote.{noQuote, withStage, searched, bufferSearched}
 use Rattle.quote.specs.Inner.Refused.{refusedQuote}
 use Rattle.quote.specs.Promised.{RivalStage, NoRival, Promised}
-use Rattle.quote.proofs.Own.{found, trees, own-family, own-cells, above, best, within, spent, written, read-back}
+use Rattle.quote.proofs.Own.{found, drawn, own-family, own-cells, above, best, within, spent, written, read-back}
 
 -- a refused quote
-pub refused-promise : (sheet : List ℕ) (budget : ℕ) (buffer : List ℕ) (f : Refusal) → ((f .number ≡ empty) ↔ NoRival treeDrawing sheet)
-    → Promised treeDrawing sheet budget (refusedQuote f) buffer
-refused-promise sheet budget buffer f ten =
+pub refused-promise : (D : Drawing) (sheet : List ℕ) (budget : ℕ) (buffer : List ℕ) (f : Refusal) → ((f .number ≡ empty) ↔ NoRival D sheet)
+    → Promised D sheet budget (refusedQuote f) buffer
+refused-promise D sheet budget buffer f ten =
     record {
       best = λ e. absurd (omega arith);
       stopped = λ e. absurd (omega arith);
@@ -52,61 +52,61 @@ refused-promise sheet budget buffer f ten =
     }
 
 -- another number than 10, where a rival exists
-other-number : (sheet : List ℕ) (f : Refusal) (x : List Tree) → Rival treeDrawing sheet x → (f .number ≡ empty → ⊥)
-    → ((f .number ≡ empty) ↔ NoRival treeDrawing sheet)
-other-number sheet f x r ne = (λ e. absurd (ne e), λ h. absurd (h .none x r))
+other-number : (D : Drawing) (sheet : List ℕ) (f : Refusal) (x : List (D .Shape)) → Rival D sheet x → (f .number ≡ empty → ⊥)
+    → ((f .number ≡ empty) ↔ NoRival D sheet)
+other-number D sheet f x r ne = (λ e. absurd (ne e), λ h. absurd (h .none x r))
 
 -- what the stage reader takes, with the sizes of a relation that are the sheet's
-module _ (sheet : List ℕ) (cs : List Command) (held : readingOf sheet ≡ holds cs) (r : Relation) (en : r .n ≡ inputsOf cs) (em : r .m ≡ wiresOf cs)
+module _ (kind : BoardKind) (sheet : List ℕ) (cs : List Command) (held : readingOf sheet ≡ holds cs) (r : Relation) (en : r .n ≡ inputsOf cs) (em : r .m ≡ wiresOf cs)
     (long : length (r .sets) ≡ maxPatterns) (passes : checkOf r ≡ acceptedCase)
-    (rivals : (x : List Tree) → Rival treeDrawing sheet x ↔ Family treeDrawing (r .n) (r .m) (relationOf r) x) (budget : ℕ) where
-  own-rival : Rival treeDrawing sheet (trees r passes budget)
-  own-rival = rivals (trees r passes budget) .1 (own-family r passes budget)
+    (rivals : (x : List (drawingOf kind .Shape)) → Rival (drawingOf kind) sheet x ↔ Family (drawingOf kind) (r .n) (r .m) (relationOf r) x) (budget : ℕ) where
+  own-rival : Rival (drawingOf kind) sheet (drawn kind r passes budget)
+  own-rival = rivals (drawn kind r passes budget) .1 (own-family kind r passes budget)
 
-  own-stage : (bytes : List ℕ) → readStage bytes ≡ got (r .n) (r .m) (trees r passes budget) → RivalStage treeDrawing sheet bytes (found r passes budget .cells)
+  own-stage : (bytes : List ℕ) → readSheet (formOf kind) bytes ≡ got (r .n) (r .m) (drawn kind r passes budget) → RivalStage (drawingOf kind) sheet bytes (found kind r passes budget .cells)
   own-stage bytes e =
       let c : own-rival .commands ≡ cs = commands-only sheet (own-rival .commands) cs (own-rival .held) held in
       record {
-        stage = trees r passes budget;
+        stage = drawn kind r passes budget;
         rival = own-rival;
-        taken = e ∙ ap₂ (λ n m. got n m (trees r passes budget)) (en ∙ ap inputsOf (sym c)) (em ∙ ap wiresOf (sym c));
-        counted = own-cells r passes budget;
+        taken = e ∙ ap₂ (λ n m. got n m (drawn kind r passes budget)) (en ∙ ap inputsOf (sym c)) (em ∙ ap wiresOf (sym c));
+        counted = own-cells kind r passes budget;
       }
 
   abbrev stage : List ℕ
-  stage = stageOf (r .n) (r .m) (found r passes budget .tables)
+  stage = stageOf (formOf kind) (r .n) (r .m) (found kind r passes budget .tables)
 
   abbrev answer : Bool → SearchReply
   answer b =
       record {
-        tables = found r passes budget .tables;
-        cells = found r passes budget .cells;
-        floor = cond b (floor (tree (r .n) (r .m)) (relationOf r)) (found r passes budget .cells);
-        visits = found r passes budget .visits;
+        tables = found kind r passes budget .tables;
+        cells = found kind r passes budget .cells;
+        floor = cond b (floor (boardOf kind (r .n) (r .m)) (relationOf r)) (found kind r passes budget .cells);
+        visits = found kind r passes budget .visits;
         mark = markOf b;
       }
 
-  own-written : (buffer : List ℕ) → RivalStage treeDrawing sheet (take (length stage) (stage ++ drop (length stage) buffer)) (found r passes budget .cells)
+  own-written : (buffer : List ℕ) → RivalStage (drawingOf kind) sheet (take (length stage) (stage ++ drop (length stage) buffer)) (found kind r passes budget .cells)
   own-written buffer =
       own-stage (take (length stage) (stage ++ drop (length stage) buffer))
-      (ap readStage (take-at stage (drop (length stage) buffer) (length stage) refl) ∙ read-back r passes budget)
+      (ap (readSheet (formOf kind)) (take-at stage (drop (length stage) buffer) (length stage) refl) ∙ read-back kind r passes budget)
 
   -- nothing is refused, and the own stage is a rival
-  not-ten : (0 ≡ empty) ↔ NoRival treeDrawing sheet
-  not-ten = (λ h. absurd (omega arith), λ h. absurd (h .none (trees r passes budget) own-rival))
+  not-ten : (0 ≡ empty) ↔ NoRival (drawingOf kind) sheet
+  not-ten = (λ h. absurd (omega arith), λ h. absurd (h .none (drawn kind r passes budget) own-rival))
 
   -- the stage is written: what the mark promises, and what every mark does
   with-mark : (b : Bool) (buffer : List ℕ)
-      → (T (not b) → (x : List Tree) → Rival treeDrawing sheet x → found r passes budget .cells ≤ drawnCells treeDrawing x)
-      → (T b → found r passes budget .visits ≡ budget)
-      → Promised treeDrawing sheet budget (withStage (answer b) (accepting acceptedOutcome (length stage))) (stage ++ drop (length stage) buffer)
+      → (T (not b) → (x : List (drawingOf kind .Shape)) → Rival (drawingOf kind) sheet x → found kind r passes budget .cells ≤ drawnCells (drawingOf kind) x)
+      → (T b → found kind r passes budget .visits ≡ budget)
+      → Promised (drawingOf kind) sheet budget (withStage (answer b) (accepting acceptedOutcome (length stage))) (stage ++ drop (length stage) buffer)
   unfolding withStage markOf
   with-mark true buffer least used =
       record {
         best = λ h. absurd (omega arith);
-        stopped = λ _ x v. above r passes budget x (rivals x .0 v);
+        stopped = λ _ x v. above kind r passes budget x (rivals x .0 v);
         own = λ _. own-written buffer;
-        within = within r passes budget;
+        within = within kind r passes budget;
         spent = λ _. used tt;
         refused = not-ten;
       }
@@ -115,46 +115,46 @@ module _ (sheet : List ℕ) (cs : List Command) (held : readingOf sheet ≡ hold
         best = λ _. least tt;
         stopped = λ h. absurd (omega arith);
         own = λ _. own-written buffer;
-        within = within r passes budget;
+        within = within kind r passes budget;
         spent = λ h. absurd (omega arith);
         refused = not-ten;
       }
 
-  written-promise : (b : Bool) → found r passes budget .stopped ≡ b → (buffer : List ℕ)
-      → Promised treeDrawing sheet budget (withStage (answer b) (accepting acceptedOutcome (length stage))) (stage ++ drop (length stage) buffer)
+  written-promise : (b : Bool) → found kind r passes budget .stopped ≡ b → (buffer : List ℕ)
+      → Promised (drawingOf kind) sheet budget (withStage (answer b) (accepting acceptedOutcome (length stage))) (stage ++ drop (length stage) buffer)
   written-promise b e buffer =
-      with-mark b buffer (λ h x v. best r passes budget (subst (λ c. T (not c)) (sym e) h) x (rivals x .0 v)) (λ h. spent r passes budget (subst T (sym e) h))
+      with-mark b buffer (λ h x v. best kind r passes budget (subst (λ c. T (not c)) (sym e) h) x (rivals x .0 v)) (λ h. spent kind r passes budget (subst T (sym e) h))
 
   -- the writer's answer, either way
-  either : (b : Bool) → found r passes budget .stopped ≡ b → (buffer : List ℕ) (w : Case)
+  either : (b : Bool) → found kind r passes budget .stopped ≡ b → (buffer : List ℕ) (w : Case)
       → w ≡ cond (ltb (length buffer) (length stage)) (refusedCase (refusalAt shortBuffer (length stage))) (accepting acceptedOutcome (length stage))
-      → Promised treeDrawing sheet budget (withStage (answer b) w) (bufferWith stage buffer w)
+      → Promised (drawingOf kind) sheet budget (withStage (answer b) w) (bufferWith stage buffer w)
   unfolding withStage
   either b e buffer w ew =
       ⊎-elim
       (λ t.
       let ew′ : w ≡ refusedCase (refusalAt shortBuffer (length stage)) =
       ew ∙ rw (lt-ltb (length buffer) (length stage) (ltb→lt (length buffer) (length stage) t)) in
-      rw ew′ (refused-promise sheet budget buffer (refusalAt shortBuffer (length stage))
-      (other-number sheet (refusalAt shortBuffer (length stage)) (trees r passes budget) own-rival (λ h. omega arith))))
+      rw ew′ (refused-promise (drawingOf kind) sheet budget buffer (refusalAt shortBuffer (length stage))
+      (other-number (drawingOf kind) sheet (refusalAt shortBuffer (length stage)) (drawn kind r passes budget) own-rival (λ h. omega arith))))
       (λ t.
       let ew′ : w ≡ accepting acceptedOutcome (length stage) = ew ∙ rw (le-ltb (length buffer) (length stage) (nltb→le (length buffer) (length stage) t)) in
       rw ew′ (written-promise b e buffer))
       (decide (ltb (length buffer) (length stage)))
 
   -- the whole search and its stage
-  marked : (b : Bool) → found r passes budget .stopped ≡ b → (buffer : List ℕ) (w : Case)
+  marked : (b : Bool) → found kind r passes budget .stopped ≡ b → (buffer : List ℕ) (w : Case)
       → w ≡ cond (ltb (length buffer) (length stage)) (refusedCase (refusalAt shortBuffer (length stage))) (accepting acceptedOutcome (length stage))
-      → Promised treeDrawing sheet budget (cond (isRefused (markOf b)) (noQuote (markOf b)) (withStage (answer b) w))
+      → Promised (drawingOf kind) sheet budget (cond (isRefused (markOf b)) (noQuote (markOf b)) (withStage (answer b) w))
       (cond (isRefused (markOf b)) buffer (bufferWith stage buffer w))
   unfolding markOf
   marked true e buffer w ew = either true e buffer w ew
   marked false e buffer w ew = either false e buffer w ew
 
-  pub searched-promise : (buffer : List ℕ) → Promised treeDrawing sheet budget (searched r budget (length buffer)) (bufferSearched r budget buffer)
+  pub searched-promise : (buffer : List ℕ) → Promised (drawingOf kind) sheet budget (searched kind r budget (length buffer)) (bufferSearched kind r budget buffer)
   unfolding searched bufferSearched bufferAfter answerOf
   searched-promise buffer =
-      rw (answered r long passes budget)
-      (marked (found r passes budget .stopped) refl buffer
-      (writtenOf (r .n) (r .m) (found r passes budget .tables) (length buffer))
-      (written r passes budget (length buffer)))
+      rw (answered r long passes kind budget)
+      (marked (found kind r passes budget .stopped) refl buffer
+      (writtenOf (formOf kind) (r .n) (r .m) (found kind r passes budget .tables) (length buffer))
+      (written kind r passes budget (length buffer)))

@@ -1,10 +1,13 @@
--- Document 01, "Quote, audit, program": a sheet's relation is searched and the stage found is written. The refusals are the sheet's own, then 10, then 12.
+-- Document 01, "Quote, audit, program": a sheet's relation is searched and the stage found is written, for either board. The refusals are the sheet's own,
+-- then 10, then 12.
 use Prim.Native.Nat.{ℕ, zero}
 use mathlib.Core.Bool.{cond}
 use mathlib.Core.List.{List}
 use Rattle.base.specs.Cases.{Case, isRefused}
+use Rattle.table.specs.declared.BoardKind.{BoardKind}
 use Rattle.relation.specs.declared.Relation.{Relation}
 use Rattle.branch_bound.specs.Reply.{SearchReply, searchOf}
+use Rattle.diagram.specs.Forms.{formOf}
 use Rattle.stage.specs.Written.{writtenOf, bufferAfter}
 use Rattle.unit.specs.Formed.{formedOf}
 use Rattle.quote.specs.Cases.{QuoteReply}
@@ -20,29 +23,29 @@ withStage a w =
     cond (isRefused w) (noQuote w) q
 
 -- the search of the relation formed, and the stage of its tables in a buffer of so many bytes
-unfoldable pub searched : Relation → ℕ → ℕ → QuoteReply
-searched r budget room =
-    let a = searchOf r budget in
-    let q = withStage a (writtenOf (r .n) (r .m) (a .tables) room) in
+unfoldable pub searched : BoardKind → Relation → ℕ → ℕ → QuoteReply
+searched kind r budget room =
+    let a = searchOf kind r budget in
+    let q = withStage a (writtenOf (formOf kind) (r .n) (r .m) (a .tables) room) in
     cond (isRefused (a .mark)) (noQuote (a .mark)) q
 
 -- the reply to the bytes of a sheet, a budget, and a buffer of so many bytes
-unfoldable pub quotedOf : List ℕ → ℕ → ℕ → QuoteReply
-quotedOf sheet budget room =
+unfoldable pub quotedOf : BoardKind → List ℕ → ℕ → ℕ → QuoteReply
+quotedOf kind sheet budget room =
     let f = formedOf sheet in
-    let q = searched (f .relation) budget room in
+    let q = searched kind (f .relation) budget room in
     cond (isRefused (f .answer)) (noQuote (f .answer)) q
 
 -- the buffer after the search of a relation: a refusal leaves it as it was
-unfoldable pub bufferSearched : Relation → ℕ → List ℕ → List ℕ
-bufferSearched r budget buffer =
-    let a = searchOf r budget in
-    let after = bufferAfter (r .n) (r .m) (a .tables) buffer in
+unfoldable pub bufferSearched : BoardKind → Relation → ℕ → List ℕ → List ℕ
+bufferSearched kind r budget buffer =
+    let a = searchOf kind r budget in
+    let after = bufferAfter (formOf kind) (r .n) (r .m) (a .tables) buffer in
     cond (isRefused (a .mark)) buffer after
 
 -- what the lent buffer holds after the quote
-unfoldable pub bufferQuoted : List ℕ → ℕ → List ℕ → List ℕ
-bufferQuoted sheet budget buffer =
+unfoldable pub bufferQuoted : BoardKind → List ℕ → ℕ → List ℕ → List ℕ
+bufferQuoted kind sheet budget buffer =
     let f = formedOf sheet in
-    let after = bufferSearched (f .relation) budget buffer in
+    let after = bufferSearched kind (f .relation) budget buffer in
     cond (isRefused (f .answer)) buffer after

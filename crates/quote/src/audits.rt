@@ -7,7 +7,8 @@ use relation::patterns::value_of;
 use relation::values::contains;
 use sheet::Sheet;
 use sheet::limits::patterns_of;
-use stage_reader::read_stage;
+use stage_reader::read_on;
+use table::BoardKind;
 ghost use mathlib.Core.Path.{_≡_};
 ghost use Prim.Native.Nat.{_≤_, _^_};
 ghost use Rattle.sheet.specs.Limits.{maxInputs, maxWires};
@@ -15,7 +16,8 @@ ghost use Rattle.table.specs.Bits.{all};
 ghost use Rattle.relation.specs.Source.{value};
 ghost use Rattle.relation.specs.Tests.{ofSets};
 ghost use Rattle.table.specs.Cells.{wires};
-ghost use Rattle.stage.specs.Read.{readStage};
+ghost use Rattle.stage.specs.Read.{readSheet};
+ghost use Rattle.diagram.specs.Forms.{formOf, drawingOf};
 ghost use Rattle.base.specs.declared.Refusal.{Refusal};
 ghost use Rattle.base.specs.declared.Verdict.the-variants.{Refused as NotTaken};
 ghost use Rattle.quote.specs.declared.Audited.the-variants.{StageRefused};
@@ -48,10 +50,10 @@ fn refused_stage(answer: Verdict) -> Audited
 }
 
 // The audit of a stage sheet against a relation. Sizes and values are looked at only where the stage sheet can be read.
-pub fn audit_stage(relation: Relation, s: &[u8]) -> Audited
-    ensures { λ r. ⌜ auditedCase r ≡ auditedStage relation (readStage (now (s .entry))) ⌝ }
+pub fn audit_stage(kind: BoardKind, relation: Relation, s: &[u8]) -> Audited
+    ensures { λ r. ⌜ auditedCase r ≡ auditedStage (drawingOf kind) relation (readSheet (formOf kind) (now (s .entry))) ⌝ }
 {
-    let read = read_stage(s);
+    let read = read_on(kind, s);
     let answer = read.answer;
     let Verdict::Accepted = answer else {
         return refused_stage(answer);

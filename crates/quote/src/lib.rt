@@ -1,10 +1,14 @@
-// The quote, from a unit sheet to the smallest stage, and the audit of a stage.
+// The quote, from a unit sheet to the smallest stage, and the audit of a stage; each for either board.
 use base::Refusal;
 use base::Verdict;
 use search::Mark;
+use table::BoardKind;
 ghost use mathlib.Core.Path.{_≡_};
 ghost use lib.ListN.{length};
+ghost use Rattle.table.specs.declared.BoardKind.the-variants.{Tree, Sharing};
 ghost use Rattle.stage.specs.Trees.{treeDrawing};
+ghost use Rattle.diagram.specs.Diagrams.{diagramDrawing};
+ghost use Rattle.diagram.specs.Forms.{drawingOf};
 ghost use Rattle.quote.specs.Cases.{quoteReply, auditedCase};
 ghost use Rattle.quote.specs.Quote.{quotedOf, bufferQuoted};
 ghost use Rattle.quote.specs.Promised.{Promised};
@@ -31,30 +35,62 @@ pub enum Audited {
     StageRefused(Refusal),
 }
 
-// The smallest stage for a unit sheet, written at the start of the lent buffer, or the best found under the budget; or the refusal, which writes nothing.
-pub fn quote(sheet: &[u8], budget: u32, buffer: &mut [u8]) -> Quoted
-    ensures reply { λ r. ⌜ quoteReply r ≡ quotedOf (now (sheet .entry)) budget (length (now (buffer .entry))) ⌝ }
-    ensures bytes { λ _. ⌜ now (buffer .exit) ≡ bufferQuoted (now (sheet .entry)) budget (now (buffer .entry)) ⌝ }
-    ensures promise { λ r. ⌜ Promised treeDrawing (now (sheet .entry)) budget (quoteReply r) (now (buffer .exit)) ⌝ }
+// The quote on either board.
+pub fn quote_on(kind: BoardKind, sheet: &[u8], budget: u32, buffer: &mut [u8]) -> Quoted
+    ensures reply { λ r. ⌜ quoteReply r ≡ quotedOf kind (now (sheet .entry)) budget (length (now (buffer .entry))) ⌝ }
+    ensures bytes { λ _. ⌜ now (buffer .exit) ≡ bufferQuoted kind (now (sheet .entry)) budget (now (buffer .entry)) ⌝ }
+    ensures promise { λ r. ⌜ Promised (drawingOf kind) (now (sheet .entry)) budget (quoteReply r) (now (buffer .exit)) ⌝ }
 {
     let formed = unit::form(sheet);
     let answer = formed.answer;
     let relation = formed.relation;
     match answer {
-        Verdict::Accepted => quotes::quote_relation(relation, budget, buffer),
+        Verdict::Accepted => quotes::quote_relation(kind, relation, budget, buffer),
         Verdict::Refused(refusal) => quotes::refused_quote(refusal),
+    }
+}
+
+// The smallest stage for a unit sheet, written at the start of the lent buffer, or the best found under the budget; or the refusal, which writes nothing.
+pub fn quote(sheet: &[u8], budget: u32, buffer: &mut [u8]) -> Quoted
+    ensures reply { λ r. ⌜ quoteReply r ≡ quotedOf Tree (now (sheet .entry)) budget (length (now (buffer .entry))) ⌝ }
+    ensures bytes { λ _. ⌜ now (buffer .exit) ≡ bufferQuoted Tree (now (sheet .entry)) budget (now (buffer .entry)) ⌝ }
+    ensures promise { λ r. ⌜ Promised treeDrawing (now (sheet .entry)) budget (quoteReply r) (now (buffer .exit)) ⌝ }
+{
+    quote_on(BoardKind::Tree, sheet, budget, buffer)
+}
+
+// The same on the board that shares selectors (document 02, E2): a rival is any well-formed diagrams that keep to the sheet, one for each wire.
+pub fn quote_shared(sheet: &[u8], budget: u32, buffer: &mut [u8]) -> Quoted
+    ensures reply { λ r. ⌜ quoteReply r ≡ quotedOf Sharing (now (sheet .entry)) budget (length (now (buffer .entry))) ⌝ }
+    ensures bytes { λ _. ⌜ now (buffer .exit) ≡ bufferQuoted Sharing (now (sheet .entry)) budget (now (buffer .entry)) ⌝ }
+    ensures promise { λ r. ⌜ Promised diagramDrawing (now (sheet .entry)) budget (quoteReply r) (now (buffer .exit)) ⌝ }
+{
+    quote_on(BoardKind::Sharing, sheet, budget, buffer)
+}
+
+// The audit on either board.
+pub fn audit_on(kind: BoardKind, sheet: &[u8], stage: &[u8]) -> Audited
+    ensures { λ r. ⌜ auditedCase r ≡ auditedOf kind (now (sheet .entry)) (now (stage .entry)) ⌝ }
+{
+    let formed = unit::form(sheet);
+    let answer = formed.answer;
+    let relation = formed.relation;
+    match answer {
+        Verdict::Accepted => audits::audit_stage(kind, relation, stage),
+        Verdict::Refused(refusal) => Audited::SheetRefused(refusal),
     }
 }
 
 // Whether a stage keeps to a unit sheet, and its cells. Where both sheets are at fault, the unit sheet's refusal is told.
 pub fn audit(sheet: &[u8], stage: &[u8]) -> Audited
-    ensures { λ r. ⌜ auditedCase r ≡ auditedOf (now (sheet .entry)) (now (stage .entry)) ⌝ }
+    ensures { λ r. ⌜ auditedCase r ≡ auditedOf Tree (now (sheet .entry)) (now (stage .entry)) ⌝ }
 {
-    let formed = unit::form(sheet);
-    let answer = formed.answer;
-    let relation = formed.relation;
-    match answer {
-        Verdict::Accepted => audits::audit_stage(relation, stage),
-        Verdict::Refused(refusal) => Audited::SheetRefused(refusal),
-    }
+    audit_on(BoardKind::Tree, sheet, stage)
+}
+
+// The same of a stage for the board that shares selectors.
+pub fn audit_shared(sheet: &[u8], stage: &[u8]) -> Audited
+    ensures { λ r. ⌜ auditedCase r ≡ auditedOf Sharing (now (sheet .entry)) (now (stage .entry)) ⌝ }
+{
+    audit_on(BoardKind::Sharing, sheet, stage)
 }

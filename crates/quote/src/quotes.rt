@@ -5,9 +5,12 @@ use base::Written;
 use relation::Relation;
 use search::Answer;
 use search::Mark;
-use stage_writer::write_stage;
+use search::search_on;
+use stage_writer::write_on;
+use table::BoardKind;
 ghost use mathlib.Core.Path.{_≡_};
 ghost use lib.ListN.{length};
+ghost use Rattle.diagram.specs.Forms.{formOf};
 ghost use Rattle.stage.specs.Written.{writtenOf, bufferAfter};
 ghost use Rattle.search.specs.Cases.{searchReply};
 ghost use Rattle.quote.specs.Cases.{quoteReply};
@@ -27,13 +30,13 @@ pub fn refused_quote(refusal: Refusal) -> Quoted
 }
 
 // The stage of an answer's tables, written.
-fn quote_answer(n: u8, m: u8, answer: Answer, buffer: &mut [u8]) -> Quoted
-    ensures { λ r. ⌜ (quoteReply r ≡ withStage (searchReply answer) (writtenOf n m (answer .tables) (length (now (buffer .entry)))))
-        × (now (buffer .exit) ≡ bufferAfter n m (answer .tables) (now (buffer .entry))) ⌝ }
+fn quote_answer(kind: BoardKind, n: u8, m: u8, answer: Answer, buffer: &mut [u8]) -> Quoted
+    ensures { λ r. ⌜ (quoteReply r ≡ withStage (searchReply answer) (writtenOf (formOf kind) n m (answer .tables) (length (now (buffer .entry)))))
+        × (now (buffer .exit) ≡ bufferAfter (formOf kind) n m (answer .tables) (now (buffer .entry))) ⌝ }
 {
     let tables = answer.tables;
     let mark = answer.mark;
-    let written = write_stage(n, m, tables, buffer);
+    let written = write_on(kind, n, m, tables, buffer);
     match written {
         Written::Length(length) => Quoted {
             cells: answer.cells,
@@ -47,16 +50,16 @@ fn quote_answer(n: u8, m: u8, answer: Answer, buffer: &mut [u8]) -> Quoted
 }
 
 // The relation searched, and the stage found written.
-pub fn quote_relation(relation: Relation, budget: u32, buffer: &mut [u8]) -> Quoted
-    ensures { λ r. ⌜ (quoteReply r ≡ searched relation budget (length (now (buffer .entry))))
-        × (now (buffer .exit) ≡ bufferSearched relation budget (now (buffer .entry))) ⌝ }
+pub fn quote_relation(kind: BoardKind, relation: Relation, budget: u32, buffer: &mut [u8]) -> Quoted
+    ensures { λ r. ⌜ (quoteReply r ≡ searched kind relation budget (length (now (buffer .entry))))
+        × (now (buffer .exit) ≡ bufferSearched kind relation budget (now (buffer .entry))) ⌝ }
 {
     let n = relation.n;
     let m = relation.m;
-    let answer = search::search(relation, budget);
+    let answer = search_on(kind, relation, budget);
     let mark = answer.mark;
     if let Mark::Refused(refusal) = mark {
         return refused_quote(refusal);
     }
-    quote_answer(n, m, answer, buffer)
+    quote_answer(kind, n, m, answer, buffer)
 }

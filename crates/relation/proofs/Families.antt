@@ -12,8 +12,8 @@ use Rattle.base.proofs.Lowest.{lowest-is, lowest-below}
 use Rattle.base.proofs.Tabulate.{tabulate-length, tabulate-at}
 use Rattle.table.specs.Bits.{bit, ofBits, tabulate}
 use Rattle.table.specs.Cells.{wires, total}
-use Rattle.table.specs.Drawing.{Drawing, drawnValue, drawnCells}
-use Rattle.table.specs.Inner.Drawing.{drawnTable, FairCount}
+use Rattle.table.specs.Drawing.{Drawing, drawnTable, drawnValue, drawnCells}
+use Rattle.table.specs.Inner.Drawing.{FairCount}
 use Rattle.table.proofs.Bits.{sum-cong, bit-lt, bit-ofBits, ofBits-lt, ofBits-bit}
 use Rattle.table.proofs.Drawings.{tables-lt, value-tables, value-lt, total-drawn, least, least-formed, least-value, least-cells}
 use Rattle.relation.specs.Source.{Rel, Tables, Stage, Compatible, value}

@@ -3,6 +3,7 @@
 // left as it was.
 use base::Written;
 use clean::LONGEST_COPY;
+use diagram::LONGEST_SHARED;
 use lines::put_judged;
 use lines::put_result;
 use parts::put_refusal_line;
@@ -10,7 +11,6 @@ use parts::put_shown_line;
 use quote::Audited;
 use quote::Quoted;
 use search::Mark;
-use stage::LONGEST_STAGE;
 use text::LONGEST_DECIMAL;
 ghost use Rattle.base.specs.Cases.{writtenCase};
 ghost use Rattle.quote.specs.Cases.{quoteReply, auditedCase};
@@ -31,7 +31,7 @@ const PAIR: usize = 3;
 pub const LONGEST_REPORT: usize = COUNT_NAMES
     + 3 * LONGEST_DECIMAL
     + LONGEST_WORD
-    + PAIR * LONGEST_STAGE
+    + PAIR * LONGEST_SHARED
     + 1;
 
 // And the line of a copy, at most so many.

@@ -2,8 +2,8 @@
 // Inner functions: the two reports meet what they require, bounds on lengths that are there for the sums alone.
 use crate::parts::put_counts;
 use crate::parts::put_shown_line;
+use diagram::LONGEST_SHARED;
 use quote::Quoted;
-use stage::LONGEST_STAGE;
 use text::put_byte;
 use text::put_named;
 use text::put_text;
@@ -21,7 +21,7 @@ pub fn put_result(out: &mut [u8], word: &[u8], q: Quoted, stage: &[u8]) -> usize
 {
     let counts = put_counts(out, 0, q.cells, q.floor, q.visits);
     let line = put_text(out, counts, word);
-    put_shown_line(out, line, stage, q.length, LONGEST_STAGE)
+    put_shown_line(out, line, stage, q.length, LONGEST_SHARED)
 }
 
 // Puts the line of a stage that was judged: the word of the judgement, and the stage's cells.

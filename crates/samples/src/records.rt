@@ -8,7 +8,7 @@ ghost use Prim.Native.Nat.{_+_, _*_, _≤_};
 ghost use lib.ListN.{length};
 ghost use Rattle.sheet.specs.Limits.{maxPatterns, maxWires};
 ghost use Rattle.base.specs.Inner.Put.{lastPlace};
-ghost use Rattle.samples.specs.Inner.Records.{fourAt, numbersAt, partOf, recordLength, twoAt};
+ghost use Rattle.samples.specs.Inner.Records.{callOf, fourAt, numbersAt, partOf, recordLength, twoAt};
 ghost use Rattle.samples.specs.Inner.Lengths.{longestPart, longestRecord};
 
 // The bytes of a record that has no part of its own length: n, m, a budget and the sets of a relation; n, m, a buffer's length and the tables of a stage.
@@ -81,12 +81,26 @@ pub fn part(s: &[u8], from: usize, count: usize) -> &[u8]
     &s[..0]
 }
 
+// The call that a record is for, whichever the board: the records of the board that shares selectors have the small letters.
+pub fn call_of(kind: u8) -> u8
+    ensures { λ r. ⌜ r ≡ callOf kind ⌝ }
+{
+    match kind {
+        b'q' => b'Q',
+        b'a' => b'A',
+        b's' => b'S',
+        b'w' => b'W',
+        b'r' => b'R',
+        _ => kind,
+    }
+}
+
 // The bytes of the record at a place. An unknown kind byte is a record by itself.
 pub fn record_length(s: &[u8], at: usize) -> usize
     requires { ⌜ at + longestRecord ≤ lastPlace ⌝ }
     ensures { λ r. ⌜ (r ≡ recordLength (now (s .entry)) at) × (1 ≤ r) × (r ≤ longestRecord) ⌝ }
 {
-    let kind = byte_at(s, at);
+    let kind = call_of(byte_at(s, at));
     match kind {
         b'Q' => 8 + length_at(s, at + 6),
         b'A' => 5 + length_at(s, at + 1) + length_at(s, at + 3),

@@ -15,7 +15,7 @@ use lib.Seq.{getD-set-same, getD-set-other}
 use Rattle.sheet.specs.Limits.{maxWires, maxValues}
 use Rattle.base.proofs.Tests.{decide, eq-test, test-ext}
 use Rattle.table.specs.Bits.{sum, tabulate}
-use Rattle.table.specs.Cells.{cells, wires, total}
+use Rattle.table.specs.Cells.{wires, total}
 use Rattle.table.specs.Inner.Ranks.{pickOf, rank}
 use Rattle.table.proofs.Bits.{tabulate-at, tabulate-length, sum-cong}
 use Rattle.relation.specs.Source.{Tables}
@@ -27,7 +27,9 @@ use Rattle.relation.proofs.Narrowing.{agreed-agree, agreed-narrow}
 use Rattle.base.proofs.Tabulate.{filled-tabulate}
 use Rattle.branch_bound.specs.declared.State.{State}
 use Rattle.branch_bound.specs.Search.{replyTables, pick, left, quick, start}
-use Rattle.branch_bound.specs.TreeBoard.{tree}
+use Rattle.table.specs.declared.BoardKind.{BoardKind}
+use Rattle.branch_bound.specs.Boards.{boardOf}
+use Rattle.nodes.specs.Counts.{countOf}
 use Rattle.parts.specs.Inner.Ranks.{tableIn, cellsIn, cellsSpace}
 use Rattle.sheet.specs.Inner.Sized.{Sized}
 use Rattle.parts.specs.Inner.Parts.{PartSets, rankOf}
@@ -36,21 +38,21 @@ use Rattle.parts.proofs.Keeping.{narrow, kept-pick, kept-least}
 use Rattle.parts.proofs.Packing.{rank-table, rank-cells}
 
 -- the table chosen for wire i
-abbrev chosen : ℕ → ℕ → List ℕ → Tables
-chosen n m sets i = pick (tree n m) (left (tree n m) (ofSets sets) i) i
+abbrev chosen : BoardKind → ℕ → ℕ → List ℕ → Tables
+chosen kind n m sets i = pick (boardOf kind n m) (left (boardOf kind n m) (ofSets sets) i) i
 
 -- where wires 0 to j - 1 are chosen: what is left of the sets, the tables, and their cells
-pub record ChosenBelow (n m : ℕ) (sets : List ℕ) (j : ℕ) (rest tables : List ℕ) (sums : ℕ) : Type 0 where
+pub record ChosenBelow (kind : BoardKind) (n m : ℕ) (sets : List ℕ) (j : ℕ) (rest tables : List ℕ) (sums : ℕ) : Type 0 where
   pub reached : j ≤ m
   pub kept : PartSets n m rest
-  pub is-left : ofSets rest ≡ left (tree n m) (ofSets sets) j
-  pub are-chosen : tables ≡ replyTables j (chosen n m sets)
-  pub counted : sums ≡ sum j (λ i. cells n (chosen n m sets i))
+  pub is-left : ofSets rest ≡ left (boardOf kind n m) (ofSets sets) j
+  pub are-chosen : tables ≡ replyTables j (chosen kind n m sets)
+  pub counted : sums ≡ sum j (λ i. countOf kind n (chosen kind n m sets i))
   pub few : sums ≤ j * cellsSpace
 
-pub none-taken : (n m : ℕ) (sets : List ℕ) → PartSets n m sets → ChosenBelow n m sets 0 sets (0 ∷ 0 ∷ 0 ∷ 0 ∷ []) 0
+pub none-taken : (kind : BoardKind) (n m : ℕ) (sets : List ℕ) → PartSets n m sets → ChosenBelow kind n m sets 0 sets (0 ∷ 0 ∷ 0 ∷ 0 ∷ []) 0
 unfolding left replyTables tabulate sum
-none-taken n m sets ok = record { reached = omega arith; kept = ok; is-left = refl; are-chosen = refl; counted = refl; few = omega arith }
+none-taken kind n m sets ok = record { reached = omega arith; kept = ok; is-left = refl; are-chosen = refl; counted = refl; few = omega arith }
 
 -- one table more in a row of tables
 more-tables : (j : ℕ) (X : Tables) (tables : List ℕ) → j < maxWires → tables ≡ replyTables j X → set tables j (X j) ≡ replyTables (j + 1) X
@@ -76,27 +78,27 @@ more-tables j X tables lj e =
     below q ne h = omega arith
 
 -- the next wire, from the rank of its pick
-module _ {n m : ℕ} (sz : Sized n m) {sets : List ℕ} {j : ℕ} {rest tables : List ℕ} {sums : ℕ} (tk : ChosenBelow n m sets j rest tables sums)
-    (lj : j < m) {r : ℕ} (er : r ≡ rankOf n rest j) where
-  is-chosen : pick (tree n m) (ofSets rest) j ≡ chosen n m sets j
-  is-chosen = ap (λ R. pick (tree n m) R j) (tk .is-left)
+module _ {kind : BoardKind} {n m : ℕ} (sz : Sized n m) {sets : List ℕ} {j : ℕ} {rest tables : List ℕ} {sums : ℕ} (tk : ChosenBelow kind n m sets j rest tables sums)
+    (lj : j < m) {r : ℕ} (er : r ≡ rankOf kind n rest j) where
+  is-chosen : pick (boardOf kind n m) (ofSets rest) j ≡ chosen kind n m sets j
+  is-chosen = ap (λ R. pick (boardOf kind n m) R j) (tk .is-left)
 
-  parts : (tableIn r ≡ pick (tree n m) (ofSets rest) j) × (cellsIn r ≡ cells n (pick (tree n m) (ofSets rest) j))
+  parts : (tableIn r ≡ pick (boardOf kind n m) (ofSets rest) j) × (cellsIn r ≡ countOf kind n (pick (boardOf kind n m) (ofSets rest) j))
   parts =
-      let k = kept-pick sz (tk .kept) j in
-      let t = pick (tree n m) (ofSets rest) j in
-      let l = kept-least sz (tk .kept) j .0 in
-      let e = er ∙ ap (rank n) k in
-      (ap tableIn e ∙ rank-table n t (sz .n-most) l, ap cellsIn e ∙ rank-cells n t (sz .n-most) l)
+      let k = kept-pick kind sz (tk .kept) j in
+      let t = pick (boardOf kind n m) (ofSets rest) j in
+      let l = kept-least kind sz (tk .kept) j .0 in
+      let e = er ∙ ap (rank (countOf kind n)) k in
+      (ap tableIn e ∙ rank-table (countOf kind n) n t (sz .n-most) l, ap cellsIn e ∙ rank-cells (countOf kind n) n t (sz .n-most) l)
 
   small : (p : ℕ) → getD rest p 0 < 2 ^ maxValues
   small p = lt-of-lt-of-le (tk .kept .small p) (pow-mono {i = 2 ^ m} {j = maxValues} (pow-mono {i = m} {j = maxWires} (sz .m-most)))
 
-  pub next-taken : {t s : ℕ} → t ≡ tableIn r → s ≡ cellsIn r → s < cellsSpace → ChosenBelow n m sets (j + 1) (agreed rest j t) (set tables j t) (sums + s)
-  unfolding left tree sum
+  pub next-taken : {t s : ℕ} → t ≡ tableIn r → s ≡ cellsIn r → s < cellsSpace → ChosenBelow kind n m sets (j + 1) (agreed rest j t) (set tables j t) (sums + s)
+  unfolding left boardOf sum
   next-taken {t} {s} et es ls =
       let R = ofSets rest in
-      let p = pick (tree n m) R j in
+      let p = pick (boardOf kind n m) R j in
       let tp : t ≡ p = et ∙ parts .0 in
       let ag = agreed-agree rest j t (tk .kept .long) small in
       let w = agreed-narrow n m rest j t (narrow sz (tk .kept)) in
@@ -107,23 +109,23 @@ module _ {n m : ℕ} (sz : Sized n m) {sets : List ℕ} {j : ℕ} {rest tables :
               long = w .long;
               small = w .small;
               past = w .past;
-              defined = rw (ag, tp) (agree-well-defined R j p n m (pick-fits (tree n m) R (tk .kept .defined) j));
+              defined = rw (ag, tp) (agree-well-defined R j p n m (pick-fits (boardOf kind n m) R (tk .kept .defined) j));
             };
-        is-left = ag ∙ ap (agree R j) tp ∙ ap (λ Q. agree Q j (pick (tree n m) Q j)) (tk .is-left) ∙ ap (left (tree n m) (ofSets sets)) (sym (add-one j));
-        are-chosen = ap (set tables j) (tp ∙ is-chosen) ∙ more-tables j (chosen n m sets) tables (omega (arith, sz .m-most)) (tk .are-chosen);
-        counted = ap₂ (λ x y. x + y) (tk .counted) (es ∙ parts .1 ∙ ap (cells n) is-chosen)
-            ∙ ap (λ k. sum k (λ i. cells n (chosen n m sets i))) (sym (add-one j));
+        is-left = ag ∙ ap (agree R j) tp ∙ ap (λ Q. agree Q j (pick (boardOf kind n m) Q j)) (tk .is-left) ∙ ap (left (boardOf kind n m) (ofSets sets)) (sym (add-one j));
+        are-chosen = ap (set tables j) (tp ∙ is-chosen) ∙ more-tables j (chosen kind n m sets) tables (omega (arith, sz .m-most)) (tk .are-chosen);
+        counted = ap₂ (λ x y. x + y) (tk .counted) (es ∙ parts .1 ∙ ap (countOf kind n) is-chosen)
+            ∙ ap (λ k. sum k (λ i. countOf kind n (chosen kind n m sets i))) (sym (add-one j));
         few = omega (arith, tk .few);
       }
 
 -- with all wires chosen it is the start of the search
-pub all-taken : {n m : ℕ} → Sized n m → {sets rest tables : List ℕ} {sums j : ℕ} → j ≡ m → ChosenBelow n m sets j rest tables sums
-    → _≡_ {A = State} (record { tables = tables; cells = sums; visits = 0; stopped = false }) (start (tree n m) (ofSets sets))
-unfolding start quick total tree
-all-taken {n} {m} sz {sets} {rest} {tables} {sums} {j} e tk =
-    let et : tables ≡ replyTables m (chosen n m sets) = tk .are-chosen ∙ ap (λ k. replyTables k (chosen n m sets)) e in
-    let ec : sums ≡ sum m (λ i. cells n (wires (replyTables m (chosen n m sets)) i)) =
-    tk .counted ∙ ap (λ k. sum k (λ i. cells n (chosen n m sets i))) e
-    ∙ sum-cong m (λ i. cells n (chosen n m sets i)) (λ i. cells n (wires (replyTables m (chosen n m sets)) i))
-    (λ i l. ap (cells n) (sym (wires-tables n m (sz .m-most) (chosen n m sets) i l))) in
+pub all-taken : {kind : BoardKind} {n m : ℕ} → Sized n m → {sets rest tables : List ℕ} {sums j : ℕ} → j ≡ m → ChosenBelow kind n m sets j rest tables sums
+    → _≡_ {A = State} (record { tables = tables; cells = sums; visits = 0; stopped = false }) (start (boardOf kind n m) (ofSets sets))
+unfolding start quick total boardOf
+all-taken {kind} {n} {m} sz {sets} {rest} {tables} {sums} {j} e tk =
+    let et : tables ≡ replyTables m (chosen kind n m sets) = tk .are-chosen ∙ ap (λ k. replyTables k (chosen kind n m sets)) e in
+    let ec : sums ≡ sum m (λ i. countOf kind n (wires (replyTables m (chosen kind n m sets)) i)) =
+    tk .counted ∙ ap (λ k. sum k (λ i. countOf kind n (chosen kind n m sets i))) e
+    ∙ sum-cong m (λ i. countOf kind n (chosen kind n m sets i)) (λ i. countOf kind n (wires (replyTables m (chosen kind n m sets)) i))
+    (λ i l. ap (countOf kind n) (sym (wires-tables n m (sz .m-most) (chosen kind n m sets) i l))) in
     rw (et, ec)

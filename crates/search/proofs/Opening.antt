@@ -1,13 +1,13 @@
 -- The pair to split at: what the nested loops find is the first conflict and its first open wire.
 use Prim.Native.Nat.{ℕ, _^_, _<_, _≤_}
-use mathlib.Core.Path.{_≡_, refl, sym, ap, ap₂, _∙_}
+use mathlib.Core.Path.{_≡_, refl, sym, ap, ap₂, subst, _∙_}
 use mathlib.Core.Logic.{⊎-elim}
 use mathlib.Core.Bool.{Bool, false, cond, not}
 use mathlib.Core.List.{List}
 use native.Mathlib.Omega.{arith}
 use lib.Dec.{T, T-not, not-T, ltb, nltb→le, ltb→lt}
 use lib.ListN.{getD, List·getD-eq-default}
-use Rattle.sheet.specs.Limits.{maxWires, maxPatterns}
+use Rattle.sheet.specs.Limits.{maxInputs, maxWires, maxPatterns}
 use Rattle.base.specs.Lowest.{lowest}
 use Rattle.base.proofs.Tests.{cond-has, decide, test-yes, test-no}
 use Rattle.base.proofs.Lowest.{lowest-at, lowest-below}
@@ -25,11 +25,16 @@ use Rattle.relation.proofs.Side.{side-value}
 use Rattle.search.specs.declared.SplitPlace.{SplitPlace}
 use Rattle.search.specs.declared.SplitPlace.the-variants.{Pair, Nowhere}
 use Rattle.branch_bound.specs.Search.{replyTables, pick, picks}
-use Rattle.branch_bound.specs.TreeBoard.{tree}
+use Rattle.table.specs.declared.BoardKind.{BoardKind}
+use Rattle.branch_bound.specs.Boards.{boardOf}
 use Rattle.sheet.specs.Inner.Sized.{Sized}
 use Rattle.parts.specs.Inner.Parts.{PartSets}
 use Rattle.search.specs.Inner.Conflicts.{Settled, splitPlace}
 use Rattle.branch_bound.proofs.Picks.{wires-tables, pick-fits}
+
+-- the patterns of a board's inputs, as the code counts them
+pub counted : {count n k : ℕ} → n ≡ k → (n ≤ maxInputs → count ≡ 2 ^ n) → k ≤ maxInputs → count ≡ 2 ^ k
+counted {count} e h l = subst (λ x. count ≡ 2 ^ x) e (h (rw e l))
 
 -- a reply's tables past the last wire are 0
 pub tables-past : (m : ℕ) (X : Tables) (j : ℕ) → m ≤ j → wires (replyTables m X) j ≡ 0
@@ -67,18 +72,18 @@ found-nowhere n m R X e =
     let y : _≡_ {A = ℕ} 0 1 = cc in absurd (omega arith))
     (decide (compatible n m R X))
 
-module _ {n m : ℕ} (sz : Sized n m) {sets : List ℕ} (ok : PartSets n m sets) {tables : List ℕ} (are : tables ≡ picks (tree n m) (ofSets sets)) where
+module _ (kind : BoardKind) {n m : ℕ} (sz : Sized n m) {sets : List ℕ} (ok : PartSets n m sets) {tables : List ℕ} (are : tables ≡ picks (boardOf kind n m) (ofSets sets)) where
   -- the code's tests
   pub allowed-test : ((j : ℕ) → getD tables j 0 < 2 ^ maxPatterns) → (p : ℕ) → p < maxPatterns → {s v : ℕ} → s ≡ sideBySide tables → v ≡ valueIn s p
-      → {r : Bool} → r ≡ member (getD sets p 0) v → r ≡ ofSets sets p (value m (wires (picks (tree n m) (ofSets sets))) p)
-  unfolding picks tree
+      → {r : Bool} → r ≡ member (getD sets p 0) v → r ≡ ofSets sets p (value m (wires (picks (boardOf kind n m) (ofSets sets))) p)
+  unfolding picks boardOf
   allowed-test small p l es ev er =
       er
       ∙ ap₂ (λ (S : ℕ → Bool) v. S v) (sym (member-sets sets p))
       (ev
       ∙ ap (λ x. valueIn x p) es
       ∙ side-value tables p l small
-      ∙ value-all-wires m tables p (sz .m-most) (λ j l. ap (λ ts. wires ts j) are ∙ tables-past m (pick (tree n m) (ofSets sets)) j l)
+      ∙ value-all-wires m tables p (sz .m-most) (λ j l. ap (λ ts. wires ts j) are ∙ tables-past m (pick (boardOf kind n m) (ofSets sets)) j l)
       ∙ ap (λ ts. value m (wires ts) p) are)
 
   pub free-test : (p j : ℕ) → isOpen maxWires (member (getD sets p 0)) j ≡ isOpen m (ofSets sets p) j
@@ -86,11 +91,11 @@ module _ {n m : ℕ} (sz : Sized n m) {sets : List ℕ} (ok : PartSets n m sets)
 
   -- every pick fits, so a pattern in conflict has an open wire
   pub some-open : (p : ℕ) → p < 2 ^ n → T (not (ofSets sets p (value m (wires tables) p))) → ((j : ℕ) → j < m → T (not (isOpen m (ofSets sets p) j))) → ⊥
-  unfolding picks tree
+  unfolding picks boardOf
   some-open p lp t h =
       let R = ofSets sets in
       let w = openWire-is n m R (wires tables) (ok .defined)
-      (λ j l. rw (are, wires-tables n m (sz .m-most) (pick (tree n m) R) j l) (pick-fits (tree n m) R (ok .defined) j)) p lp t in
+      (λ j l. rw (are, wires-tables n m (sz .m-most) (pick (boardOf kind n m) R) j l) (pick-fits (boardOf kind n m) R (ok .defined) j)) p lp t in
       T-not (isOpen m (R p) (openWire m (R p))) (h (openWire m (R p)) (w .0)) (w .1)
 
   pub none-open : ((p : ℕ) → p < 2 ^ n → T (ofSets sets p (value m (wires tables) p))) → splitPlace n m (ofSets sets) (wires tables) ≡ Nowhere
@@ -114,13 +119,13 @@ module _ {n m : ℕ} (sz : Sized n m) {sets : List ℕ} (ok : PartSets n m sets)
   -- what is found is an open pair
   pub found-open : {f : SplitPlace} → f ≡ splitPlace n m (ofSets sets) (wires tables) → {p j : ℕ} → f ≡ Pair p j
       → (p < 2 ^ n) × (j < m) × T (isOpen m (ofSets sets p) j)
-  unfolding picks tree
+  unfolding picks boardOf
   found-open ef {p} {j} e =
       let R = ofSets sets in
       let told = place-told n m R (wires tables) p j (sym ef ∙ e) in
       let at = rw (told .1) at (conflict-is n m R (wires tables) (told .0)) in
       let w = openWire-is n m R (wires tables) (ok .defined)
-      (λ j l. rw (are, wires-tables n m (sz .m-most) (pick (tree n m) R) j l) (pick-fits (tree n m) R (ok .defined) j)) p (at .0) (at .1) in
+      (λ j l. rw (are, wires-tables n m (sz .m-most) (pick (boardOf kind n m) R) j l) (pick-fits (boardOf kind n m) R (ok .defined) j)) p (at .0) (at .1) in
       let v = rw (told .2) at w in (at .0, v .0, v .1)
 
   -- and below it nothing is in conflict

@@ -10,7 +10,8 @@ use Rattle.relation.specs.Tests.{ofSets, compatible}
 use Rattle.table.specs.Cells.{wires}
 use Rattle.branch_bound.specs.declared.State.{State}
 use Rattle.branch_bound.specs.Search.{discarded, usedUp, halted, charged, improved, split, expand, charge, treat, searchPart}
-use Rattle.branch_bound.specs.TreeBoard.{tree}
+use Rattle.table.specs.declared.BoardKind.{BoardKind}
+use Rattle.branch_bound.specs.Boards.{boardOf}
 use Rattle.branch_bound.proofs.Depth.{search-step}
 use Rattle.search.specs.declared.SplitPlace.{SplitPlace}
 use Rattle.search.specs.declared.SplitPlace.the-variants.{Pair, Nowhere}
@@ -23,38 +24,38 @@ use Rattle.search.proofs.Opening.{found-nowhere, place-told}
 pub lt→nleb : (x y : ℕ) → y < x → T (not (leb x y))
 lt→nleb x y l = not-T (leb x y) (λ t. omega (arith, leb→le x y t))
 
-module _ {n m : ℕ} {S ws rs : List ℕ} (h : Carried n m S ws rs) (budget : ℕ) (s : State) {f : ℕ} (ef : f ≡ floorIn rs) where
-  step : searchPart (tree n m) budget (ofSets S) s ≡ treat (tree n m) budget (searchPart (tree n m) budget) (ofSets S) s
-  unfolding tree
-  step = search-step (tree n m) (h .sized .m-most) budget (ofSets S) s (h .sets .defined)
+module _ {kind : BoardKind} {n m : ℕ} {S ws rs : List ℕ} (h : Carried kind n m S ws rs) (budget : ℕ) (s : State) {f : ℕ} (ef : f ≡ floorIn rs) where
+  step : searchPart (boardOf kind n m) budget (ofSets S) s ≡ treat (boardOf kind n m) budget (searchPart (boardOf kind n m) budget) (ofSets S) s
+  unfolding boardOf
+  step = search-step (boardOf kind n m) (h .sized .m-most) budget (ofSets S) s (h .sets .defined)
 
-  pub discards : T (discarded s f) → s ≡ searchPart (tree n m) budget (ofSets S) s
+  pub discards : T (discarded s f) → s ≡ searchPart (boardOf kind n m) budget (ofSets S) s
   unfolding treat
   discards t = sym (step ∙ rw (← carried-floor h ef, test-yes (discarded s f) t))
 
   module _ (more : T (not (discarded s f))) where
-    pub halts : T (usedUp budget s) → {u : State} → u ≡ halted s → u ≡ searchPart (tree n m) budget (ofSets S) s
+    pub halts : T (usedUp budget s) → {u : State} → u ≡ halted s → u ≡ searchPart (boardOf kind n m) budget (ofSets S) s
     unfolding treat charge
     halts t e = e ∙ sym (step ∙ rw (← carried-floor h ef, test-no (discarded s f) more, test-yes (usedUp budget s) t))
 
     module _ (left : T (not (usedUp budget s))) where
-      expands : treat (tree n m) budget (searchPart (tree n m) budget) (ofSets S) s ≡ expand (tree n m) budget (searchPart (tree n m) budget) (ofSets S) s
+      expands : treat (boardOf kind n m) budget (searchPart (boardOf kind n m) budget) (ofSets S) s ≡ expand (boardOf kind n m) budget (searchPart (boardOf kind n m) budget) (ofSets S) s
       unfolding treat charge
       expands = rw (← carried-floor h ef, test-no (discarded s f) more, test-no (usedUp budget s) left)
 
       -- the code's tables and where it splits
       module _ {tables : List ℕ} (et : tables ≡ tablesIn rs) {found : SplitPlace} (ep : found ≡ splitPlace n m (ofSets S) (wires tables)) {u : State} where
-        pub improves : found ≡ Nowhere → u ≡ improved tables f (charged s) → u ≡ searchPart (tree n m) budget (ofSets S) s
-        unfolding expand tree
+        pub improves : found ≡ Nowhere → u ≡ improved tables f (charged s) → u ≡ searchPart (boardOf kind n m) budget (ofSets S) s
+        unfolding expand boardOf
         improves e eu =
             let t = test-yes (compatible n m (ofSets S) (wires tables)) (found-nowhere n m (ofSets S) (wires tables) (sym ep ∙ e)) in
             eu ∙ sym (step ∙ expands ∙ rw (← carried-tables h et, t, ← carried-floor h ef))
 
         pub splits : {p j : ℕ} → found ≡ Pair p j → {v : State} → v ≡ charged s
-            → u ≡ split (tree n m) budget (searchPart (tree n m) budget) (ofSets S) p j v → u ≡ searchPart (tree n m) budget (ofSets S) s
-        unfolding expand tree
+            → u ≡ split (boardOf kind n m) budget (searchPart (boardOf kind n m) budget) (ofSets S) p j v → u ≡ searchPart (boardOf kind n m) budget (ofSets S) s
+        unfolding expand boardOf
         splits {p} {j} e ev eu =
             let told = place-told n m (ofSets S) (wires tables) p j (sym ep ∙ e) in
             let t = test-no (compatible n m (ofSets S) (wires tables)) (told .0) in
-            eu ∙ ap (split (tree n m) budget (searchPart (tree n m) budget) (ofSets S) p j) ev
+            eu ∙ ap (split (boardOf kind n m) budget (searchPart (boardOf kind n m) budget) (ofSets S) p j) ev
             ∙ sym (step ∙ expands ∙ rw (← carried-tables h et, t, told .1, told .2))

@@ -16,10 +16,10 @@ ghost use mathlib.Core.Path.{_≡_};
 ghost use Prim.Native.Nat.{_<_, _≤_, _^_};
 ghost use lib.Dec.{T};
 ghost use lib.ListN.{length};
-ghost use Rattle.table.specs.Inner.Blocks.{Blocks};
 ghost use Rattle.relation.specs.Tests.{ofSets, isOpen};
 ghost use Rattle.branch_bound.specs.Search.{split as splitOf, searchPart};
-ghost use Rattle.branch_bound.specs.TreeBoard.{tree};
+ghost use Rattle.branch_bound.specs.Boards.{boardOf};
+ghost use Rattle.parts.specs.Inner.Boards.{kindIn, inputsIn, Lent};
 ghost use Rattle.parts.specs.Inner.Ranks.{tablesIn, floorIn};
 ghost use Rattle.parts.specs.Inner.Parts.{Carried};
 ghost use Rattle.search.specs.Inner.Conflicts.{Settled};
@@ -31,7 +31,7 @@ pub fn visit(
     sets: &mut [u16; Sheet::MAX_PATTERNS],
     best: &mut [u16; Sheet::WIRES],
     tally: &mut [u32; 3],
-    n: u8,
+    board: u8,
     m: u8,
     pairs: [u32; Sheet::WIRES],
     ranks: [u32; Sheet::WIRES],
@@ -39,11 +39,11 @@ pub fn visit(
     from: u8,
     budget: u32,
 )
-    requires { ⌜ Blocks (now e) × Carried n m (now sets) pairs ranks × (floor ≡ floorIn ranks) × (from ≤ 2 ^ n) × Settled m (now sets) (tablesIn ranks) from
+    requires { ⌜ Lent board (now e) × Carried (kindIn board) (inputsIn board) m (now sets) pairs ranks × (floor ≡ floorIn ranks) × (from ≤ 2 ^ inputsIn board) × Settled m (now sets) (tablesIn ranks) from
         × (length (now tally) ≡ 3) ⌝ }
     ensures { λ _. ⌜ (now (sets .exit) ≡ now (sets .entry))
         × (stateOf (now (best .exit)) (now (tally .exit))
-        ≡ searchPart (tree n m) budget (ofSets (now (sets .entry))) (stateOf (now (best .entry)) (now (tally .entry))))
+        ≡ searchPart (boardOf (kindIn board) (inputsIn board) m) budget (ofSets (now (sets .entry))) (stateOf (now (best .entry)) (now (tally .entry))))
         × (length (now (tally .exit)) ≡ 3) ⌝ }
 {
     if tally[0] <= floor {
@@ -55,14 +55,14 @@ pub fn visit(
     }
     tally[1] += 1;
     let tables = tables_of(ranks);
-    let found = first_open(n, m, from, sets, tables);
+    let found = first_open(board, m, from, sets, tables);
     match found {
         SplitPlace::Nowhere => {
             *best = tables;
             tally[0] = floor;
         }
         SplitPlace::Pair(p, j) => {
-            split(e, sets, best, tally, n, m, pairs, ranks, p, j, budget);
+            split(e, sets, best, tally, board, m, pairs, ranks, p, j, budget);
         }
     }
 }
@@ -74,7 +74,7 @@ fn split(
     sets: &mut [u16; Sheet::MAX_PATTERNS],
     best: &mut [u16; Sheet::WIRES],
     tally: &mut [u32; 3],
-    n: u8,
+    board: u8,
     m: u8,
     pairs: [u32; Sheet::WIRES],
     ranks: [u32; Sheet::WIRES],
@@ -82,11 +82,11 @@ fn split(
     j: u8,
     budget: u32,
 )
-    requires { ⌜ Blocks (now e) × Carried n m (now sets) pairs ranks × (p < 2 ^ n) × (j < m) × T (isOpen m (ofSets (now sets) p) j)
+    requires { ⌜ Lent board (now e) × Carried (kindIn board) (inputsIn board) m (now sets) pairs ranks × (p < 2 ^ inputsIn board) × (j < m) × T (isOpen m (ofSets (now sets) p) j)
         × Settled m (now sets) (tablesIn ranks) p × (length (now tally) ≡ 3) ⌝ }
     ensures { λ _. ⌜ (now (sets .exit) ≡ now (sets .entry))
         × (stateOf (now (best .exit)) (now (tally .exit))
-        ≡ splitOf (tree n m) budget (searchPart (tree n m) budget) (ofSets (now (sets .entry))) p j (stateOf (now (best .entry)) (now (tally .entry))))
+        ≡ splitOf (boardOf (kindIn board) (inputsIn board) m) budget (searchPart (boardOf (kindIn board) (inputsIn board) m) budget) (ofSets (now (sets .entry))) p j (stateOf (now (best .entry)) (now (tally .entry))))
         × (length (now (tally .exit)) ≡ 3) ⌝ }
 {
     let at = p as usize;
@@ -95,19 +95,19 @@ fn split(
     let one = with_bit(set, j, 1);
     let w0 = cut_pairs(pairs, p, zero);
     let w1 = cut_pairs(pairs, p, one);
-    let r0 = ranks_again(e, n, ranks, p, zero, w0);
-    let r1 = ranks_again(e, n, ranks, p, one, w1);
+    let r0 = ranks_again(e, board, ranks, p, zero, w0);
+    let r1 = ranks_again(e, board, ranks, p, one, w1);
     let floor0 = floor_of(r0);
     let floor1 = floor_of(r1);
     if floor0 < tally[0] {
         sets[at] = zero;
         let from = first_change(ranks, r0, p);
-        visit(e, sets, best, tally, n, m, w0, r0, floor0, from, budget);
+        visit(e, sets, best, tally, board, m, w0, r0, floor0, from, budget);
     }
     if floor1 < tally[0] {
         sets[at] = one;
         let from = first_change(ranks, r1, p);
-        visit(e, sets, best, tally, n, m, w1, r1, floor1, from, budget);
+        visit(e, sets, best, tally, board, m, w1, r1, floor1, from, budget);
     }
     sets[at] = set;
 }

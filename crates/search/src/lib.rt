@@ -1,19 +1,25 @@
 // The branch and bound: the smallest stage that keeps to a relation. What it carries of a part is the crate `parts`, and what it means `branch_bound`.
 use base::Refusal;
 use base::Verdict;
+use nodes::picks::tops;
+use parts::boards::board_of;
 use parts::ranks::floor_of;
 use parts::whole_part;
 use relation::Relation;
 use relation::patterns::clear_past;
 use sheet::Sheet;
+use table::BoardKind;
+use table::picks::ENTRIES;
 use table::picks::blocks;
 ghost use mathlib.Core.Path.{_≡_};
 ghost use Rattle.relation.specs.Tests.{ofSets};
 ghost use Rattle.branch_bound.specs.Search.{run};
-ghost use Rattle.branch_bound.specs.TreeBoard.{tree};
+ghost use Rattle.table.specs.declared.BoardKind.the-variants.{Tree, Sharing};
+ghost use Rattle.branch_bound.specs.Boards.{boardOf};
 ghost use Rattle.search.specs.Cases.{searchReply};
 ghost use Rattle.branch_bound.specs.Reply.{answerOf, searchOf};
 ghost use Rattle.sheet.specs.Inner.Sized.{Sized};
+ghost use Rattle.parts.specs.Inner.Boards.{kindIn, inputsIn, Lent};
 ghost use Rattle.parts.specs.Inner.Parts.{PartSets};
 
 mod conflicts; // where to split: the first conflict
@@ -42,26 +48,32 @@ pub struct Answer {
     pub mark: Mark,
 }
 
-// The search of a relation whose sizes and sets were tested, with its sets past the last pattern emptied.
-fn search_sets(n: u8, m: u8, sets: [u16; Sheet::MAX_PATTERNS], budget: u32) -> Answer
-    requires { ⌜ Sized n m × PartSets n m sets ⌝ }
-    ensures { λ r. ⌜ searchReply r ≡ answerOf n m (ofSets sets) (run (tree n m) budget (ofSets sets)) ⌝ }
+// The search of a relation whose sizes and sets were tested, with its sets past the last pattern emptied. `board` and the table lent are of one board.
+fn search_sets(
+    e: &[u16; ENTRIES],
+    board: u8,
+    m: u8,
+    sets: [u16; Sheet::MAX_PATTERNS],
+    budget: u32,
+) -> Answer
+    requires { ⌜ Lent board (now e) × Sized (inputsIn board) m × PartSets (inputsIn board) m sets ⌝ }
+    ensures { λ r. ⌜ searchReply r ≡ answerOf (boardOf (kindIn board) (inputsIn board) m) (ofSets sets)
+        (run (boardOf (kindIn board) (inputsIn board) m) budget (ofSets sets)) ⌝ }
 {
-    let table = blocks();
-    let whole = whole_part(&table, n, m, sets);
+    let whole = whole_part(e, board, m, sets);
     let ranks = whole.ranks;
-    let start = quick_solver::quick(&table, n, m, sets, ranks[0]);
+    let start = quick_solver::quick(e, board, m, sets, ranks[0]);
     let pairs = whole.pairs;
     let floor = floor_of(ranks);
     let mut own = sets;
     let mut tables = start.tables;
     let mut tally = [start.cells, 0, 0];
     branches::visit(
-        &table,
+        e,
         &mut own,
         &mut tables,
         &mut tally,
-        n,
+        board,
         m,
         pairs,
         ranks,
@@ -90,16 +102,40 @@ fn search_sets(n: u8, m: u8, sets: [u16; Sheet::MAX_PATTERNS], budget: u32) -> A
     }
 }
 
-// The search of any relation under any budget. It refuses what the relation's test refuses.
-pub fn search(relation: Relation, budget: u32) -> Answer
-    ensures { λ r. ⌜ searchReply r ≡ searchOf relation budget ⌝ }
+// The same on either board, whose own table is lent for its picks.
+fn search_tested(
+    kind: BoardKind,
+    n: u8,
+    m: u8,
+    sets: [u16; Sheet::MAX_PATTERNS],
+    budget: u32,
+) -> Answer
+    requires { ⌜ Sized n m × PartSets n m sets ⌝ }
+    ensures { λ r. ⌜ searchReply r ≡ answerOf (boardOf kind n m) (ofSets sets) (run (boardOf kind n m) budget (ofSets sets)) ⌝ }
+{
+    let board = board_of(kind, n);
+    match kind {
+        BoardKind::Tree => {
+            let table = blocks();
+            search_sets(&table, board, m, sets, budget)
+        }
+        BoardKind::Sharing => {
+            let table = tops();
+            search_sets(&table, board, m, sets, budget)
+        }
+    }
+}
+
+// The search of any relation under any budget, on either board. It refuses what the relation's test refuses.
+pub fn search_on(kind: BoardKind, relation: Relation, budget: u32) -> Answer
+    ensures { λ r. ⌜ searchReply r ≡ searchOf kind relation budget ⌝ }
 {
     let n = relation.n;
     let m = relation.m;
     let sets = relation.sets;
     let checked = relation.check();
     match checked {
-        Verdict::Accepted => search_sets(n, m, clear_past(n, sets), budget),
+        Verdict::Accepted => search_tested(kind, n, m, clear_past(n, sets), budget),
         Verdict::Refused(refusal) => Answer {
             tables: [0; Sheet::WIRES],
             cells: 0,
@@ -108,4 +144,18 @@ pub fn search(relation: Relation, budget: u32) -> Answer
             mark: Mark::Refused(refusal),
         },
     }
+}
+
+// The search on the board of trees.
+pub fn search(relation: Relation, budget: u32) -> Answer
+    ensures { λ r. ⌜ searchReply r ≡ searchOf Tree relation budget ⌝ }
+{
+    search_on(BoardKind::Tree, relation, budget)
+}
+
+// The search on the board that shares selectors (document 02, E2).
+pub fn search_shared(relation: Relation, budget: u32) -> Answer
+    ensures { λ r. ⌜ searchReply r ≡ searchOf Sharing relation budget ⌝ }
+{
+    search_on(BoardKind::Sharing, relation, budget)
 }

@@ -10,47 +10,47 @@ use table::picks::ENTRIES;
 ghost use mathlib.Core.Path.{_≡_};
 ghost use Prim.Native.Nat.{_<_};
 ghost use Rattle.sheet.specs.Limits.{maxWires};
-ghost use Rattle.table.specs.Inner.Blocks.{Blocks};
 ghost use Rattle.relation.specs.Tests.{ofSets};
 ghost use Rattle.branch_bound.specs.Search.{start};
-ghost use Rattle.branch_bound.specs.TreeBoard.{tree};
+ghost use Rattle.branch_bound.specs.Boards.{boardOf};
+ghost use Rattle.parts.specs.Inner.Boards.{kindIn, inputsIn, Lent};
 ghost use Rattle.sheet.specs.Inner.Sized.{Sized};
 ghost use Rattle.parts.specs.Inner.Parts.{PartSets, rankOf};
 
 // The rank of wire j's pick once the wires before it are chosen. Before the first wire nothing is: its pick is the whole relation's, which the caller has.
 fn rank_left(
     e: &[u16; ENTRIES],
-    n: u8,
+    board: u8,
     m: u8,
     left: [u16; Sheet::MAX_PATTERNS],
     j: u8,
     first: u32,
 ) -> u32
-    requires { ⌜ Blocks (now e) × Sized n m × PartSets n m left × (j < maxWires) × (j ≡ 0 → first ≡ rankOf n left 0) ⌝ }
-    ensures { λ r. ⌜ r ≡ rankOf n left j ⌝ }
+    requires { ⌜ Lent board (now e) × Sized (inputsIn board) m × PartSets (inputsIn board) m left × (j < maxWires) × (j ≡ 0 → first ≡ rankOf (kindIn board) (inputsIn board) left 0) ⌝ }
+    ensures { λ r. ⌜ r ≡ rankOf (kindIn board) (inputsIn board) left j ⌝ }
 {
     if j == 0 {
         first
     } else {
-        wire_rank(e, n, m, left, j)
+        wire_rank(e, board, m, left, j)
     }
 }
 
 pub fn quick(
     e: &[u16; ENTRIES],
-    n: u8,
+    board: u8,
     m: u8,
     sets: [u16; Sheet::MAX_PATTERNS],
     first: u32,
 ) -> State
-    requires { ⌜ Blocks (now e) × Sized n m × PartSets n m sets × (first ≡ rankOf n sets 0) ⌝ }
-    ensures { λ r. ⌜ r ≡ start (tree n m) (ofSets sets) ⌝ }
+    requires { ⌜ Lent board (now e) × Sized (inputsIn board) m × PartSets (inputsIn board) m sets × (first ≡ rankOf (kindIn board) (inputsIn board) sets 0) ⌝ }
+    ensures { λ r. ⌜ r ≡ start (boardOf (kindIn board) (inputsIn board) m) (ofSets sets) ⌝ }
 {
     let mut left = sets;
     let mut tables = [0u16; Sheet::WIRES];
     let mut cells: u32 = 0;
     for j in 0..m {
-        let rank = rank_left(e, n, m, left, j, first);
+        let rank = rank_left(e, board, m, left, j, first);
         let t = table_of(rank);
         let next = agreeing(left, j, t);
         left = next;

@@ -1,74 +1,74 @@
--- Laws of the length of a stage (document 01, "Stage sheet"): four bytes for the head and the end, three for each wire and three for each cell.
-use Prim.Native.Nat.{ℕ, zero, suc, _+_, _*_, _^_, _-_, _<_, _≤_}
-use mathlib.Core.Path.{_≡_, refl, _∙_}
-use mathlib.Core.List.{List, [], _∷_, _++_, map, map-append}
+-- Laws of the length of a stage (document 01, "Stage sheet"), over the form of a wire: four bytes for the head and the end, the frame of each wire, and three for
+-- each selector.
+use Prim.Native.Nat.{ℕ, suc, _+_, _*_, _≤_}
+use mathlib.Core.Path.{_≡_, ap, _∙_}
+use mathlib.Core.List.{List, [], _∷_, map}
 use native.Mathlib.Omega.{arith}
-use lib.ListN.{length, getD, take, length-append, length-map}
-use lib.Seq.{length-take-le, take-suc}
-use lib.Pow.{pow-mono}
-use Rattle.table.specs.Drawing.{drawnCells}
-use Rattle.sheet.specs.Limits.{maxInputs, maxWires, maxPatterns}
+use lib.ListN.{length, take, length-append}
+use lib.Seq.{getD-take, length-take-le}
+use Rattle.sheet.specs.Limits.{maxInputs, maxWires}
 use Rattle.table.specs.Bits.{sum}
-use Rattle.table.specs.Cells.{cells, wires, total}
-use Rattle.table.specs.Tree.{Tree, con, sel, selectors, reduced}
-use Rattle.table.proofs.Bits.{sum-bound}
-use Rattle.table.proofs.Cells.{cells-lt}
-use Rattle.table.proofs.Trees.{reduced-selectors}
-use Rattle.stage.specs.Bytes.{treeBytes, wireBytes, wiresBytes, stageBytes, longestStage}
-use Rattle.stage.specs.Trees.{treeDrawing}
-use Rattle.stage.specs.Written.{stageTrees, stageOf}
+use Rattle.table.specs.Cells.{wires, total}
+use Rattle.table.specs.Drawing.{drawnCells}
+use Rattle.table.proofs.Bits.{sum-cong, sum-bound}
+use Rattle.table.proofs.Drawings.{sum-first, least-cells}
+use Rattle.stage.specs.Form.{StageForm}
+use Rattle.stage.specs.Bytes.{wiresBytes, stageBytes}
+use Rattle.stage.specs.Read.{drawing}
+use Rattle.stage.specs.Written.{stageDrawn, stageOf}
+use Rattle.stage.specs.Inner.Laws.{FormLaws}
+use Rattle.stage.proofs.Written.{drawn-least}
 
--- a tree takes a byte, and three more for each selector
-pub tree-length : (x : Tree) → length (treeBytes x) ≡ 1 + 3 * selectors x
-unfolding treeBytes selectors
-tree-length (con b) = refl
-tree-length (sel k z o) = omega (arith, length-append (treeBytes z) (treeBytes o), tree-length z, tree-length o)
-
-pub wires-length : (j : ℕ) (xs : List Tree) → length (wiresBytes j xs) ≡ 3 * length xs + 3 * drawnCells treeDrawing xs
-unfolding wiresBytes drawnCells
-wires-length j [] = refl
-wires-length j (x ∷ xs) = omega (arith, length-append (treeBytes x) (wiresBytes (suc j) xs), tree-length x, wires-length (suc j) xs)
-
-pub stage-bytes-length : (n m : ℕ) (xs : List Tree) → length (stageBytes n m xs) ≡ 4 + 3 * length xs + 3 * drawnCells treeDrawing xs
-unfolding stageBytes
-stage-bytes-length n m xs = omega (arith, length-append (wiresBytes 0 xs) (0x2F ∷ []), wires-length 0 xs)
-
-pub size-append : (xs ys : List Tree) → drawnCells treeDrawing (xs ++ ys) ≡ drawnCells treeDrawing xs + drawnCells treeDrawing ys
-unfolding drawnCells
-size-append [] ys = omega arith
-size-append (x ∷ xs) ys = omega (arith, size-append xs ys)
-
--- the writer's trees: one for each wire, with the wires' cells
-pub trees-length : (n m : ℕ) (tables : List ℕ) → m ≤ length tables → length (stageTrees n m tables) ≡ m
-unfolding stageTrees
-trees-length n m tables h = length-map (take m tables) (reduced n 0) ∙ length-take-le m tables h
-
-pub trees-size : (n m : ℕ) (tables : List ℕ) → m ≤ length tables → drawnCells treeDrawing (stageTrees n m tables) ≡ total (cells n) m (wires tables)
-unfolding stageTrees total sum drawnCells
-trees-size n zero tables h = refl
-trees-size n (suc m) tables h =
-    let t = getD tables m 0 in
-    rw (take-suc tables m 0 h, map-append (reduced n 0) (take m tables) (t ∷ []))
-    (omega (arith, size-append (map (reduced n 0) (take m tables)) (reduced n 0 t ∷ []), trees-size n m tables (omega arith), reduced-selectors n 0 t))
-
--- the length by wires and cells, and its bound
-pub stage-length : (n m : ℕ) (tables : List ℕ) → m ≤ length tables → length (stageOf n m tables) ≡ 4 + 3 * m + 3 * total (cells n) m (wires tables)
-unfolding stageOf
-stage-length n m tables h =
-    omega (arith, stage-bytes-length n m (stageTrees n m tables), trees-length n m tables h, trees-size n m tables h)
-
--- a wire has fewer cells than there are patterns
-pub cells-few : (n t : ℕ) → n ≤ maxInputs → cells n t < maxPatterns
-cells-few n t h = let p : 2 ^ n ≤ maxPatterns = pow-mono {j = maxInputs} h in omega (arith, cells-lt n t)
-
-pub stage-cells-few : (n m : ℕ) (tables : List ℕ) → n ≤ maxInputs → total (cells n) m (wires tables) ≤ m * (maxPatterns - 1)
+-- a sum over the first m tables
+pub total-taken : (count : ℕ → ℕ) (m : ℕ) (tables : List ℕ) → m ≤ length tables
+    → total count (length (take m tables)) (wires (take m tables)) ≡ total count m (wires tables)
 unfolding total
-stage-cells-few n m tables h =
-    sum-bound m (maxPatterns - 1) (λ j. cells n (getD tables j 0)) (λ j _. omega (arith, cells-few n (getD tables j 0) h))
+total-taken count m tables h =
+    ap (λ k. total count k (wires (take m tables))) (length-take-le m tables h)
+    ∙ sum-cong m (λ j. count (wires (take m tables) j)) (λ j. count (wires tables j)) (λ j l. ap count (getD-take m tables j 0 l))
 
-pub stage-length-most : (n m : ℕ) (tables : List ℕ) → m ≤ length tables → n ≤ maxInputs → m ≤ maxWires → length (stageOf n m tables) ≤ longestStage
-stage-length-most n m tables h a b = omega (arith, stage-length n m tables h, stage-cells-few n m tables a)
+module _ (F : StageForm) (L : FormLaws F) where
+  -- the longest wire, and the longest stage sheet
+  abbrev pub longestWire : ℕ
+  longestWire = L .frame + 3 * L .most
 
--- a wire that is written
-pub wire-length : (n j t : ℕ) → length (wireBytes j (reduced n 0 t)) ≡ 3 + 3 * cells n t
-wire-length n j t = omega (arith, tree-length (reduced n 0 t), reduced-selectors n 0 t)
+  abbrev pub longestSheet : ℕ
+  longestSheet = 4 + maxWires * longestWire
+
+  pub wire-most : (n j : ℕ) (x : F .Shape) → n ≤ maxInputs → F .WellFormed n x → length (F .wireBytes j x) ≤ longestWire
+  wire-most n j x s w = omega (arith, L .wire-length j x, L .few n x s w)
+
+  -- what is written, where `count` tells the selectors that a table takes: its length by wires and selectors, and its bound where no table takes more than k
+  module _ (n : ℕ) (count : ℕ → ℕ) (counts : (t : ℕ) → L .selectors (F .reduced n t) ≡ count t) where
+    wires-length : (j : ℕ) (ts : List ℕ) → length (wiresBytes F j (map (F .reduced n) ts)) ≡ L .frame * length ts + 3 * total count (length ts) (wires ts)
+    unfolding wiresBytes total sum
+    wires-length j [] = omega arith
+    wires-length j (t ∷ ts) =
+        omega (
+          arith,
+          length-append (F .wireBytes j (F .reduced n t)) (wiresBytes F (suc j) (map (F .reduced n) ts)),
+          L .wire-length j (F .reduced n t),
+          counts t,
+          wires-length (suc j) ts,
+          sum-first (length ts) (λ j. count (wires (t ∷ ts) j)),
+        )
+
+    module _ (m : ℕ) (tables : List ℕ) (fits : m ≤ length tables) where
+      pub sheet-length : length (stageOf F n m tables) ≡ 4 + L .frame * m + 3 * total count m (wires tables)
+      unfolding stageOf stageBytes stageDrawn
+      sheet-length =
+          let ts = take m tables in
+          let own : length (wiresBytes F 0 (map (F .reduced n) ts)) ≡ L .frame * m + 3 * total count (length ts) (wires ts) =
+          wires-length 0 ts ∙ ap (λ k. L .frame * k + 3 * total count (length ts) (wires ts)) (length-take-le m tables fits) in
+          omega (arith, length-append (wiresBytes F 0 (map (F .reduced n) ts)) (0x2F ∷ []), own, total-taken count m tables fits)
+
+      pub sheet-length-most : (k : ℕ) → ((t : ℕ) → count t ≤ k) → length (stageOf F n m tables) ≤ 4 + L .frame * m + 3 * (m * k)
+      unfolding total
+      sheet-length-most k few = omega (arith, sheet-length, sum-bound m k (λ j. count (wires tables j)) (λ j _. few (wires tables j)))
+
+  -- the cells of what is written
+  pub drawn-cells : (n m : ℕ) (tables : List ℕ) → n ≤ maxInputs → m ≤ length tables
+      → drawnCells (drawing F) (stageDrawn F n m tables) ≡ total (F .count n) m (wires tables)
+  drawn-cells n m tables s h =
+      ap (drawnCells (drawing F)) (drawn-least F L n m tables s)
+      ∙ least-cells (drawing F) n (F .count n) (L .fair n s) (take m tables) ∙ total-taken (F .count n) m tables h

@@ -1,9 +1,11 @@
-pub mod Lengths
-pub mod Tables
-pub mod Reading
+pub mod Steps
 pub mod Sheets
+pub mod Lengths
 pub mod Written
 pub mod RoundTrip
 pub mod Prefix
+pub mod TreeReading
+pub mod TreeTables
+pub mod TreeMore
+pub mod TreeForm
 pub mod Rows
-pub mod TreeCounts

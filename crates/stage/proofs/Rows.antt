@@ -2,27 +2,29 @@
 use Prim.Native.Nat.{ℕ}
 use mathlib.Core.Path.{_≡_, refl}
 use mathlib.Core.List.{List, [], _∷_}
-use Rattle.table.specs.Drawing.{drawnCells, got, noStage}
+use Rattle.table.specs.Drawing.{drawnTable, drawnCells, got, noStage}
 use Rattle.base.specs.Cases.{accepting, acceptedOutcome, refusedCase}
 use Rattle.base.specs.Refusals.{refusalAt, cutShort, unknown, outOfRange, trailing, outOfTurn, notAscending, shortBuffer}
 use Rattle.base.specs.Lowest.{lowest}
 use Rattle.table.specs.Bits.{bit, sum, ofBits, tabulate}
 use Rattle.table.specs.Cells.{low, high}
 use Rattle.table.specs.Tree.{con, sel, follow, selectors, reduced}
-use Rattle.stage.specs.Bytes.{treeBytes, wiresBytes, stageBytes}
-use Rattle.stage.specs.Trees.{treeDrawing}
-use Rattle.stage.specs.Written.{stageTrees, stageOf, firstOut, writtenOf}
-use Rattle.stage.specs.Read.{andThen, misplaced, dueNumber, due, operand, branchesAt, selectorAt, treeFrom, treeWithin, treeAt, wireAt, wiresAt}
-use Rattle.stage.specs.Read.{nothingAfter, endAt, closed, readStage}
-use Rattle.stage.specs.Reply.{tableOf, stageTables}
+use Rattle.stage.specs.Steps.{andThen, misplaced, dueNumber, due, operand}
+use Rattle.stage.specs.Bytes.{wiresBytes, stageBytes}
+use Rattle.stage.specs.Read.{wiresAt, nothingAfter, endAt, closed, readSheet}
+use Rattle.stage.specs.Written.{stageDrawn, stageOf, firstOut, writtenOf}
+use Rattle.stage.specs.Reply.{stageTables}
+use Rattle.stage.specs.TreeBytes.{treeBytes}
+use Rattle.stage.specs.TreeRead.{branchesAt, selectorAt, treeFrom, treeWithin, treeAt, treeWireAt}
+use Rattle.stage.specs.Trees.{treeForm, treeDrawing, readStage}
 
 -- all meanings of reading, and of writing, open
 unfoldable reading : ℕ
-unfolding andThen misplaced dueNumber due operand branchesAt selectorAt treeFrom treeWithin treeAt wireAt wiresAt nothingAfter endAt closed readStage
+unfolding andThen misplaced dueNumber due operand branchesAt selectorAt treeFrom treeWithin treeAt treeWireAt wiresAt nothingAfter endAt closed readSheet
 reading = 0
 
 unfoldable writing : ℕ
-unfolding lowest low high reduced treeBytes wiresBytes stageBytes stageTrees stageOf firstOut writtenOf
+unfolding lowest low high reduced treeBytes wiresBytes stageBytes stageDrawn stageOf firstOut writtenOf
 writing = 0
 
 -- document 01, "Bench sheets": the stage that the program prints for sheet A
@@ -34,22 +36,22 @@ pub a-read : readStage stage-a ≡ got 2 2 (sel 1 (con 1) (con 0) ∷ sel 2 (con
 unfolding reading
 a-read = refl
 
-pub a-tables : stageTables 2 (sel 1 (con 1) (con 0) ∷ sel 2 (con 0) (con 1) ∷ []) ≡ 3 ∷ 10 ∷ 0 ∷ 0 ∷ []
-unfolding stageTables tableOf ofBits sum tabulate follow bit
+pub a-tables : stageTables treeDrawing 2 (sel 1 (con 1) (con 0) ∷ sel 2 (con 0) (con 1) ∷ []) ≡ 3 ∷ 10 ∷ 0 ∷ 0 ∷ []
+unfolding stageTables drawnTable ofBits sum tabulate follow bit
 a-tables = refl
 
 pub a-cells : drawnCells treeDrawing (sel 1 (con 1) (con 0) ∷ sel 2 (con 0) (con 1) ∷ []) ≡ 2
 unfolding drawnCells selectors
 a-cells = refl
 
-pub a-bytes : stageOf 2 2 (3 ∷ 10 ∷ 0 ∷ 0 ∷ []) ≡ stage-a
+pub a-bytes : stageOf treeForm 2 2 (3 ∷ 10 ∷ 0 ∷ 0 ∷ []) ≡ stage-a
 unfolding writing
 a-bytes = refl
 
 -- its writing: in a buffer that lacks one byte, in one that has just enough, and with a table that has a bit too many
-pub a-written : (writtenOf 2 2 (3 ∷ 10 ∷ 0 ∷ 0 ∷ []) 15 ≡ refusedCase (refusalAt shortBuffer 16))
-    × (writtenOf 2 2 (3 ∷ 10 ∷ 0 ∷ 0 ∷ []) 16 ≡ accepting acceptedOutcome 16)
-    × (writtenOf 2 2 (3 ∷ 16 ∷ 0 ∷ 0 ∷ []) 16 ≡ refusedCase (refusalAt outOfRange 1))
+pub a-written : (writtenOf treeForm 2 2 (3 ∷ 10 ∷ 0 ∷ 0 ∷ []) 15 ≡ refusedCase (refusalAt shortBuffer 16))
+    × (writtenOf treeForm 2 2 (3 ∷ 10 ∷ 0 ∷ 0 ∷ []) 16 ≡ accepting acceptedOutcome 16)
+    × (writtenOf treeForm 2 2 (3 ∷ 16 ∷ 0 ∷ 0 ∷ []) 16 ≡ refusedCase (refusalAt outOfRange 1))
 unfolding writing
 a-written = (refl, refl, refl)
 

@@ -1,22 +1,12 @@
--- Document 01, "Stage sheet": what the stage reader hands back, the truth table of each tree that it took and the selectors of all of them.
-use Prim.Native.Nat.{ℕ, _^_}
+-- Document 01, "Stage sheet": what the stage reader hands back, the truth table of each drawing that it took and the cells of all of them.
+use Prim.Native.Nat.{ℕ}
 use mathlib.Core.List.{List, map}
 use lib.ListN.{getD, replicate}
 use Rattle.base.specs.Cases.{Case, acceptedCase, refusedCase}
 use Rattle.base.specs.declared.Refusal.{Refusal}
 use Rattle.sheet.specs.Limits.{maxWires}
-use Rattle.table.specs.Bits.{ofBits, tabulate}
-use Rattle.table.specs.Tree.{Tree, follow}
-use Rattle.stage.specs.Trees.{treeDrawing}
-use Rattle.table.specs.Drawing.{StageSheet, got, noStage, drawnCells}
-
--- the truth table of a tree: bit p is the constant that is reached on pattern p
-unfoldable pub tableOf : ℕ → Tree → ℕ
-tableOf n x = ofBits (2 ^ n) (λ p. follow n p x)
-
--- a table for each wire that a stage can have; 0 for one that the sheet does not have
-unfoldable pub stageTables : ℕ → List Tree → List ℕ
-stageTables n trees = tabulate maxWires (λ j. getD (map (tableOf n) trees) j 0)
+use Rattle.table.specs.Bits.{tabulate}
+use Rattle.table.specs.Drawing.{Drawing, StageSheet, got, noStage, drawnTable, drawnCells}
 
 -- a stage sheet: its sizes, tables and cells, and the case of the answer
 pub record StageReply : Type 0 where
@@ -30,6 +20,11 @@ pub record StageReply : Type 0 where
 abbrev pub refusedReply : Refusal → StageReply
 refusedReply f = record { n = 0; m = 0; tables = replicate maxWires 0; cells = 0; answer = refusedCase f }
 
-unfoldable pub replyToStage : StageSheet Tree → StageReply
-replyToStage (got n m trees) = record { n = n; m = m; tables = stageTables n trees; cells = drawnCells treeDrawing trees; answer = acceptedCase }
-replyToStage (noStage f) = refusedReply f
+module _ (D : Drawing) where
+  -- a table for each wire that a stage can have; 0 for one that the sheet does not have
+  unfoldable pub stageTables : ℕ → List (D .Shape) → List ℕ
+  stageTables n stage = tabulate maxWires (λ j. getD (map (drawnTable D n) stage) j 0)
+
+  unfoldable pub replyToStage : StageSheet (D .Shape) → StageReply
+  replyToStage (got n m stage) = record { n = n; m = m; tables = stageTables n stage; cells = drawnCells D stage; answer = acceptedCase }
+  replyToStage (noStage f) = refusedReply f

@@ -1,7 +1,34 @@
--- The drawings of document 01's board: ordered trees, their selectors counted as cells, read from its stage sheets.
-use Rattle.table.specs.Drawing.{Drawing}
-use Rattle.table.specs.Tree.{Tree, Ordered, follow, selectors}
-use Rattle.stage.specs.Read.{readStage}
+-- The stages of document 01's board: ordered trees, their selectors counted as cells, in its stage sheets.
+use Prim.Native.Nat.{ℕ}
+use mathlib.Core.List.{List}
+use Rattle.table.specs.Cells.{cells}
+use Rattle.table.specs.Drawing.{Drawing, StageSheet, drawnTable}
+use Rattle.table.specs.Tree.{Tree, Ordered, follow, selectors, reduced}
+use Rattle.stage.specs.Form.{StageForm}
+use Rattle.stage.specs.Read.{readSheet, drawing}
+use Rattle.stage.specs.TreeBytes.{treeWireBytes}
+use Rattle.stage.specs.TreeRead.{treeKnown, treeWireAt}
+
+abbrev pub treeForm : StageForm
+treeForm =
+    record {
+      Shape = Tree;
+      WellFormed = λ n x. Ordered n 0 x;
+      follow = follow;
+      cells = selectors;
+      count = cells;
+      reduced = λ n t. reduced n 0 t;
+      wireBytes = treeWireBytes;
+      known = treeKnown;
+      wireAt = treeWireAt;
+    }
 
 abbrev pub treeDrawing : Drawing
-treeDrawing = record { Shape = Tree; WellFormed = λ n x. Ordered n 0 x; follow = follow; cells = selectors; readBytes = readStage }
+treeDrawing = drawing treeForm
+
+abbrev pub readStage : List ℕ → StageSheet Tree
+readStage = readSheet treeForm
+
+-- the truth table of a tree
+abbrev pub tableOf : ℕ → Tree → ℕ
+tableOf = drawnTable treeDrawing

@@ -1,4 +1,5 @@
-// Stage sheets: the decision tree of each wire as bytes. Their meanings and laws are here; `stage_reader` and `stage_writer` have the code.
+// Stage sheets: what drives each wire as bytes, over the form of a wire, and decision trees as one form. The meanings and laws are here; `stage_reader` and
+// `stage_writer` have the code.
 use sheet::Sheet;
 
 // A tree tests fewer inputs than there are patterns, and no stage has more cells.

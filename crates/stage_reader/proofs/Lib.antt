@@ -1,6 +1,12 @@
 pub mod Places
+pub mod TreePlaces
+pub mod DiagramPlaces
 pub mod Selecting
 pub mod Taken
+pub mod Branches
 pub mod Ends
 pub mod Gather
+pub mod Counts
+pub mod Numbering
+pub mod Entries
 pub mod Replies

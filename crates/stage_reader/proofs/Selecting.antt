@@ -11,10 +11,11 @@ use lib.Pow.{pow-pos, pow-mono}
 use Rattle.base.proofs.Tests.{cond-has}
 use Rattle.sheet.specs.Limits.{maxInputs, maxPatterns, maxValues, allOnes}
 use Rattle.table.specs.Bits.{bit, ofBits, sum}
+use Rattle.table.specs.Drawing.{drawnTable}
 use Rattle.table.specs.Tree.{Tree, con, sel, Ordered, follow}
 use Rattle.table.proofs.Bits.{bit-lt, bit-ext, bit-cases, bit-and, ofBits-lt, bit-ofBits, sum-cong}
-use Rattle.stage.specs.Reply.{tableOf}
-use Rattle.stage.proofs.Tables.{table-bit}
+use Rattle.stage.specs.Trees.{tableOf}
+use Rattle.stage.proofs.TreeTables.{table-bit}
 use Rattle.stage_reader.specs.Inner.Tables.{inputTable, selectOf}
 
 -- the tables of the constants
@@ -24,7 +25,7 @@ no-bits zero = refl
 no-bits (suc k) = omega (arith, no-bits k)
 
 pub table-zero : (n : ℕ) → tableOf n (con 0) ≡ 0
-unfolding tableOf follow
+unfolding drawnTable follow
 table-zero n = no-bits (2 ^ n)
 
 every-bit : (k : ℕ) → ofBits k (λ p. 1) ≡ 2 ^ k - 1
@@ -33,7 +34,7 @@ every-bit zero = refl
 every-bit (suc k) = omega (arith, every-bit k, pow-pos k)
 
 pub table-one : (n : ℕ) → n ≤ maxInputs → allOnes n ≡ tableOf n (con 1)
-unfolding tableOf follow
+unfolding drawnTable follow
 table-one n h =
     let room : 2 ^ n ≤ maxValues = pow-mono {j = maxInputs} h in
     let all : min maxValues (2 ^ n) ≡ 2 ^ n = omega arith in
@@ -43,12 +44,12 @@ table-one n h =
 choice-lt : (p j a b : ℕ) → a < 2 → b < 2 → cond (eqb (bit p j) 0) a b < 2
 choice-lt p j a b x y = cond-has (λ z. z < 2) (eqb (bit p j) 0) (λ _. x) (λ _. y)
 
-pub table-select : (n i : ℕ) (z o : Tree) → Ordered n i z → Ordered n i o → selectOf n i (tableOf n z) (tableOf n o) ≡ tableOf n (sel i z o)
-unfolding selectOf tableOf follow ofBits
-table-select n i z o a b =
+pub table-select : (n i k : ℕ) (z o : Tree) → Ordered n k z → Ordered n k o → selectOf n i (tableOf n z) (tableOf n o) ≡ tableOf n (sel i z o)
+unfolding selectOf drawnTable follow ofBits
+table-select n i k z o a b =
     sum-cong (2 ^ n) (λ p. cond (eqb (bit p (n - i)) 0) (bit (tableOf n z) p) (bit (tableOf n o) p) * 2 ^ p) (λ p. follow n p (sel i z o) * 2 ^ p)
     (λ p l.
-    ap₂ (λ x y. cond (eqb (bit p (n - i)) 0) x y * 2 ^ p) (table-bit n i z a p l) (table-bit n i o b p l))
+    ap₂ (λ x y. cond (eqb (bit p (n - i)) 0) x y * 2 ^ p) (table-bit n k z a p l) (table-bit n k o b p l))
 
 -- bits of one table where a column is 0, of another where it is 1
 bit-xor : (a b v : ℕ) → bit (bitXor a b) v ≡ bitXor (bit a v) (bit b v)

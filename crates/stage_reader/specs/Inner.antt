@@ -1,3 +1,4 @@
 -- What the contracts of inner functions speak of.
 pub mod Tables
-pub mod Trees
+pub mod Wires
+pub mod Numbers

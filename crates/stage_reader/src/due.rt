@@ -1,31 +1,45 @@
 // Where a command is due: the byte that stands there, or the refusal's number.
 use base::Refusal;
+use table::BoardKind;
 ghost use mathlib.Core.Path.{_≡_};
 ghost use lib.ListN.{drop};
-ghost use Rattle.stage.specs.Read.{misplaced, dueNumber};
+ghost use Rattle.stage.specs.Steps.{misplaced, dueNumber};
+ghost use Rattle.diagram.specs.Forms.{formOf};
 
-// The number of the refusal at a first byte that is not due.
-pub fn misplaced_number(b: u8) -> u8
-    ensures { λ r. ⌜ r ≡ misplaced b ⌝ }
+// The number of the refusal at a first byte that is not due: each board has its own commands.
+pub fn misplaced_number(kind: BoardKind, b: u8) -> u8
+    ensures { λ r. ⌜ r ≡ misplaced (formOf kind .known) b ⌝ }
 {
-    match b {
-        0x20 => Refusal::OUT_OF_TURN,
-        0x21 => Refusal::OUT_OF_TURN,
-        0x22 => Refusal::OUT_OF_TURN,
-        0x23 => Refusal::OUT_OF_TURN,
-        0x24 => Refusal::OUT_OF_TURN,
-        0x2F => Refusal::OUT_OF_TURN,
-        _ => Refusal::UNKNOWN,
+    match kind {
+        BoardKind::Tree => match b {
+            0x20 => Refusal::OUT_OF_TURN,
+            0x21 => Refusal::OUT_OF_TURN,
+            0x22 => Refusal::OUT_OF_TURN,
+            0x23 => Refusal::OUT_OF_TURN,
+            0x24 => Refusal::OUT_OF_TURN,
+            0x2F => Refusal::OUT_OF_TURN,
+            _ => Refusal::UNKNOWN,
+        },
+        BoardKind::Sharing => match b {
+            0x20 => Refusal::OUT_OF_TURN,
+            0x26 => Refusal::OUT_OF_TURN,
+            0x2F => Refusal::OUT_OF_TURN,
+            _ => Refusal::UNKNOWN,
+        },
     }
 }
 
 // The number of the refusal where a command is due, or 0 where it stands there.
-pub fn due_number(s: &[u8], at: usize, want: u8) -> u8
-    ensures { λ r. ⌜ r ≡ dueNumber want (drop at (now (s .entry))) ⌝ }
+pub fn due_number(kind: BoardKind, s: &[u8], at: usize, want: u8) -> u8
+    ensures { λ r. ⌜ r ≡ dueNumber (formOf kind .known) want (drop at (now (s .entry))) ⌝ }
 {
     if s.len() <= at {
         return Refusal::CUT_SHORT;
     }
     let b = s[at];
-    if b == want { 0 } else { misplaced_number(b) }
+    if b == want {
+        0
+    } else {
+        misplaced_number(kind, b)
+    }
 }

@@ -1,38 +1,46 @@
-// The stage reader: any ordered tree for each wire, to its truth table and its selectors.
+// The stage reader: what drives each wire, an ordered tree or a diagram by the board, to its truth table and its cells.
 use base::Refusal;
 use base::Verdict;
+use diagrams::read_diagram_wire;
 use due::due_number;
 use sheet::Sheet;
 use sheet::limits::sizes_out;
-use trees::TreeStep;
-use trees::read_wire;
+use steps::WireStep;
+use table::BoardKind;
+use trees::read_tree_wire;
 ghost use mathlib.Core.Path.{_≡_};
 ghost use Prim.Native.Nat.{_≤_};
 ghost use lib.ListN.{drop};
 ghost use Rattle.base.specs.Cases.{acceptedCase, refusedCase, verdictCase};
 ghost use Rattle.sheet.specs.Limits.{maxInputs, maxWires};
-ghost use Rattle.stage.specs.Read.{wiresAt, endAt, closed, readStage};
+ghost use Rattle.stage.specs.Read.{wiresAt, endAt, closed, readSheet};
 ghost use Rattle.stage.specs.Reply.{refusedReply, replyToStage};
+ghost use Rattle.stage.specs.Trees.{treeDrawing, readStage};
+ghost use Rattle.diagram.specs.Diagrams.{diagramDrawing, readDiagrams};
+ghost use Rattle.diagram.specs.Forms.{formOf, drawingOf};
 ghost use Rattle.stage_reader.specs.Cases.{stageReply};
+ghost use Rattle.stage_reader.specs.Inner.Wires.{wireReply, stepOf};
 
+mod steps; // what reading one wire gives
 mod due; // where a command is due
 mod tables; // truth tables
 mod trees; // one wire's tree
+mod diagrams; // one wire's diagram
 
 // What a stage sheet says. A wire that it does not have is given table 0; after a refusal all numbers are 0.
 pub struct StageRead {
     pub n: u8,
     pub m: u8,
     pub tables: [u16; Sheet::WIRES],
-    pub cells: u8,
+    pub cells: u16,
     pub answer: Verdict,
 }
 
 // 2F, and nothing after it.
-fn read_end(s: &[u8], at: usize) -> Verdict
-    ensures { λ r. ⌜ verdictCase r ≡ endAt refusedCase acceptedCase at (drop at (now (s .entry))) ⌝ }
+fn read_end(kind: BoardKind, s: &[u8], at: usize) -> Verdict
+    ensures { λ r. ⌜ verdictCase r ≡ endAt (formOf kind .known) refusedCase acceptedCase at (drop at (now (s .entry))) ⌝ }
 {
-    let f = due_number(s, at, 0x2F);
+    let f = due_number(kind, s, at, 0x2F);
     if f != 0 {
         return Verdict::Refused(Refusal::at(f, at));
     }
@@ -55,19 +63,30 @@ fn no_stage(f: Refusal) -> StageRead
     }
 }
 
+// Wire j, which is due. Here the boards part, and where their commands are told (`due`); all else is read alike.
+fn read_wire(kind: BoardKind, s: &[u8], at: usize, j: u8, n: u8, m: u8) -> WireStep
+    requires { ⌜ n ≤ maxInputs ⌝ }
+    ensures { λ r. ⌜ wireReply r ≡ stepOf (drawingOf kind) n (formOf kind .wireAt n m j at (drop at (now (s .entry)))) ⌝ }
+{
+    match kind {
+        BoardKind::Tree => read_tree_wire(s, at, j, n, m),
+        BoardKind::Sharing => read_diagram_wire(s, at, j, n, m),
+    }
+}
+
 // The wires of a stage sheet from place 3 on, and its end.
-fn read_wires(s: &[u8], n: u8, m: u8) -> StageRead
+fn read_wires(kind: BoardKind, s: &[u8], n: u8, m: u8) -> StageRead
     requires { ⌜ (n ≤ maxInputs) × (m ≤ maxWires) ⌝ }
-    ensures { λ r. ⌜ stageReply r ≡ replyToStage (closed n m (wiresAt m n m 0 3 (drop 3 (now (s .entry))))) ⌝ }
+    ensures { λ r. ⌜ stageReply r ≡ replyToStage (drawingOf kind) (closed (formOf kind) n m (wiresAt (formOf kind) m n m 0 3 (drop 3 (now (s .entry))))) ⌝ }
 {
     let mut tables = [0u16; Sheet::WIRES];
-    let mut cells: u8 = 0;
+    let mut cells: u16 = 0;
     let mut at: usize = 3;
     let mut j: u8 = 0;
     while j < m {
-        let wire = read_wire(s, at, j, n, m);
+        let wire = read_wire(kind, s, at, j, n, m);
         match wire {
-            TreeStep::Tree {
+            WireStep::Wire {
                 table,
                 cells: c,
                 next,
@@ -76,11 +95,11 @@ fn read_wires(s: &[u8], n: u8, m: u8) -> StageRead
                 cells = cells + c;
                 at = next;
             }
-            TreeStep::Refused(f) => return no_stage(f),
+            WireStep::Refused(f) => return no_stage(f),
         }
         j += 1;
     }
-    let answer = read_end(s, at);
+    let answer = read_end(kind, s, at);
     match answer {
         Verdict::Accepted => StageRead {
             n,
@@ -93,11 +112,11 @@ fn read_wires(s: &[u8], n: u8, m: u8) -> StageRead
     }
 }
 
-// A whole stage sheet: its tables and its cells, or the refusal.
-pub fn read_stage(s: &[u8]) -> StageRead
-    ensures { λ r. ⌜ stageReply r ≡ replyToStage (readStage (now (s .entry))) ⌝ }
+// A whole stage sheet of either board: its tables and its cells, or the refusal.
+pub fn read_on(kind: BoardKind, s: &[u8]) -> StageRead
+    ensures { λ r. ⌜ stageReply r ≡ replyToStage (drawingOf kind) (readSheet (formOf kind) (now (s .entry))) ⌝ }
 {
-    let f = due_number(s, 0, 0x20);
+    let f = due_number(kind, s, 0, 0x20);
     if f != 0 {
         return no_stage(Refusal::at(f, 0));
     }
@@ -109,5 +128,19 @@ pub fn read_stage(s: &[u8]) -> StageRead
     if sizes_out(n, m) {
         return no_stage(Refusal::at(Refusal::OUT_OF_RANGE, 0));
     }
-    read_wires(s, n, m)
+    read_wires(kind, s, n, m)
+}
+
+// A stage sheet of document 01's board, whose wires are trees.
+pub fn read_stage(s: &[u8]) -> StageRead
+    ensures { λ r. ⌜ stageReply r ≡ replyToStage treeDrawing (readStage (now (s .entry))) ⌝ }
+{
+    read_on(BoardKind::Tree, s)
+}
+
+// A stage sheet of the board that shares selectors (document 02, E2), whose wires are diagrams.
+pub fn read_shared(s: &[u8]) -> StageRead
+    ensures { λ r. ⌜ stageReply r ≡ replyToStage diagramDrawing (readDiagrams (now (s .entry))) ⌝ }
+{
+    read_on(BoardKind::Sharing, s)
 }

@@ -1,5 +1,5 @@
-// Truth tables of an input, and of a selector from the tables of its trees.
-// Inner functions: the reader of trees meets what they require, inputs that there are and tables of n inputs.
+// Truth tables of an input, and of a selector from the tables of its branches.
+// Inner functions: the readers of trees and of diagrams meet what they require, inputs that there are and tables of n inputs.
 ghost use mathlib.Core.Path.{_≡_};
 ghost use Prim.Native.Nat.{_^_, _<_, _≤_};
 ghost use Rattle.sheet.specs.Limits.{maxInputs};
@@ -18,7 +18,7 @@ fn input_table(j: u8) -> u16
     }
 }
 
-// The table of a selector on input i, of the tables of its trees for 0 and 1: where the input is 1, each bit of `off` that differs is turned.
+// The table of a selector on input i, of the tables of its branches for 0 and 1: where the input is 1, each bit of `off` that differs is turned.
 pub fn select(n: u8, i: u8, off: u16, on: u16) -> u16
     requires { ⌜ (1 ≤ i) × (i ≤ n) × (n ≤ maxInputs) × (off < 2 ^ (2 ^ n)) × (on < 2 ^ (2 ^ n)) ⌝ }
     ensures { λ r. ⌜ r ≡ selectOf n i off on ⌝ }

@@ -1,77 +1,74 @@
 // The trees of a stage sheet, each read to its truth table and its selectors.
-// Inner functions: `read_stage` has tested the sizes before it calls them.
+// Inner functions: `read_on` has tested the sizes before it calls them.
 use crate::due::due_number;
 use crate::due::misplaced_number;
+use crate::steps::WireStep;
 use crate::tables::select;
 use base::Refusal;
 use sheet::limits::all_ones;
+use table::BoardKind;
 ghost use mathlib.Core.Path.{_≡_};
 ghost use Prim.Native.Nat.{_+_, _<_, _≤_};
 ghost use lib.ListN.{length, drop};
 ghost use Rattle.sheet.specs.Limits.{maxInputs};
-ghost use Rattle.stage.specs.Read.{branchesAt, treeAt, selectorAt, wireAt};
-ghost use Rattle.stage_reader.specs.Inner.Trees.{treeReply, stepOf};
-
-// A tree that was read: its truth table over all inputs, its selectors, and the place after it.
-pub enum TreeStep {
-    Tree { table: u16, cells: u8, next: usize },
-    Refused(Refusal),
-}
+ghost use Rattle.stage.specs.TreeRead.{branchesAt, treeAt, selectorAt, treeWireAt};
+ghost use Rattle.stage.specs.Trees.{treeDrawing};
+ghost use Rattle.stage_reader.specs.Inner.Wires.{wireReply, stepOf};
 
 // A tree below a selector on input k, or below none where k is 0.
-fn read_tree(s: &[u8], at: usize, n: u8, k: u8) -> TreeStep
+fn read_tree(s: &[u8], at: usize, n: u8, k: u8) -> WireStep
     requires { ⌜ (k ≤ n) × (n ≤ maxInputs) ⌝ }
-    ensures { λ r. ⌜ treeReply r ≡ stepOf n (treeAt n k at (drop at (now (s .entry)))) ⌝ }
+    ensures { λ r. ⌜ wireReply r ≡ stepOf treeDrawing n (treeAt n k at (drop at (now (s .entry)))) ⌝ }
 {
     if s.len() <= at {
-        return TreeStep::Refused(Refusal::at(Refusal::CUT_SHORT, at));
+        return WireStep::Refused(Refusal::at(Refusal::CUT_SHORT, at));
     }
     let b = s[at];
     match b {
         0x22 => read_selector(s, at, n, k),
-        0x23 => TreeStep::Tree {
+        0x23 => WireStep::Wire {
             table: 0,
             cells: 0,
             next: at + 1,
         },
-        0x24 => TreeStep::Tree {
+        0x24 => WireStep::Wire {
             table: all_ones(n),
             cells: 0,
             next: at + 1,
         },
-        _ => TreeStep::Refused(Refusal::at(misplaced_number(b), at)),
+        _ => WireStep::Refused(Refusal::at(misplaced_number(BoardKind::Tree, b), at)),
     }
 }
 
 // The same at a byte 22: its input is judged, then its two trees are read.
-fn read_selector(s: &[u8], at: usize, n: u8, k: u8) -> TreeStep
+fn read_selector(s: &[u8], at: usize, n: u8, k: u8) -> WireStep
     requires { ⌜ (k ≤ n) × (n ≤ maxInputs) × (at < length (now s)) ⌝ }
-    ensures { λ r. ⌜ treeReply r ≡ stepOf n (selectorAt (treeAt n) n k at (drop (at + 1) (now (s .entry)))) ⌝ }
+    ensures { λ r. ⌜ wireReply r ≡ stepOf treeDrawing n (selectorAt (treeAt n) n k at (drop (at + 1) (now (s .entry)))) ⌝ }
 {
     let input_at = at + 1;
     if s.len() <= input_at {
-        return TreeStep::Refused(Refusal::at(Refusal::CUT_SHORT, at));
+        return WireStep::Refused(Refusal::at(Refusal::CUT_SHORT, at));
     }
     let i = s[input_at];
     if i == 0 {
-        return TreeStep::Refused(Refusal::at(Refusal::OUT_OF_RANGE, at));
+        return WireStep::Refused(Refusal::at(Refusal::OUT_OF_RANGE, at));
     }
     if n < i {
-        return TreeStep::Refused(Refusal::at(Refusal::OUT_OF_RANGE, at));
+        return WireStep::Refused(Refusal::at(Refusal::OUT_OF_RANGE, at));
     }
     if i <= k {
-        return TreeStep::Refused(Refusal::at(Refusal::NOT_ASCENDING, at));
+        return WireStep::Refused(Refusal::at(Refusal::NOT_ASCENDING, at));
     }
     read_branches(s, at + 2, n, i)
 }
 
 // The two trees of a selector on input i, the one for 0 at a place and the one for 1 after it.
-fn read_branches(s: &[u8], at: usize, n: u8, i: u8) -> TreeStep
+fn read_branches(s: &[u8], at: usize, n: u8, i: u8) -> WireStep
     requires { ⌜ (1 ≤ i) × (i ≤ n) × (n ≤ maxInputs) ⌝ }
-    ensures { λ r. ⌜ treeReply r ≡ stepOf n (branchesAt (treeAt n i) i at (drop at (now (s .entry)))) ⌝ }
+    ensures { λ r. ⌜ wireReply r ≡ stepOf treeDrawing n (branchesAt (treeAt n i) i at (drop at (now (s .entry)))) ⌝ }
 {
     let for_zero = read_tree(s, at, n, i);
-    let TreeStep::Tree {
+    let WireStep::Wire {
         table: off,
         cells: c,
         next,
@@ -80,7 +77,7 @@ fn read_branches(s: &[u8], at: usize, n: u8, i: u8) -> TreeStep
         return for_zero;
     };
     let for_one = read_tree(s, next, n, i);
-    let TreeStep::Tree {
+    let WireStep::Wire {
         table: on,
         cells: d,
         next: past,
@@ -88,7 +85,7 @@ fn read_branches(s: &[u8], at: usize, n: u8, i: u8) -> TreeStep
     else {
         return for_one;
     };
-    TreeStep::Tree {
+    WireStep::Wire {
         table: select(n, i, off, on),
         cells: 1 + c + d,
         next: past,
@@ -96,24 +93,24 @@ fn read_branches(s: &[u8], at: usize, n: u8, i: u8) -> TreeStep
 }
 
 // 21 j and the tree of wire j.
-pub fn read_wire(s: &[u8], at: usize, j: u8, n: u8, m: u8) -> TreeStep
+pub fn read_tree_wire(s: &[u8], at: usize, j: u8, n: u8, m: u8) -> WireStep
     requires { ⌜ n ≤ maxInputs ⌝ }
-    ensures { λ r. ⌜ treeReply r ≡ stepOf n (wireAt n m j at (drop at (now (s .entry)))) ⌝ }
+    ensures { λ r. ⌜ wireReply r ≡ stepOf treeDrawing n (treeWireAt n m j at (drop at (now (s .entry)))) ⌝ }
 {
-    let f = due_number(s, at, 0x21);
+    let f = due_number(BoardKind::Tree, s, at, 0x21);
     if f != 0 {
-        return TreeStep::Refused(Refusal::at(f, at));
+        return WireStep::Refused(Refusal::at(f, at));
     }
     let wire_at = at + 1;
     if s.len() <= wire_at {
-        return TreeStep::Refused(Refusal::at(Refusal::CUT_SHORT, at));
+        return WireStep::Refused(Refusal::at(Refusal::CUT_SHORT, at));
     }
     let i = s[wire_at];
     if m <= i {
-        return TreeStep::Refused(Refusal::at(Refusal::OUT_OF_RANGE, at));
+        return WireStep::Refused(Refusal::at(Refusal::OUT_OF_RANGE, at));
     }
     if i != j {
-        return TreeStep::Refused(Refusal::at(Refusal::OUT_OF_TURN, at));
+        return WireStep::Refused(Refusal::at(Refusal::OUT_OF_TURN, at));
     }
     read_tree(s, at + 2, n, 0)
 }

@@ -1,24 +1,39 @@
-// The stage writer: the reduced tree of each wire's table, at the start of a lent buffer.
+// The stage writer: what drives each wire, made from the wire's table, at the start of a lent buffer. It serves both boards: `wires` alone looks at which.
 use base::Refusal;
 use base::Written;
 use sheet::Sheet;
 use sheet::limits::sizes_out;
 use stores::put_sheet;
+use table::BoardKind;
 use tables::first_out;
-use tables::stage_cells;
 use tables::stage_length;
+use tables::stage_selectors;
 ghost use mathlib.Core.Path.{_≡_};
 ghost use lib.ListN.{length};
+ghost use Rattle.stage.specs.Trees.{treeForm};
 ghost use Rattle.stage.specs.Written.{writtenOf, bufferAfter};
+ghost use Rattle.diagram.specs.Diagrams.{diagramForm};
+ghost use Rattle.diagram.specs.Forms.{formOf};
 ghost use Rattle.base.specs.Cases.{writtenCase};
 
-mod stores; // the bytes
+mod stores; // the bytes of a stage
 mod tables; // the tables that are handed in
+mod wires; // a wire by the board
+mod trees; // the bytes of a tree
+mod diagrams; // the bytes of a diagram
+mod common; // what trees and diagrams have in common
 
 // Writes a stage at the start of a buffer and changes nothing behind it; a refusal changes nothing at all.
-pub fn write_stage(n: u8, m: u8, tables: [u16; Sheet::WIRES], buffer: &mut [u8]) -> Written
+pub fn write_on(
+    kind: BoardKind,
+    n: u8,
+    m: u8,
+    tables: [u16; Sheet::WIRES],
+    buffer: &mut [u8],
+) -> Written
     ensures { λ r.
-        ⌜ (writtenCase r ≡ writtenOf n m tables (length (now (buffer .entry)))) × (now (buffer .exit) ≡ bufferAfter n m tables (now (buffer .entry))) ⌝ }
+        ⌜ (writtenCase r ≡ writtenOf (formOf kind) n m tables (length (now (buffer .entry))))
+        × (now (buffer .exit) ≡ bufferAfter (formOf kind) n m tables (now (buffer .entry))) ⌝ }
 {
     if sizes_out(n, m) {
         return Written::Refused(Refusal::at(Refusal::OUT_OF_RANGE, 0));
@@ -27,10 +42,26 @@ pub fn write_stage(n: u8, m: u8, tables: [u16; Sheet::WIRES], buffer: &mut [u8])
     if wire < m {
         return Written::Refused(Refusal::at(Refusal::OUT_OF_RANGE, wire as usize));
     }
-    let length = stage_length(m, stage_cells(n, m, tables));
+    let length = stage_length(kind, m, stage_selectors(kind, n, m, tables));
     if buffer.len() < length {
         return Written::Refused(Refusal::at(Refusal::SHORT_BUFFER, length));
     }
-    put_sheet(buffer, n, m, tables);
+    put_sheet(kind, buffer, n, m, tables);
     Written::Length(length)
+}
+
+// A stage of trees.
+pub fn write_stage(n: u8, m: u8, tables: [u16; Sheet::WIRES], buffer: &mut [u8]) -> Written
+    ensures { λ r.
+        ⌜ (writtenCase r ≡ writtenOf treeForm n m tables (length (now (buffer .entry)))) × (now (buffer .exit) ≡ bufferAfter treeForm n m tables (now (buffer .entry))) ⌝ }
+{
+    write_on(BoardKind::Tree, n, m, tables, buffer)
+}
+
+// A stage of diagrams (document 02, E2).
+pub fn write_shared(n: u8, m: u8, tables: [u16; Sheet::WIRES], buffer: &mut [u8]) -> Written
+    ensures { λ r.
+        ⌜ (writtenCase r ≡ writtenOf diagramForm n m tables (length (now (buffer .entry)))) × (now (buffer .exit) ≡ bufferAfter diagramForm n m tables (now (buffer .entry))) ⌝ }
+{
+    write_on(BoardKind::Sharing, n, m, tables, buffer)
 }

@@ -8,8 +8,8 @@ use lib.ListN.{length, getD, length-map}
 use Rattle.base.specs.Each.{Each}
 use Rattle.table.specs.Bits.{bit, sum, ofBits}
 use Rattle.table.specs.Cells.{wires, total}
-use Rattle.table.specs.Drawing.{Drawing, drawnValue, drawnCells}
-use Rattle.table.specs.Inner.Drawing.{drawnTable, FairCount}
+use Rattle.table.specs.Drawing.{Drawing, drawnTable, drawnValue, drawnCells}
+use Rattle.table.specs.Inner.Drawing.{FairCount}
 use Rattle.table.proofs.Sums.{sum-cong}
 use Rattle.table.proofs.Bits.{ofBits-lt, bit-ofBits}
 

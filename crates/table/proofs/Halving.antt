@@ -59,29 +59,29 @@ module _ (r h l : ℕ) (lh : h < 2 ^ (2 ^ r)) (ll : l < 2 ^ (2 ^ r)) where
   unfolding join
   join-lt = rw (two-pow-succ r, pow-add) (digits-lt lh ll)
 
-join-halves : (r t : ℕ) → t ≡ join r (high r t) (low r t)
+pub join-halves : (r t : ℕ) → t ≡ join r (high r t) (low r t)
 unfolding join high low
 join-halves r t = sym (mod-add-div' t (2 ^ (2 ^ r))) ∙ add-comm (t % 2 ^ (2 ^ r)) (t / 2 ^ (2 ^ r) * 2 ^ (2 ^ r))
 
-join-le : (r h l h′ l′ : ℕ) → h ≤ h′ → l ≤ l′ → join r h l ≤ join r h′ l′
+pub join-le : (r h l h′ l′ : ℕ) → h ≤ h′ → l ≤ l′ → join r h l ≤ join r h′ l′
 unfolding join
 join-le r h l h′ l′ a b = omega (arith, mul-le-mul-right (2 ^ (2 ^ r)) a)
 
 -- a table suits where its halves do
 module _ (r : ℕ) (P : Proj) (t : ℕ) where
-  suits-low : T (suits (suc r) P t) → T (suits r P (low r t))
+  pub suits-low : T (suits (suc r) P t) → T (suits r P (low r t))
   unfolding suits
   suits-low s =
       all-intro (2 ^ r) (λ p. P p (bit (low r t) p))
       (λ p l. rw (low-bit r t p l) (all-at (2 ^ suc r) (λ p. P p (bit t p)) s p (omega arith)))
 
-  suits-high : T (suits (suc r) P t) → T (suits r (upper r P) (high r t))
+  pub suits-high : T (suits (suc r) P t) → T (suits r (upper r P) (high r t))
   unfolding suits upper
   suits-high s =
       all-intro (2 ^ r) (λ p. P (p + 1 * 2 ^ r) (bit (high r t) p))
       (λ p l. rw (high-bit r t p) (all-at (2 ^ suc r) (λ p. P p (bit t p)) s (p + 1 * 2 ^ r) (omega arith)))
 
-  suits-both : T (suits r P (low r t)) → T (suits r (upper r P) (high r t)) → T (suits (suc r) P t)
+  pub suits-both : T (suits r P (low r t)) → T (suits r (upper r P) (high r t)) → T (suits (suc r) P t)
   unfolding suits upper
   suits-both a b =
       all-intro (2 ^ suc r) (λ p. P p (bit t p))
@@ -110,7 +110,7 @@ common-suits r P t s =
     )
 
 module _ (r : ℕ) (P : Proj) where
-  join-suits : (h l : ℕ) → h < 2 ^ (2 ^ r) → l < 2 ^ (2 ^ r) → T (suits r (upper r P) h) → T (suits r P l) → T (suits (suc r) P (join r h l))
+  pub join-suits : (h l : ℕ) → h < 2 ^ (2 ^ r) → l < 2 ^ (2 ^ r) → T (suits r (upper r P) h) → T (suits r P l) → T (suits (suc r) P (join r h l))
   join-suits h l lh ll a b = suits-both r P (join r h l) (rw (join-low r h l lh ll) b) (rw (join-high r h l lh ll) a)
 
   -- the common half against tables of equal halves

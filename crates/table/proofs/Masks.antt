@@ -71,9 +71,9 @@ masked-has zeros ones p h =
     one z = omega (arith, bit-lt ones p)
 
 -- covered masks have a pick
-pub pick-some : (n zeros ones : ℕ) → Covered n zeros ones → leastOf (cells n) n (masked zeros ones) ≡ some (pickOf n zeros ones)
+pub pick-some : (key : ℕ → ℕ) (n zeros ones : ℕ) → Covered n zeros ones → leastOf key n (masked zeros ones) ≡ some (pickOf key n zeros ones)
 unfolding pickOf
-pick-some n zeros ones h = least-some (cells n) n (masked zeros ones) (λ p l. masked-has zeros ones p (h p l))
+pick-some key n zeros ones h = least-some key n (masked zeros ones) (λ p l. masked-has zeros ones p (h p l))
 
 -- the halves of the projection are told by the halves of the masks
 module _ (r zeros ones : ℕ) where

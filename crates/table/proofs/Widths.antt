@@ -31,30 +31,30 @@ fit w e h = subst (λ m. WidthFits m w) e (h .3, h .4, h .5)
 
 -- the rank of the pick between the pair's masks
 abbrev rankIn : (n w : ℕ) → ℕ
-rankIn n w = rank n (pickOf n (zerosIn w) (onesIn w))
+rankIn n w = rank (cells n) (pickOf (cells n) n (zerosIn w) (onesIn w))
 
 -- the rank at n inputs is that at k, where n is k
 pub rank-at : {t : List ℕ} {n k x : ℕ} (w : ℕ) → n ≡ k → Asked t n w → (WidthFits k w → x ≡ rankIn k w) → x ≡ rankIn n w
 rank-at w e h f = rw e (f (fit w e h))
 
-inside : (n zeros ones : ℕ) → Covered n zeros ones → pickOf n zeros ones < 2 ^ (2 ^ n)
-inside n zeros ones h = subst (λ o. BestTable n (masked zeros ones) o) (pick-some n zeros ones h) (least-best n (masked zeros ones)) .inside
+inside : (n zeros ones : ℕ) → Covered n zeros ones → pickOf (cells n) n zeros ones < 2 ^ (2 ^ n)
+inside n zeros ones h = subst (λ o. BestTable n (masked zeros ones) o) (pick-some (cells n) n zeros ones h) (least-best n (masked zeros ones)) .inside
 
 -- one input, looked up as two: each mask stands twice in its half of the place
 pub one-place : (w : ℕ) → w < 2 ^ pairBits → WidthFits 1 w → w * (oneSpace + 1) < entries
 one-place w l f = omega (arith, one-byte w l (omega (arith, f .0)) (omega (arith, f .1)), f .0, f .1)
 
 rank-one : (zeros ones x : ℕ) → zeros < oneSpace → ones < oneSpace → Covered 1 zeros ones → x ≡ blockOf (zeros * (oneSpace + 1)) (ones * (oneSpace + 1))
-    → x / threeSpace * tableSpace + x % oneSpace ≡ rank 1 (pickOf 1 zeros ones)
+    → x / threeSpace * tableSpace + x % oneSpace ≡ rank (cells 1) (pickOf (cells 1) 1 zeros ones)
 unfolding blockOf entryOf rank join
 rank-one zeros ones x lz lo h e =
-    let t = pickOf 1 zeros ones in
+    let t = pickOf (cells 1) 1 zeros ones in
     let u = t * oneSpace + t in
     let lt : t < oneSpace = inside 1 zeros ones h in
     let ez : zeros * (oneSpace + 1) ≡ zeros * oneSpace + zeros = omega arith in
     let eo : ones * (oneSpace + 1) ≡ ones * oneSpace + ones = omega arith in
     let k : x ≡ cells 2 u * threeSpace + u * (blockSpace + 1) =
-    e ∙ ap₂ (λ a b. entryOf (leastOf (cells 2) 2 (masked a b))) ez eo ∙ ap entryOf (least-repeated 1 zeros ones t lz lo (pick-some 1 zeros ones h)) in
+    e ∙ ap₂ (λ a b. entryOf (leastOf (cells 2) 2 (masked a b))) ez eo ∙ ap entryOf (least-repeated 1 zeros ones t lz lo (pick-some (cells 1) 1 zeros ones h)) in
     let m : x ≡ cells 1 t * threeSpace + u * (blockSpace + 1) = k ∙ ap (λ y. y * threeSpace + u * (blockSpace + 1)) (repeated 1 t lt) in
     let d = digits (cells 1 t) u x (omega arith) m in
     let f : x ≡ (cells 1 t * 64 + t * 21) * oneSpace + t = omega arith in
@@ -77,8 +77,8 @@ two-inputs w x l e f =
     let b = one-byte w l (f .0) (f .1) in
     let z : w / blockSpace ≡ zerosIn w = omega (arith, b, f .0, f .1) in
     let o : w % blockSpace ≡ onesIn w = omega (arith, b, f .0, f .1) in
-    let t = pickOf 2 (zerosIn w) (onesIn w) in
-    let k : x ≡ cells 2 t * threeSpace + t * (blockSpace + 1) = e ∙ ap₂ blockOf z o ∙ ap entryOf (pick-some 2 (zerosIn w) (onesIn w) (f .2)) in
+    let t = pickOf (cells 2) 2 (zerosIn w) (onesIn w) in
+    let k : x ≡ cells 2 t * threeSpace + t * (blockSpace + 1) = e ∙ ap₂ blockOf z o ∙ ap entryOf (pick-some (cells 2) 2 (zerosIn w) (onesIn w) (f .2)) in
     let d = digits (cells 2 t) t x (inside 2 (zerosIn w) (onesIn w) (f .2)) k in
     rw (d .0, d .1)
 
@@ -90,13 +90,13 @@ pub three-inputs : (w x : ℕ) → w < 2 ^ pairBits → PickShown 3 threeSpace (
     → WidthFits 3 w → x / threeSpace * tableSpace + x % threeSpace ≡ rankIn 3 w
 unfolding rank
 three-inputs w x l s f =
-    let t = pickOf 3 (zerosIn w) (onesIn w) in
+    let t = pickOf (cells 3) 3 (zerosIn w) (onesIn w) in
     let lt : t < threeSpace = inside 3 (zerosIn w) (onesIn w) (f .2) in
     let k : x ≡ cells 3 t * threeSpace + t =
-    subst (λ o. Shown 3 threeSpace o x) (pick-some 3 (zerosIn w) (onesIn w) (f .2)) (pair-told w x (two-bytes w l (f .0) (f .1)) (f .0) (f .1) s) in
+    subst (λ o. Shown 3 threeSpace o x) (pick-some (cells 3) 3 (zerosIn w) (onesIn w) (f .2)) (pair-told w x (two-bytes w l (f .0) (f .1)) (f .0) (f .1) s) in
     omega arith
 
 -- four inputs: the number that shows the pick is its rank
 pub four-inputs : (w x : ℕ) → PickShown 4 tableSpace (zerosIn w) (onesIn w) x → WidthFits 4 w → x ≡ rankIn 4 w
 unfolding rank
-four-inputs w x s f = subst (λ o. Shown 4 tableSpace o x) (pick-some 4 (zerosIn w) (onesIn w) (f .2)) s
+four-inputs w x s f = subst (λ o. Shown 4 tableSpace o x) (pick-some (cells 4) 4 (zerosIn w) (onesIn w) (f .2)) s

@@ -1,6 +1,6 @@
 -- What drives one wire is a drawing: on the board of document 01 a tree of selectors. Stages, rivals and promises are told over what a drawing is,
 -- so that a board whose wires are drawn otherwise needs no more than another `Drawing`.
-use Prim.Native.Nat.{ℕ, zero, _+_}
+use Prim.Native.Nat.{ℕ, zero, _+_, _^_}
 use mathlib.Core.Path.{_≡_}
 use mathlib.Core.List.{List, [], _∷_, map}
 use lib.ListN.{length, getD}
@@ -31,6 +31,10 @@ pub record Drawn (D : Drawing) (n m : ℕ) (stage : List (D .Shape)) : Type 0 wh
   pub formed : Each (D .WellFormed n) stage
 
 module _ (D : Drawing) where
+  -- the truth table of a drawing: bit p is what it drives on pattern p
+  unfoldable pub drawnTable : (n : ℕ) → D .Shape → ℕ
+  drawnTable n x = ofBits (2 ^ n) (λ p. D .follow n p x)
+
   -- the value of a stage on pattern p: bit j is what the drawing of wire j drives
   unfoldable pub drawnValue : (n : ℕ) → List (D .Shape) → (p : ℕ) → ℕ
   drawnValue n stage p = ofBits (length stage) (λ j. getD (map (D .follow n p) stage) j 0)

@@ -6,6 +6,7 @@ use sheet::Sheet;
 ghost use mathlib.Core.Path.{_≡_};
 ghost use Prim.Native.Nat.{_<_, _≤_, _^_, min};
 ghost use Rattle.sheet.specs.Limits.{maxInputs};
+ghost use Rattle.table.specs.Cells.{cells};
 ghost use Rattle.table.specs.Inner.Ranks.{pickOf, rank, tableSpace};
 ghost use Rattle.table.specs.Inner.Blocks.{entries, threeSpace, noEntry, blockAt, zerosAt, onesAt, Blocks, PickShown, Covered};
 ghost use Rattle.table.specs.Inner.Pairs.{zerosIn, onesIn};
@@ -14,9 +15,9 @@ ghost use Rattle.table.specs.Inner.Pairs.{zerosIn, onesIn};
 pub const BLOCK_PATTERNS: u8 = 4;
 
 // The tables of one input, of a block of two and of three inputs are the numbers below these: a table has a bit for each pattern.
-const ONE_SPACE: u32 = 4;
+pub const ONE_SPACE: u32 = 4;
 
-const BLOCK_SPACE: u32 = 1 << BLOCK_PATTERNS;
+pub const BLOCK_SPACE: u32 = 1 << BLOCK_PATTERNS;
 
 pub const THREE_SPACE: u32 = 256;
 
@@ -24,14 +25,14 @@ pub const THREE_SPACE: u32 = 256;
 pub const TABLE_SPACE: u32 = 1 << Sheet::MAX_PATTERNS;
 
 // A pair of masks of a block is a byte, the place of its entry: so many places.
-const PLACES: u32 = BLOCK_SPACE * BLOCK_SPACE;
+pub const PLACES: u32 = BLOCK_SPACE * BLOCK_SPACE;
 
 pub const ENTRIES: usize = PLACES as usize;
 
 // What the lowest bits of the third and of the fourth byte of a pair count for.
-const THIRD_BYTE: u32 = PLACES * PLACES;
+pub const THIRD_BYTE: u32 = PLACES * PLACES;
 
-const FOURTH_BYTE: u32 = THIRD_BYTE * PLACES;
+pub const FOURTH_BYTE: u32 = THIRD_BYTE * PLACES;
 
 // The pick of each pair of masks of two inputs, at zeros * BLOCK_SPACE + ones: cells * THREE_SPACE + table * 17, the table twice side by side.
 // Where some pattern is in no mask there is none: 64 cells.
@@ -301,7 +302,7 @@ pub fn blocks() -> [u16; ENTRIES]
     BLOCKS
 }
 
-fn lesser(a: u32, b: u32) -> u32
+pub fn lesser(a: u32, b: u32) -> u32
     ensures { λ r. ⌜ r ≡ min a b ⌝ }
 {
     if a < b { a } else { b }
@@ -355,7 +356,7 @@ fn pick4(e: &[u16; ENTRIES], pair: u32) -> u32
 pub fn pick(e: &[u16; ENTRIES], n: u8, pair: u32) -> u32
     requires { ⌜ Blocks (now e) × (1 ≤ n) × (n ≤ maxInputs) × (zerosIn pair < 2 ^ (2 ^ n)) × (onesIn pair < 2 ^ (2 ^ n))
         × Covered n (zerosIn pair) (onesIn pair) ⌝ }
-    ensures { λ r. ⌜ r ≡ rank n (pickOf n (zerosIn pair) (onesIn pair)) ⌝ }
+    ensures { λ r. ⌜ r ≡ rank (cells n) (pickOf (cells n) n (zerosIn pair) (onesIn pair)) ⌝ }
 {
     match n {
         1 => {

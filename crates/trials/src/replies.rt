@@ -5,6 +5,7 @@ use base::Verdict;
 use base::Written;
 use base::byte_at;
 use clean::LONGEST_COPY;
+use diagram::LONGEST_SHARED;
 use quote::Audited;
 use quote::Quoted;
 use relation::Relation;
@@ -17,6 +18,7 @@ use samples::lines::FILL;
 use samples::lines::put_kept;
 use samples::lines::put_spaced;
 use samples::lines::put_tables;
+use samples::records::call_of;
 use samples::records::length_at;
 use samples::records::part;
 use samples::records::sets_at;
@@ -24,10 +26,10 @@ use samples::records::tables_at;
 use samples::records::u32_at;
 use search::Mark;
 use sheet::Sheet;
-use stage::LONGEST_STAGE;
 use stage_reader::StageRead;
-use stage_reader::read_stage;
-use stage_writer::write_stage;
+use stage_reader::read_on;
+use stage_writer::write_on;
+use table::BoardKind;
 use text::put_byte;
 use text::put_named;
 use text::put_text;
@@ -69,7 +71,7 @@ fn put_quote_line(out: &mut [u8], at: usize, q: Quoted, word: &[u8], buffer: &[u
 {
     let counts = put_counts(out, at, q.cells, q.floor, q.visits);
     let line = put_text(out, counts, word);
-    put_shown(out, line, buffer, q.length, LONGEST_STAGE)
+    put_shown(out, line, buffer, q.length, LONGEST_SHARED)
 }
 
 // The lines of a quote.
@@ -86,16 +88,23 @@ fn put_quoted(out: &mut [u8], at: usize, q: Quoted, buffer: &[u8]) -> usize
 }
 
 // The lines of the quote for a sheet, with a buffer for its stage.
-fn put_quote_into(out: &mut [u8], at: usize, sheet: &[u8], budget: u32, buffer: &mut [u8]) -> usize
+fn put_quote_into(
+    board: BoardKind,
+    out: &mut [u8],
+    at: usize,
+    sheet: &[u8],
+    budget: u32,
+    buffer: &mut [u8],
+) -> usize
     requires { ⌜ at + longestReply ≤ lastPlace ⌝ }
     ensures { λ r. ⌜ r ≤ at + longestReply ⌝ }
 {
-    let q = quote::quote(sheet, budget, buffer);
+    let q = quote::quote_on(board, sheet, budget, buffer);
     put_quoted(out, at, q, buffer)
 }
 
 // Quote: budget (4 bytes), buffer length (1), sheet length (2), sheet.
-fn put_quote(out: &mut [u8], at: usize, s: &[u8], from: usize) -> usize
+fn put_quote(board: BoardKind, out: &mut [u8], at: usize, s: &[u8], from: usize) -> usize
     requires { ⌜ (at + longestReply ≤ lastPlace) × (from + longestRecord ≤ lastPlace) ⌝ }
     ensures { λ r. ⌜ r ≤ at + longestReply ⌝ }
 {
@@ -103,7 +112,7 @@ fn put_quote(out: &mut [u8], at: usize, s: &[u8], from: usize) -> usize
     let room = byte_at(s, from + 5) as usize;
     let sheet = part(s, from + 8, length_at(s, from + 6));
     let mut space = [FILL; MOST_ROOM];
-    put_quote_into(out, at, sheet, budget, &mut space[0..room])
+    put_quote_into(board, out, at, sheet, budget, &mut space[0..room])
 }
 
 // The line of a stage that was judged: the word of the judgement, and the stage's cells.
@@ -129,14 +138,14 @@ fn put_audited(out: &mut [u8], at: usize, audited: Audited) -> usize
 }
 
 // Audit: sheet length (2), stage length (2), sheet, stage.
-fn put_audit(out: &mut [u8], at: usize, s: &[u8], from: usize) -> usize
+fn put_audit(board: BoardKind, out: &mut [u8], at: usize, s: &[u8], from: usize) -> usize
     requires { ⌜ (at + longestReply ≤ lastPlace) × (from + longestRecord ≤ lastPlace) ⌝ }
     ensures { λ r. ⌜ r ≤ at + longestReply ⌝ }
 {
     let sheet_length = length_at(s, from + 1);
     let sheet = part(s, from + 5, sheet_length);
     let stage = part(s, from + 5 + sheet_length, length_at(s, from + 3));
-    put_audited(out, at, quote::audit(sheet, stage))
+    put_audited(out, at, quote::audit_on(board, sheet, stage))
 }
 
 // The line of a search that found tables.
@@ -151,14 +160,14 @@ fn put_found(out: &mut [u8], at: usize, answer: search::Answer, word: &[u8]) -> 
 }
 
 // Search: n (1), m (1), budget (4), sixteen sets (2 each).
-fn put_search(out: &mut [u8], at: usize, s: &[u8], from: usize) -> usize
+fn put_search(board: BoardKind, out: &mut [u8], at: usize, s: &[u8], from: usize) -> usize
     requires { ⌜ (at + longestReply ≤ lastPlace) × (from + longestRecord ≤ lastPlace) ⌝ }
     ensures { λ r. ⌜ r ≤ at + longestReply ⌝ }
 {
     let n = byte_at(s, from + 1);
     let m = byte_at(s, from + 2);
     let sets = sets_at(s, from + 7);
-    let answer = search::search(Relation { n, m, sets }, u32_at(s, from + 3));
+    let answer = search::search_on(board, Relation { n, m, sets }, u32_at(s, from + 3));
     let mark = answer.mark;
     match mark {
         Mark::Best => put_found(out, at, answer, b" best\n"),
@@ -183,6 +192,7 @@ fn put_written(out: &mut [u8], at: usize, written: Written, buffer: &[u8], most:
 
 // The line of a stage that is yet to be written.
 fn put_write_into(
+    board: BoardKind,
     out: &mut [u8],
     at: usize,
     n: u8,
@@ -193,12 +203,12 @@ fn put_write_into(
     requires { ⌜ at + longestReply ≤ lastPlace ⌝ }
     ensures { λ r. ⌜ r ≤ at + longestReply ⌝ }
 {
-    let written = write_stage(n, m, tables, buffer);
-    put_written(out, at, written, buffer, LONGEST_STAGE)
+    let written = write_on(board, n, m, tables, buffer);
+    put_written(out, at, written, buffer, LONGEST_SHARED)
 }
 
 // Write a stage: n (1), m (1), buffer length (1), four tables (2 each).
-fn put_write(out: &mut [u8], at: usize, s: &[u8], from: usize) -> usize
+fn put_write(board: BoardKind, out: &mut [u8], at: usize, s: &[u8], from: usize) -> usize
     requires { ⌜ (at + longestReply ≤ lastPlace) × (from + longestRecord ≤ lastPlace) ⌝ }
     ensures { λ r. ⌜ r ≤ at + longestReply ⌝ }
 {
@@ -206,6 +216,7 @@ fn put_write(out: &mut [u8], at: usize, s: &[u8], from: usize) -> usize
     let tables = tables_at(s, from + 4);
     let mut space = [FILL; MOST_ROOM];
     put_write_into(
+        board,
         out,
         at,
         byte_at(s, from + 1),
@@ -228,12 +239,12 @@ fn put_stage_read(out: &mut [u8], at: usize, read: StageRead) -> usize
 }
 
 // Read a stage: length (2), stage.
-fn put_read(out: &mut [u8], at: usize, s: &[u8], from: usize) -> usize
+fn put_read(board: BoardKind, out: &mut [u8], at: usize, s: &[u8], from: usize) -> usize
     requires { ⌜ (at + longestReply ≤ lastPlace) × (from + longestRecord ≤ lastPlace) ⌝ }
     ensures { λ r. ⌜ r ≤ at + longestReply ⌝ }
 {
     let stage = part(s, from + 3, length_at(s, from + 1));
-    let read = read_stage(stage);
+    let read = read_on(board, stage);
     let answer = read.answer;
     match answer {
         Verdict::Accepted => put_stage_read(out, at, read),
@@ -261,18 +272,29 @@ fn put_clean(out: &mut [u8], at: usize, s: &[u8], from: usize) -> usize
     put_clean_into(out, at, sheet, &mut space[0..room])
 }
 
+// The board that a record is for, by its kind byte.
+fn board_of(kind: u8) -> BoardKind {
+    if call_of(kind) == kind {
+        BoardKind::Tree
+    } else {
+        BoardKind::Sharing
+    }
+}
+
 // The reply to the record at a place.
 pub fn put_reply(out: &mut [u8], at: usize, s: &[u8], from: usize) -> usize
     requires { ⌜ (at + longestReply ≤ lastPlace) × (from + longestRecord ≤ lastPlace) ⌝ }
     ensures { λ r. ⌜ r ≤ at + longestReply ⌝ }
 {
     let kind = byte_at(s, from);
-    match kind {
-        b'Q' => put_quote(out, at, s, from),
-        b'A' => put_audit(out, at, s, from),
-        b'S' => put_search(out, at, s, from),
-        b'W' => put_write(out, at, s, from),
-        b'R' => put_read(out, at, s, from),
+    let board = board_of(kind);
+    let call = call_of(kind);
+    match call {
+        b'Q' => put_quote(board, out, at, s, from),
+        b'A' => put_audit(board, out, at, s, from),
+        b'S' => put_search(board, out, at, s, from),
+        b'W' => put_write(board, out, at, s, from),
+        b'R' => put_read(board, out, at, s, from),
         b'C' => put_clean(out, at, s, from),
         _ => put_text(out, at, b"unknown kind\n"),
     }

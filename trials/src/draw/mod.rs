@@ -1,6 +1,9 @@
 //! What the cases are drawn from.
 
+pub mod boards;
 pub mod damage;
+pub mod diagram_faults;
+pub mod diagrams;
 pub mod limits;
 pub mod relations;
 pub mod sheet_faults;

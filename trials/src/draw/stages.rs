@@ -94,7 +94,7 @@ mod tests {
                 *t = table(&mut rng, n.into());
             }
             let padded = read(&padded(&mut rng, n, m, &tables)).expect("drawn to be read");
-            assert_eq!(padded.tables(), tables);
+            assert_eq!(padded.tables, tables);
         }
     }
 }

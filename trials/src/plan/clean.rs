@@ -114,13 +114,14 @@ impl Planner {
 #[cfg(test)]
 mod tests {
     use super::*;
+    use crate::board::Board;
     use crate::pick::Picker;
     use crate::random::Random;
 
     /// Sheets that say the same give the same line, and are seldom the same.
     #[test]
     fn twins_give_the_same_line() {
-        let mut planner = Planner { rng: Random::new(103) };
+        let mut planner = Planner { board: Board::Tree, rng: Random::new(103) };
         let mut picker = Picker::new();
         let mut other = 0;
         for _ in 0..500 {
@@ -134,7 +135,7 @@ mod tests {
 
     #[test]
     fn no_buffer_is_too_long() {
-        let cases = cases(&mut Planner { rng: Random::new(104) });
+        let cases = cases(&mut Planner { board: Board::Tree, rng: Random::new(104) });
         let room = |case: &Case| matches!(case, Case::Clean { room, .. } if usize::from(*room) <= MOST_ROOM);
         assert!(cases.iter().all(room));
     }

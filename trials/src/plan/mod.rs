@@ -3,19 +3,21 @@
 //! earlier cases stay as they are.
 
 mod clean;
+mod shared;
 
+use crate::board::Board;
 use crate::case::Case;
+use crate::draw::boards;
 use crate::draw::damage::damage;
 use crate::draw::relations::{half_dense, junk_past_the_last, malformed, sets, thin};
 use crate::draw::sheet_faults::{plant, soup};
 use crate::draw::sheets::{draft, draft_of, hard_draft, hard_draft_of, Draft};
-use crate::draw::{bad_size, high_bit, sizes, stage_faults, stages};
+use crate::draw::{bad_size, high_bit, sizes, stages};
 use crate::fast;
 use crate::random::Random;
 use crate::relation::{handed, of_unit, Relation};
 use crate::rows::rows;
 use crate::sheet;
-use crate::stage::bytes_of;
 
 const SEED: u64 = 0x5EED_2013_0F57_A6E5;
 
@@ -34,7 +36,7 @@ const WRITES: usize = 3_000;
 const READS: usize = 2_400;
 const FAULTY_READS: usize = 3_200;
 
-/// The longest sheet or stage of a case.
+/// The longest sheet or stage of a case, but for a few stages of long lists.
 const LONGEST: usize = 400;
 
 /// A search that takes more visits than this is long. There are few of them,
@@ -45,7 +47,7 @@ const MOST_VISITS: u32 = 30_000;
 
 pub fn cases() -> Vec<Case> {
     let mut cases: Vec<Case> = rows().into_iter().map(|(_, case)| case).collect();
-    let mut planner = Planner { rng: Random::new(SEED) };
+    let mut planner = Planner { board: Board::Tree, rng: Random::new(SEED) };
     let mut many = |count: usize, draw: &mut dyn FnMut(&mut Planner) -> Case| {
         for _ in 0..count {
             cases.push(draw(&mut planner));
@@ -65,6 +67,7 @@ pub fn cases() -> Vec<Case> {
     many(READS, &mut Planner::read);
     many(FAULTY_READS, &mut Planner::faulty_read);
     cases.extend(clean::cases(&mut planner));
+    cases.extend(shared::cases(&mut planner));
     cases
 }
 
@@ -72,16 +75,24 @@ fn well_defined(n: u8, m: u8, sets: &[u16; 16]) -> Relation {
     handed(n, m, sets).expect("drawn to be well defined")
 }
 
-/// Whether the search does not end with its first answer.
-fn is_open(r: &Relation) -> bool {
-    fast::search(r.n, &r.sets, 1).visits > 0
-}
-
 struct Planner {
+    /// Which board the calls are for.
+    board: Board,
     rng: Random,
 }
 
 impl Planner {
+    // How long a search is, the fast one tells.
+
+    fn search_of(&self, r: &Relation, budget: u32) -> fast::Answer {
+        fast::search(self.board, r.n, &r.sets, budget)
+    }
+
+    /// Whether the search does not end with its first answer.
+    fn is_open(&self, r: &Relation) -> bool {
+        self.search_of(r, 1).visits > 0
+    }
+
     // Budgets and buffers.
 
     /// Any budget, for input that is refused.
@@ -89,11 +100,9 @@ impl Planner {
         self.rng.of(&[0, 1, 2, 10_000, u32::MAX])
     }
 
-    /// A budget for a relation: 0, 1, few, just enough, one too few, many. How
-    /// long the search is, the fast one tells.
+    /// A budget for a relation: 0, 1, few, just enough, one too few, many.
     fn budget(&mut self, r: &Relation) -> u32 {
-        let probe = fast::search(r.n, &r.sets, LONG + 1);
-        let visits = probe.visits;
+        let visits = self.search_of(r, LONG + 1).visits;
         let budget = match self.rng.below(12) {
             0 => 0,
             1 => 1,
@@ -114,7 +123,7 @@ impl Planner {
 
     /// A buffer length around a stage's.
     fn room(&mut self, need: usize) -> u8 {
-        self.room_around(need, 196, 255) as u8
+        self.room_around(need, self.board.longest(), 255) as u8
     }
 
     /// A buffer length around the need; `longest` is the longest need there is.
@@ -145,7 +154,7 @@ impl Planner {
         loop {
             let sheet = hard_draft(&mut self.rng).sheet(&mut self.rng);
             let formed = sheet::read(&sheet).and_then(|unit| of_unit(&unit));
-            if formed.is_ok_and(|r| is_open(&r)) || self.rng.once_in(6) {
+            if formed.is_ok_and(|r| self.is_open(&r)) || self.rng.once_in(6) {
                 return self.quote_of(sheet);
             }
         }
@@ -157,8 +166,9 @@ impl Planner {
             let (n, m) = (self.rng.of(&[3, 4]), self.rng.of(&[3, 4]));
             let sheet = hard_draft_of(&mut self.rng, n, m).sheet(&mut self.rng);
             let Ok(r) = sheet::read(&sheet).and_then(|unit| of_unit(&unit)) else { continue };
-            if (LONG + 1..=10_000).contains(&fast::search(r.n, &r.sets, MOST_VISITS).visits) {
-                return Case::Quote { budget: self.rng.of(&[10_000, u32::MAX]), room: 255, sheet };
+            if (LONG + 1..=10_000).contains(&self.search_of(&r, MOST_VISITS).visits) {
+                let budget = self.rng.of(&[10_000, u32::MAX]);
+                return Case::Quote { board: self.board, budget, room: 255, sheet };
             }
         }
     }
@@ -169,11 +179,14 @@ impl Planner {
         match sheet::read(&sheet).and_then(|unit| of_unit(&unit)) {
             Ok(r) => {
                 let budget = self.budget(&r);
-                let answer = fast::search(r.n, &r.sets, budget);
-                let room = self.room((4 + 3 * r.m + 3 * answer.cells) as usize);
-                Case::Quote { budget, room, sheet }
+                let answer = self.search_of(&r, budget);
+                let room = self.room(self.board.length(r.m, answer.cells));
+                Case::Quote { board: self.board, budget, room, sheet }
             }
-            Err(_) => Case::Quote { budget: self.any_budget(), room: self.rng.of(&[0, 1, 16, 196]), sheet },
+            Err(_) => {
+                let (budget, room) = (self.any_budget(), self.rng.of(&[0, 1, 16, 196]));
+                Case::Quote { board: self.board, budget, room, sheet }
+            }
         }
     }
 
@@ -255,7 +268,7 @@ impl Planner {
                 self.any_stage(n, m)
             }
         };
-        Case::Audit { sheet, stage }
+        Case::Audit { board: self.board, sheet, stage }
     }
 
     /// A stage that fits the relation, nearly fits, or does not.
@@ -263,18 +276,16 @@ impl Planner {
         let (n, m) = (r.n as u8, r.m as u8);
         match self.rng.below(12) {
             0 | 1 => {
-                let found = fast::search(r.n, &r.sets, 20);
-                bytes_of(r.n, r.m, &found.tables)
+                let found = self.search_of(r, 20);
+                self.board.bytes_of(r.n, r.m, &found.tables)
             }
             2..=4 => {
                 let tables = self.compatible(r);
-                stages::padded(&mut self.rng, n, m, &tables)
+                boards::padded(self.board, &mut self.rng, n, m, &tables)
             }
             5 | 6 => {
                 let tables = self.compatible(r);
-                let mut stage = stages::padded(&mut self.rng, n, m, &tables);
-                stages::turn_a_constant(&mut self.rng, &mut stage);
-                stage
+                boards::turned(self.board, &mut self.rng, n, m, &tables)
             }
             7 => {
                 // Other sizes.
@@ -283,7 +294,7 @@ impl Planner {
                     1 => (n % 4 + 1, m),
                     _ => sizes(&mut self.rng),
                 };
-                stages::stage(&mut self.rng, n, m).concat()
+                boards::stage(self.board, &mut self.rng, n, m)
             }
             _ => self.any_stage(n, m),
         }
@@ -304,17 +315,11 @@ impl Planner {
 
     /// A stage of those sizes: good, with a fault, or damaged.
     fn any_stage(&mut self, n: u8, m: u8) -> Vec<u8> {
-        let rng = &mut self.rng;
+        let (board, rng) = (self.board, &mut self.rng);
         match rng.below(4) {
-            0 => stages::stage(rng, n, m).concat(),
-            1 => {
-                let stage = stages::stage(rng, n, m).concat();
-                damage(rng, &stage)
-            }
-            _ => {
-                let number = rng.of(&stage_faults::NUMBERS);
-                stage_faults::faulty(rng, number, n, m).concat()
-            }
+            0 => boards::stage(board, rng, n, m),
+            1 => boards::damaged(board, rng, n, m),
+            _ => boards::faulty(board, rng, n, m),
         }
     }
 
@@ -325,7 +330,7 @@ impl Planner {
         let mut drawn = sets(&mut self.rng, n, m);
         // Half of those that end with the first answer are drawn again.
         let mut r = well_defined(n, m, &drawn);
-        if !is_open(&r) && self.rng.once_in(2) {
+        if !self.is_open(&r) && self.rng.once_in(2) {
             drawn = sets(&mut self.rng, n, m);
             r = well_defined(n, m, &drawn);
         }
@@ -333,7 +338,7 @@ impl Planner {
         if self.rng.once_in(2) {
             junk_past_the_last(&mut self.rng, n, &mut drawn);
         }
-        Case::Search { n, m, budget, sets: drawn }
+        Case::Search { board: self.board, n, m, budget, sets: drawn }
     }
 
     /// A search of many visits: to its end, one visit short of it, or neither.
@@ -346,7 +351,7 @@ impl Planner {
                 (n, m, sets(&mut self.rng, n, m))
             };
             let r = well_defined(n, m, &sets);
-            let probe = fast::search(r.n, &r.sets, MOST_VISITS);
+            let probe = self.search_of(&r, MOST_VISITS);
             let whole = probe.visits;
             // Few of the longest.
             if probe.stopped || whole <= LONG || whole > 4_000 && !self.rng.once_in(4) {
@@ -354,7 +359,7 @@ impl Planner {
             }
             let any = self.rng.within(0, whole as usize) as u32;
             let budget = self.rng.of(&[u32::MAX, u32::MAX, u32::MAX, 10_000, 10_000, whole, whole - 1, any]);
-            return Case::Search { n, m, budget, sets };
+            return Case::Search { board: self.board, n, m, budget, sets };
         }
     }
 
@@ -367,8 +372,8 @@ impl Planner {
                     *set = thin(&mut self.rng, 5);
                 }
             }
-            if fast::search(4, &sets, 10_000).stopped {
-                return Case::Search { n: 4, m: 4, budget: 10_000, sets };
+            if fast::search(self.board, 4, &sets, 10_000).stopped {
+                return Case::Search { board: self.board, n: 4, m: 4, budget: 10_000, sets };
             }
         }
     }
@@ -382,18 +387,15 @@ impl Planner {
             Ok(r) => self.budget(&r),
             Err(_) => self.any_budget(),
         };
-        Case::Search { n, m, budget, sets }
+        Case::Search { board: self.board, n, m, budget, sets }
     }
 
     // Stages.
 
     fn write(&mut self) -> Case {
         let (mut n, mut m) = sizes(&mut self.rng);
-        let mut tables = [0; 4];
-        for table in tables.iter_mut().take(m.into()) {
-            *table = stages::table(&mut self.rng, n.into());
-        }
-        let need = bytes_of(n.into(), m.into(), &tables).len();
+        let mut tables = self.tables(n, m);
+        let need = self.board.bytes_of(n.into(), m.into(), &tables).len();
         if self.rng.once_in(2) {
             // Past wire m-1 anything may stand.
             for table in tables.iter_mut().skip(m.into()) {
@@ -415,41 +417,39 @@ impl Planner {
                 _ => (n, m) = (bad_size(&mut self.rng), bad_size(&mut self.rng)),
             }
         }
-        Case::Write { n, m, room, tables }
+        Case::Write { board: self.board, n, m, room, tables }
+    }
+
+    /// Tables for so many wires; 0 past them.
+    fn tables(&mut self, n: u8, m: u8) -> [u16; 4] {
+        let mut tables = [0; 4];
+        for table in tables.iter_mut().take(m.into()) {
+            *table = stages::table(&mut self.rng, n.into());
+        }
+        tables
     }
 
     fn read(&mut self) -> Case {
         let (n, m) = sizes(&mut self.rng);
         let stage = if self.rng.once_in(3) {
-            let mut tables = [0; 4];
-            for table in tables.iter_mut().take(m.into()) {
-                *table = stages::table(&mut self.rng, n.into());
-            }
-            stages::padded(&mut self.rng, n, m, &tables)
+            let tables = self.tables(n, m);
+            boards::padded(self.board, &mut self.rng, n, m, &tables)
         } else {
-            stages::stage(&mut self.rng, n, m).concat()
+            boards::stage(self.board, &mut self.rng, n, m)
         };
-        Case::Read { stage }
+        Case::Read { board: self.board, stage }
     }
 
     fn faulty_read(&mut self) -> Case {
-        let (n, m) = sizes(&mut self.rng);
-        let stage = match self.rng.below(16) {
-            0 => {
-                let length = self.rng.below(12);
-                (0..length).map(|_| crate::draw::damage::small(&mut self.rng)).collect()
-            }
-            1..=5 => {
-                let stage = stages::stage(&mut self.rng, n, m).concat();
-                damage(&mut self.rng, &stage)
-            }
-            _ => {
-                let number = self.rng.of(&stage_faults::NUMBERS);
-                stage_faults::faulty(&mut self.rng, number, n, m).concat()
-            }
+        let (board, rng) = (self.board, &mut self.rng);
+        let (n, m) = sizes(rng);
+        let stage = match rng.below(16) {
+            0 => boards::scrap(board, rng),
+            1..=5 => boards::damaged(board, rng, n, m),
+            _ => boards::faulty(board, rng, n, m),
         };
         assert!(stage.len() <= LONGEST);
-        Case::Read { stage }
+        Case::Read { board, stage }
     }
 }
 
@@ -468,12 +468,24 @@ mod tests {
         for number in 0..14 {
             assert!(tally.refusals(number) >= 100, "refusal {number}: {}", tally.refusals(number));
         }
-        for number in 0..14 {
-            let met = tally.refusals_of(b'C', number);
-            let is_its_own = !matches!(number, 10 | 11 | 13);
-            assert!(if is_its_own { met >= 50 } else { met == 0 }, "refusal {number} of a clean copy: {met}");
+        // What each call that a request added has, and at least how often; 0
+        // is what it accepts.
+        for (kind, numbers, least) in [
+            (b'C', &[0, 1, 2, 3, 4, 5, 6, 7, 8, 9, 12][..], 50),
+            (b'q', &[0, 1, 2, 3, 4, 5, 6, 7, 8, 9, 10, 12], 10),
+            (b'a', &[0, 1, 2, 3, 4, 5, 6, 7, 8, 9, 10, 11, 13], 3),
+            (b's', &[0, 3, 10], 50),
+            (b'w', &[0, 3, 12], 80),
+            (b'r', &[0, 1, 2, 3, 4, 5, 6, 11], 80),
+        ] {
+            for number in 0..14 {
+                let met = tally.refusals_of(kind, number);
+                let met_enough = if numbers.contains(&number) { met >= least } else { met == 0 };
+                assert!(met_enough, "refusal {number} of {}: {met}", char::from(kind));
+            }
         }
-        assert!(checked.held > 5_000 && checked.copies > 1_500);
+        assert!(checked.held[0] > 5_000 && checked.held[1] > 1_500);
+        assert!(checked.copies > 1_500 && checked.stages > 5_000);
     }
 
     #[test]

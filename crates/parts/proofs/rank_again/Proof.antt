@@ -23,11 +23,10 @@ cast-b c = search needs
 has-requires : tie.Need-has-requires
 has-requires c κs = search needs
 
-pick-requires : tie.Need-pick-requires
-pick-requires c κs =
+pick-on-requires : tie.Need-pick-on-requires
+pick-on-requires c κs =
     let q = c .before .before .before .before .pre in
-    let k = q .5 in
-    (q .0, q .1, q .2, k .zeros-fit, k .ones-fit, k .covered)
+    (q .0, q .1, q .2, q .5)
 
 returns : tie.Need-returns
 unfolding rankAgain
@@ -47,7 +46,7 @@ returns-2 c =
     let e : b .result % 2 ≡ bit (tableIn (a .rank)) (a .p) =
     mod-eq-of-lt (b .ensures .1) ∙ b .ensures .0 ∙ ap (λ t. bit t (a .p)) (c .before .before .before .before .table-of .ensures) in
     let h = sym (c .before .before .has .ensures ∙ ap (occurs maxWires (member (a .set)) (a .j)) e) ∙ c .before .if1 .left in
-    rw h (c .pick .ensures)
+    rw h (c .pick-on .ensures)
 
 pub rank-again-spec : {M : Type 1} → statement M
 rank-again-spec =
@@ -57,6 +56,6 @@ rank-again-spec =
     bit-of-requires
     cast-b
     has-requires
-    pick-requires
+    pick-on-requires
     returns
     returns-2)

@@ -6,9 +6,11 @@ use mathlib.Core.List.{List}
 use lib.ListN.{length, getD}
 use Rattle.sheet.specs.Limits.{maxWires, maxPatterns}
 use Rattle.sheet.specs.Inner.Sized.{Sized}
+use Rattle.table.specs.declared.BoardKind.{BoardKind}
 use Rattle.table.specs.Bits.{bit, tabulate}
 use Rattle.table.specs.Inner.Ranks.{pickOf, rank}
 use Rattle.table.specs.Inner.Pairs.{zerosIn, onesIn}
+use Rattle.nodes.specs.Counts.{countOf}
 use Rattle.relation.specs.Inner.Source.{WellDefined}
 use Rattle.relation.specs.Tests.{ofSets, occurs}
 use Rattle.relation.specs.Inner.Members.{member}
@@ -25,28 +27,28 @@ pub record PartSets (n m : ℕ) (sets : List ℕ) : Type 0 where
   pub defined : WellDefined n m (ofSets sets)
 
 -- the rank of a wire's pick, and of all wires' picks
-abbrev pub rankOf : ℕ → List ℕ → ℕ → ℕ
-rankOf n sets j = rank n (pickOf n (maskOf sets j 0) (maskOf sets j 1))
+abbrev pub rankOf : BoardKind → ℕ → List ℕ → ℕ → ℕ
+rankOf kind n sets j = rank (countOf kind n) (pickOf (countOf kind n) n (maskOf sets j 0) (maskOf sets j 1))
 
-unfoldable pub ranksOf : ℕ → List ℕ → List ℕ
-ranksOf n sets = tabulate maxWires (rankOf n sets)
+unfoldable pub ranksOf : BoardKind → ℕ → List ℕ → List ℕ
+ranksOf kind n sets = tabulate maxWires (rankOf kind n sets)
 
-pub record Carried (n m : ℕ) (s w r : List ℕ) : Type 0 where
+pub record Carried (kind : BoardKind) (n m : ℕ) (s w r : List ℕ) : Type 0 where
   pub sized : Sized n m
   pub sets : PartSets n m s
   pub pairs : w ≡ pairsOf s
-  pub ranks : r ≡ ranksOf n s
+  pub ranks : r ≡ ranksOf kind n s
 
 -- the rank of the pick between the masks of a pair, and the ranks between those of pairs
-abbrev pub rankBetween : ℕ → ℕ → ℕ
-rankBetween n pair = rank n (pickOf n (zerosIn pair) (onesIn pair))
+abbrev pub rankBetween : BoardKind → ℕ → ℕ → ℕ
+rankBetween kind n pair = rank (countOf kind n) (pickOf (countOf kind n) n (zerosIn pair) (onesIn pair))
 
-unfoldable pub ranksBetween : ℕ → List ℕ → List ℕ
-ranksBetween n pairs = tabulate maxWires (λ j. rankBetween n (getD pairs j 0))
+unfoldable pub ranksBetween : BoardKind → ℕ → List ℕ → List ℕ
+ranksBetween kind n pairs = tabulate maxWires (λ j. rankBetween kind n (getD pairs j 0))
 
 -- the rank once pattern p has the set w: a pick whose bit on p still occurs is still the pick
-unfoldable pub rankAgain : ℕ → ℕ → ℕ → ℕ → ℕ → ℕ → ℕ
-rankAgain n r p j w pair = cond (occurs maxWires (member w) j (bit (tableIn r) p)) r (rankBetween n pair)
+unfoldable pub rankAgain : BoardKind → ℕ → ℕ → ℕ → ℕ → ℕ → ℕ → ℕ
+rankAgain kind n r p j w pair = cond (occurs maxWires (member w) j (bit (tableIn r) p)) r (rankBetween kind n pair)
 
-unfoldable pub ranksAgain : ℕ → List ℕ → ℕ → ℕ → List ℕ → List ℕ
-ranksAgain n ranks p w pairs = tabulate maxWires (λ j. rankAgain n (getD ranks j 0) p j w (getD pairs j 0))
+unfoldable pub ranksAgain : BoardKind → ℕ → List ℕ → ℕ → ℕ → List ℕ → List ℕ
+ranksAgain kind n ranks p w pairs = tabulate maxWires (λ j. rankAgain kind n (getD ranks j 0) p j w (getD pairs j 0))

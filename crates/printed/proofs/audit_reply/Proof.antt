@@ -20,11 +20,11 @@ returns : tie.Need-returns
 returns c =
     let t = c .before .before .before .before in
     let a = t .before .before .before .before .before .args in
-    let e = audit-too-long (a .sheet .now) _ (a .stage .now) (ap (refusing refusedOutcome) (t .too-long .ensures)) (t .before .if1 .taken) in
+    let e = audit-too-long (a .kind) (a .sheet .now) _ (a .stage .now) (ap (refusing refusedOutcome) (t .too-long .ensures)) (t .before .if1 .taken) in
     printed _ _ _ (c .before .before .report-audit .ensures) e
 
-audit-requires : tie.Need-audit-requires
-audit-requires c κs = search needs
+audit-on-requires : tie.Need-audit-on-requires
+audit-on-requires c κs = search needs
 
 report-audit-requires-2 : tie.Need-report-audit-requires-2
 report-audit-requires-2 c κs = search needs
@@ -36,7 +36,7 @@ returns-2 : tie.Need-returns-2
 returns-2 c =
     let t = c .before .before .before .before in
     let a = t .before .before .before .before .before .args in
-    let e = audit-line (a .sheet .now) _ (a .stage .now) (t .audit .ensures) (t .before .if1 .left) in
+    let e = audit-line (a .kind) (a .sheet .now) _ (a .stage .now) (t .audit-on .ensures) (t .before .if1 .left) in
     printed _ _ _ (c .before .before .report-audit2 .ensures) e
 
 pub audit-reply-spec : {M : Type 1} → statement M
@@ -47,7 +47,7 @@ audit-reply-spec =
     report-audit-requires
     same-length
     returns
-    audit-requires
+    audit-on-requires
     report-audit-requires-2
     same-length-2
     returns-2)

@@ -21,14 +21,14 @@ returns : tie.Need-returns
 returns c =
     let t = c .before .before .before .before .before in
     let a = t .before .before .before .before .args in
-    let e = quote-too-long (a .sheet .now) _ _ (t .too-long-quote .ensures) (t .before .if1 .taken) in
+    let e = quote-too-long (a .kind) (a .sheet .now) _ _ (t .too-long-quote .ensures) (t .before .if1 .taken) in
     printed _ _ _ (c .before .before .report .ensures) e
 
-slice-aggregate-quote : tie.Need-slice-aggregate-quote
-slice-aggregate-quote c = search needs
+slice-aggregate-quote-on : tie.Need-slice-aggregate-quote-on
+slice-aggregate-quote-on c = search needs
 
-quote-requires : tie.Need-quote-requires
-quote-requires c κs = search needs
+quote-on-requires : tie.Need-quote-on-requires
+quote-on-requires c κs = search needs
 
 slice-aggregate-report-2 : tie.Need-slice-aggregate-report-2
 slice-aggregate-report-2 c = search needs
@@ -42,8 +42,8 @@ same-length-2 c = search needs
 returns-2 : tie.Need-returns-2
 returns-2 c =
     let a = c .before .before .before .before .before .before .before .before .before .before .before .args in
-    let q = c .before .before .before .before .before .before .quote .ensures in
-    let e = quote-lines (a .sheet .now) _ _ (q .0) (q .1 .0) (c .before .before .before .before .before .before .before .before .if1 .left) in
+    let q = c .before .before .before .before .before .before .quote-on .ensures in
+    let e = quote-lines (a .kind) (a .sheet .now) _ _ (q .0) (q .1 .0) (c .before .before .before .before .before .before .before .before .if1 .left) in
     printed _ _ _ (c .before .before .report2 .ensures) e
 
 pub quote-reply-spec : {M : Type 1} → statement M
@@ -55,8 +55,8 @@ quote-reply-spec =
     report-requires
     same-length
     returns
-    slice-aggregate-quote
-    quote-requires
+    slice-aggregate-quote-on
+    quote-on-requires
     slice-aggregate-report-2
     report-requires-2
     same-length-2

@@ -27,10 +27,15 @@ numbersAt k s from = tabulate k (λ i. twoAt s (from + 2 * i))
 unfoldable pub partOf : List ℕ → ℕ → ℕ → List ℕ
 partOf s from count = cond (leb (from + count) (length s)) (take count (drop from s)) []
 
--- the bytes of the record at a place, by its kind: Q, A, S, W, R, C; a byte of no kind is a record by itself
+-- the call that a record is for, whichever the board: the small letters q, a, s, w, r are for the board that shares selectors
+unfoldable pub callOf : ℕ → ℕ
+callOf kind =
+    cond (eqb kind 0x71) 0x51 (cond (eqb kind 0x61) 0x41 (cond (eqb kind 0x73) 0x53 (cond (eqb kind 0x77) 0x57 (cond (eqb kind 0x72) 0x52 kind))))
+
+-- the bytes of the record at a place, by its call: Q, A, S, W, R, C; a byte of no kind is a record by itself
 unfoldable pub recordLength : List ℕ → ℕ → ℕ
 recordLength s at =
-    let kind = byteAt s at in
+    let kind = callOf (byteAt s at) in
     cond (eqb kind 0x51) (8 + twoAt s (at + 6))
     (cond (eqb kind 0x41) (5 + twoAt s (at + 1) + twoAt s (at + 3))
     (cond (eqb kind 0x53) (7 + 2 * maxPatterns)

@@ -3,7 +3,8 @@ use native.Mathlib.Omega.{arith}
 use borrow.Author.Tests.{eq-eqb, ne-eqb}
 use Rattle.relation.specs.Tests.{ofSets}
 use Rattle.branch_bound.specs.Search.{run}
-use Rattle.branch_bound.specs.TreeBoard.{tree}
+use Rattle.branch_bound.specs.Boards.{boardOf}
+use Rattle.parts.specs.Inner.Boards.{kindIn, inputsIn}
 use Rattle.search.specs.Inner.Tally.{stateOf}
 use Rattle.search.proofs.Carrying.{carried-floor}
 use Rattle.parts.proofs.Keeping.{rank-first}
@@ -11,9 +12,6 @@ use Rattle.search.proofs.Entry.{ran, stopped-answer, best-answer}
 use borrow.Author.Needs.{needs}
 use Rattle.search.proofs.search_sets.Statement.{statement}
 use Rattle.search.proofs.search_sets.Tie as tie
-
-blocks-requires : tie.Need-blocks-requires
-blocks-requires c κs = search needs
 
 whole-part-requires : tie.Need-whole-part-requires
 whole-part-requires c κs = search needs
@@ -23,19 +21,18 @@ array-read-quick c = search needs
 
 quick-requires : tie.Need-quick-requires
 quick-requires c κs =
-    let a = c .before .before .before .before .before .args in
-    let q = c .before .before .before .before .before .pre in
-    let w = c .before .before .whole-part in
-    (c .before .before .before .before .blocks2 .ensures, q .0, q .1, rank-first (a .n) (a .sets) (w .ensures .ranks))
+    let a = c .before .before .args in
+    let q = c .before .before .pre in
+    let w = c .before .whole-part in
+    (q .0, q .1, q .2, rank-first (kindIn (a .board)) (inputsIn (a .board)) (a .sets) (w .ensures .ranks))
 
 floor-of-requires : tie.Need-floor-of-requires
 floor-of-requires c κs = search needs
 
 visit-requires : tie.Need-visit-requires
 visit-requires c κs =
-    let e = c .before .before .before .before .before .before .before .before .before .before .before .before .blocks2 .ensures in
-    let h = c .before .before .before .before .before .before .before .before .before .before .whole-part .ensures in
-    (e, h, c .before .before .before .before .before .floor-of .ensures, omega arith, λ q l. absurd (omega arith), refl)
+    let q = c .before .before .before .before .before .before .before .before .before .pre in
+    (q .0, c .before .before .before .before .before .before .before .before .whole-part .ensures, c .before .before .before .before .floor-of .ensures, omega arith, λ q l. absurd (omega arith), refl)
 
 array-read-cells : tie.Need-array-read-cells
 array-read-cells c = search needs
@@ -48,30 +45,31 @@ array-read-if1 c = search needs
 
 -- the state that the cycle leaves is the run's
 at-end : (c : tie.After-visit)
-    → let a = c .before .before .before .before .before .before .before .before .before .before .before .before .before .before .args in
-    stateOf (c .visit .last .1 .1 .0) (c .visit .last .1 .1 .1 .0) ≡ run (tree (a .n) (a .m)) (a .budget) (ofSets (a .sets))
+    → let a = c .before .before .before .before .before .before .before .before .before .before .args in
+    stateOf (c .visit .last .1 .1 .0) (c .visit .last .1 .1 .1 .0)
+    ≡ run (boardOf (kindIn (a .board)) (inputsIn (a .board)) (a .m)) (a .budget) (ofSets (a .sets))
 at-end c =
-    let a = c .before .before .before .before .before .before .before .before .before .before .before .before .before .before .args in
-    let st = c .before .before .before .before .before .before .before .before .quick in
-    ran (a .n) (a .m) (a .budget) (ofSets (a .sets)) (st .result) _ (st .ensures) (c .visit .ensures .1)
+    let a = c .before .before .before .before .before .before .before .before .before .before .args in
+    let st = c .before .before .before .before .before .before .before .quick in
+    ran (kindIn (a .board)) (inputsIn (a .board)) (a .m) (a .budget) (ofSets (a .sets)) (st .result) _ (st .ensures) (c .visit .ensures .1)
 
 returns : tie.Need-returns
 returns c =
-    let a = c .before .before .before .before .before .before .before .before .before .before .before .before .before .before .before .args in
-    let h = c .before .before .before .before .before .before .before .before .before .before .before .before .whole-part .ensures in
-    let f = c .before .before .before .before .before .before .before .floor-of in
-    stopped-answer (a .n) (a .m) (ofSets (a .sets)) _ _ (f .result) (at-end (c .before)) (eq-eqb _ _ (c .if1 .taken)) (carried-floor h (f .ensures))
+    let a = c .before .before .before .before .before .before .before .before .before .before .before .args in
+    let h = c .before .before .before .before .before .before .before .before .before .before .whole-part .ensures in
+    let f = c .before .before .before .before .before .before .floor-of in
+    stopped-answer (boardOf (kindIn (a .board)) (inputsIn (a .board)) (a .m)) (ofSets (a .sets)) _ _ (f .result) (at-end (c .before)) (eq-eqb _ _ (c .if1 .taken))
+    (carried-floor h (f .ensures))
 
 returns-2 : tie.Need-returns-2
 returns-2 c =
-    let a = c .before .before .before .before .before .before .before .before .before .before .before .before .before .before .before .args in
-    best-answer (a .n) (a .m) (ofSets (a .sets)) _ _ (at-end (c .before)) (ne-eqb _ _ (c .if1 .left))
+    let a = c .before .before .before .before .before .before .before .before .before .before .before .args in
+    best-answer (boardOf (kindIn (a .board)) (inputsIn (a .board)) (a .m)) (ofSets (a .sets)) _ _ (at-end (c .before)) (ne-eqb _ _ (c .if1 .left))
 
 pub search-sets-spec : {M : Type 1} → statement M
 search-sets-spec =
     tie.close
     (tie.spec
-    blocks-requires
     whole-part-requires
     array-read-quick
     quick-requires

@@ -5,6 +5,7 @@ use borrow.Author.Needs.{needs}
 use lib.ListN.{length, drop}
 use Rattle.base.specs.Cases.{acceptedCase, refusedCase}
 use Rattle.stage.specs.Read.{endAt, nothingAfter}
+use Rattle.diagram.specs.Forms.{formOf}
 use Rattle.stage_reader.proofs.Places.{byte-there, no-byte, due-within, due-refused, due-goes}
 use Rattle.stage_reader.proofs.read_end.Statement.{statement}
 use Rattle.stage_reader.proofs.read_end.Tie as tie
@@ -14,12 +15,12 @@ from c = c .before .before
 
 -- where 2F stands, what comes after it decides
 stands : (c : tie.Else1)
-    → endAt refusedCase acceptedCase (from (c .before) .args .at) (drop (from (c .before) .args .at) (from (c .before) .args .s .now))
+    → endAt (formOf (from (c .before) .args .kind) .known) refusedCase acceptedCase (from (c .before) .args .at) (drop (from (c .before) .args .at) (from (c .before) .args .s .now))
     ≡ nothingAfter refusedCase acceptedCase (from (c .before) .args .at) (drop (from (c .before) .args .at + 1) (from (c .before) .args .s .now))
 unfolding endAt
 stands c =
     let a = from (c .before) .args in
-    due-goes (a .s .now) 0x2F (a .at) _ (c .before .due-number .ensures) refusedCase _ (c .if1 .left)
+    due-goes (formOf (a .kind) .known) (a .s .now) 0x2F (a .at) _ (c .before .due-number .ensures) refusedCase _ (c .if1 .left)
 
 due-number-requires : tie.Need-due-number-requires
 due-number-requires c κs = search needs
@@ -31,12 +32,12 @@ returns : tie.Need-returns
 unfolding endAt
 returns c =
     let d = c .before .before in
-    due-refused (from d .args .s .now) 0x2F (from d .args .at) _ (d .due-number .ensures) refusedCase _ _ (c .before .if1 .taken) (c .at .ensures)
+    due-refused (formOf (from d .args .kind) .known) (from d .args .s .now) 0x2F (from d .args .at) _ (d .due-number .ensures) refusedCase _ _ (c .before .if1 .taken) (c .at .ensures)
 
 add-if2 : tie.Need-add-if2
 add-if2 c =
     let a = from (c .before) .args in
-    omega (arith, due-within (a .s .now) 0x2F (a .at) _ (c .before .due-number .ensures) (c .if1 .left))
+    omega (arith, due-within (formOf (a .kind) .known) (a .s .now) 0x2F (a .at) _ (c .before .due-number .ensures) (c .if1 .left))
 
 add-at : tie.Need-add-at
 add-at c = search needs

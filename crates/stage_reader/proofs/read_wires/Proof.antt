@@ -1,32 +1,36 @@
 -- `read_wires` meets its contract. The loop's invariant: what is left to read, on what is gathered, gives the whole reply.
-use Prim.Native.Nat.{_<_, _*_, _-_, _≤_}
+use Prim.Native.Nat.{_*_, _-_, _≤_}
 use mathlib.Core.Path.{_≡_, refl, sym, ap, _∙_}
 use native.Mathlib.Nat.{sub-zero, add-zero}
 use native.Mathlib.Omega.{arith}
 use borrow.Author.Needs.{needs}
-use lib.ListN.{length, drop, length-set}
+use lib.ListN.{length, length-set}
 use Rattle.table.specs.Drawing.{drawnCells, got}
-use Rattle.sheet.specs.Limits.{maxWires, maxPatterns}
-use Rattle.stage_reader.specs.Inner.Trees.{treeReply, stepOf}
-use Rattle.table.specs.Tree.{Tree}
-use Rattle.stage.specs.Read.{Read, wireAt, closed}
+use Rattle.sheet.specs.Limits.{maxWires}
+use Rattle.stage.specs.Read.{closed}
 use Rattle.stage.specs.Reply.{refusedReply, replyToStage}
+use Rattle.diagram.specs.Diagram.{mostEntries}
+use Rattle.diagram.specs.Forms.{formOf, drawingOf}
+use Rattle.diagram.proofs.Forms.{form-laws}
+use Rattle.stage_reader.specs.Inner.Wires.{wireReply, stepOf}
 use mathlib.Core.List.{[]}
 use Rattle.stage_reader.proofs.Ends.{byVerdict}
 use Rattle.stage_reader.proofs.Taken.{handed}
-use Rattle.stage_reader.proofs.Gather.{filled, replyWith, wiresLeft, wire-few, goes-on, stops, ends, from-nothing}
+use Rattle.stage_reader.proofs.Gather.{wireThere, wiresLeft, filled, replyWith, from-nothing, goes-on, stops, ends}
+use Rattle.stage_reader.proofs.Counts.{wire-few}
 use Rattle.stage_reader.proofs.read_wires.Statement.{statement}
 use Rattle.stage_reader.proofs.read_wires.Tie as tie
 
 abbrev Inv-loop : tie.InvT-loop
-Inv-loop s n m tables₀ cells₀ at₀ j₀ tables cells at j =
+Inv-loop kind s n m tables₀ cells₀ at₀ j₀ tables cells at j =
     (j ≤ m)
-    × (cells ≤ (maxPatterns - 1) * j)
+    × (cells ≤ mostEntries * j)
     × (length tables ≡ maxWires)
-    × (replyWith tables cells j (closed n m (wiresLeft s n m j at)) ≡ replyToStage (closed n m (wiresLeft s n m 0 3)))
+    × (replyWith (formOf kind) tables cells j (closed (formOf kind) n m (wiresLeft (formOf kind) s n m j at))
+    ≡ replyToStage (drawingOf kind) (closed (formOf kind) n m (wiresLeft (formOf kind) s n m 0 3)))
 
 abbrev μ-loop : tie.MeasureT-loop
-μ-loop s n m tables₀ cells₀ at₀ j₀ tables cells at j = m - j
+μ-loop kind s n m tables₀ cells₀ at₀ j₀ tables cells at j = m - j
 
 abbrev from : tie.At-loop Inv-loop μ-loop → tie.Start Inv-loop μ-loop
 from c = c .before .before
@@ -35,39 +39,38 @@ from c = c .before .before
 abbrev turn : tie.After-wire Inv-loop μ-loop → tie.At-loop Inv-loop μ-loop
 turn c = c .before .before .before .before
 
-abbrev wire-there : tie.At-loop Inv-loop μ-loop → Read Tree
-wire-there l =
-    let a = from l .args in
-    wireAt (a .n) (a .m) (l .loop .j) (l .loop .at) (drop (l .loop .at) (a .s .now))
+read : (c : tie.After-wire Inv-loop μ-loop)
+    → handed (c .wire .given .0)
+    ≡ stepOf (drawingOf (from (turn c) .args .kind)) (from (turn c) .args .n)
+    (wireThere (formOf (from (turn c) .args .kind)) (from (turn c) .args .s .now) (from (turn c) .args .n) (from (turn c) .args .m) (turn c .loop .j)
+    (turn c .loop .at))
+read c = ap wireReply (sym (c .wire .given .1)) ∙ c .before .before .read-wire .ensures
 
-read : (c : tie.After-wire Inv-loop μ-loop) → handed (c .wire .given .0) ≡ stepOf (from (turn c) .args .n) (wire-there (turn c))
-read c = ap treeReply (sym (c .wire .given .1)) ∙ c .before .before .read-wire .ensures
-
-few : (c : tie.After-wire Inv-loop μ-loop) → handed (c .wire .given .0) .cells < maxPatterns
+few : (c : tie.After-wire Inv-loop μ-loop) → handed (c .wire .given .0) .cells ≤ mostEntries
 few c =
     let l = turn c in
     let a = from l .args in
-    wire-few (a .s .now) (a .n) (a .m) (l .loop .j) (l .loop .at) _ _ _ (read c) (from l .pre .0)
+    wire-few (a .kind) (a .s .now) (a .n) (a .m) (l .loop .j) (l .loop .at) _ _ _ (read c) (from l .pre .0)
 
 -- all wires read: what the verdict on the end makes of it
 ended : (c : tie.After-read-end Inv-loop μ-loop)
     → byVerdict refusedReply
-    (replyWith (c .before .before .loop .tables) (c .before .before .loop .cells) (c .before .before .loop .j)
+    (replyWith (formOf (from (c .before .before) .args .kind)) (c .before .before .loop .tables) (c .before .before .loop .cells) (c .before .before .loop .j)
     (got (from (c .before .before) .args .n) (from (c .before .before) .args .m) []))
     (c .read-end .result)
-    ≡ replyToStage
-    (closed (from (c .before .before) .args .n) (from (c .before .before) .args .m)
-    (wiresLeft (from (c .before .before) .args .s .now) (from (c .before .before) .args .n) (from (c .before .before) .args .m) 0 3))
+    ≡ replyToStage (drawingOf (from (c .before .before) .args .kind))
+    (closed (formOf (from (c .before .before) .args .kind)) (from (c .before .before) .args .n) (from (c .before .before) .args .m)
+    (wiresLeft (formOf (from (c .before .before) .args .kind)) (from (c .before .before) .args .s .now) (from (c .before .before) .args .n) (from (c .before .before) .args .m) 0 3))
 ended c =
     let t = c .before in
     let l = t .before .loop in
     let a = from (t .before) .args in
-    ends (a .s .now) (a .n) (a .m) (l .j) (l .at) (l .tables) (l .cells) _ (l .inv .3) (c .read-end .result) (t .loop-test .left) (c .read-end .ensures)
+    ends (formOf (a .kind)) (form-laws (a .kind)) (a .s .now) (a .n) (a .m) (l .j) (l .at) (l .tables) (l .cells) _ (l .inv .3) (c .read-end .result) (t .loop-test .left) (c .read-end .ensures)
 
 loop-holds : tie.Need-loop-holds Inv-loop μ-loop
 loop-holds c =
     let st = c .before in
-    (omega arith, omega arith, refl, simp sub-zero (from-nothing (st .args .s .now) (st .args .n) (st .args .m) (st .pre .1)))
+    (omega arith, omega arith, refl, simp sub-zero (from-nothing (formOf (st .args .kind)) (form-laws (st .args .kind)) (st .args .s .now) (st .args .n) (st .args .m) (st .pre .1)))
 
 read-wire-requires : tie.Need-read-wire-requires Inv-loop μ-loop
 read-wire-requires c κs = omega arith
@@ -101,9 +104,9 @@ returns c =
     let i = w .before .before .before in
     let l = i .before .loop in
     let a = from (i .before) .args in
-    let refused = ap treeReply (sym (w .wire2 .given .1)) ∙ w .before .before .read-wire .ensures in
+    let refused = ap wireReply (sym (w .wire2 .given .1)) ∙ w .before .before .read-wire .ensures in
     c .no-stage .ensures
-    ∙ stops (a .s .now) (a .n) (a .m) (l .j) (l .at) (l .tables) (l .cells) _ (l .inv .3) _ (i .loop-test .taken) refused
+    ∙ stops (formOf (a .kind)) (form-laws (a .kind)) (a .s .now) (a .n) (a .m) (l .j) (l .at) (l .tables) (l .cells) _ (l .inv .3) _ (i .loop-test .taken) refused
     ∙ rw sub-zero
 
 add-j : tie.Need-add-j Inv-loop μ-loop
@@ -120,7 +123,7 @@ loop-again c =
       omega arith,
       omega (arith, few w, l .inv),
       simp length-set (l .inv .2),
-      goes-on (a .s .now) (a .n) (a .m) (l .j) (l .at) (l .tables) (l .cells) _ (l .inv .3) _ _ _ (w .before .before .before .loop-test .taken) (read w),
+      goes-on (formOf (a .kind)) (form-laws (a .kind)) (a .s .now) (a .n) (a .m) (l .j) (l .at) (l .tables) (l .cells) _ (l .inv .3) _ _ _ (w .before .before .before .loop-test .taken) (read w),
     )
 
 read-end-requires : tie.Need-read-end-requires Inv-loop μ-loop

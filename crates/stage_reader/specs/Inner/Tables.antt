@@ -9,6 +9,6 @@ use Rattle.table.specs.Bits.{bit, ofBits}
 unfoldable pub inputTable : ℕ → ℕ
 inputTable j = ofBits maxPatterns (λ p. bit p j)
 
--- the truth table of a selector on input i, from the tables of its two trees
+-- the truth table of a selector on input i, from the tables of its two branches
 unfoldable pub selectOf : ℕ → ℕ → ℕ → ℕ → ℕ
 selectOf n i off on = ofBits (2 ^ n) (λ p. cond (eqb (bit p (n - i)) 0) (bit off p) (bit on p))

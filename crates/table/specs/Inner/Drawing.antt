@@ -1,12 +1,8 @@
 -- What a count of cells needs of the drawings: no drawing of a function has fewer cells than its table's count, and one has exactly that many.
 use Prim.Native.Nat.{ℕ, _^_, _<_, _≤_}
 use mathlib.Core.Path.{_≡_}
-use Rattle.table.specs.Bits.{bit, ofBits}
-use Rattle.table.specs.Drawing.{Drawing}
-
--- the truth table of a drawing: bit p is what it drives on pattern p
-unfoldable pub drawnTable : (D : Drawing) (n : ℕ) → D .Shape → ℕ
-drawnTable D n x = ofBits (2 ^ n) (λ p. D .follow n p x)
+use Rattle.table.specs.Bits.{bit}
+use Rattle.table.specs.Drawing.{Drawing, drawnTable}
 
 pub record FairCount (D : Drawing) (n : ℕ) (count : ℕ → ℕ) : Type 0 where
   -- a well-formed drawing drives bits

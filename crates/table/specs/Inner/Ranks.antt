@@ -4,21 +4,20 @@ use mathlib.Core.Bool.{cond}
 use lib.Dec.{eqb}
 use Rattle.sheet.specs.Limits.{maxPatterns}
 use Rattle.table.specs.Bits.{bit}
-use Rattle.table.specs.Cells.{cells}
 use Rattle.table.specs.Pick.{Proj, leastOf, orZero}
 
 -- the projection that two masks tell: 0 may stand on the patterns of zeros, 1 on those of ones
 unfoldable pub masked : ℕ → ℕ → Proj
 masked zeros ones p b = eqb (bit (cond (eqb b 0) zeros ones) p) 1
 
--- the pick between two masks
-unfoldable pub pickOf : ℕ → ℕ → ℕ → ℕ
-pickOf n zeros ones = orZero (leastOf (cells n) n (masked zeros ones))
+-- the pick between two masks, by a key
+unfoldable pub pickOf : (ℕ → ℕ) → ℕ → ℕ → ℕ → ℕ
+pickOf key n zeros ones = orZero (leastOf key n (masked zeros ones))
 
 -- tables have at most so many bits as there are patterns: this is above them all
 abbrev pub tableSpace : ℕ
 tableSpace = 2 ^ maxPatterns
 
--- a table and its cells as one number: the lesser number is the better pick
-unfoldable pub rank : ℕ → ℕ → ℕ
-rank n t = cells n t * tableSpace + t
+-- a table and its cells, by a count of cells, as one number: the lesser number is the better pick
+unfoldable pub rank : (ℕ → ℕ) → ℕ → ℕ
+rank count t = count t * tableSpace + t

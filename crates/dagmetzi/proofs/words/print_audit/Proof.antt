@@ -30,7 +30,7 @@ array-share-prefix-out : tie.Need-array-share-prefix-out
 array-share-prefix-out c = search needs
 
 slice-aggregate-print : tie.Need-slice-aggregate-print
-slice-aggregate-print c = let r = c .before .before .audit-reply in counts (r .result) (r .last .1 .1 .0) (omega (arith, r .kept .1 .1 .0, r .ensures .2)) .1
+slice-aggregate-print c = let r = c .before .before .audit-reply in counts (r .result) (r .last .1 .1 .1 .0) (omega (arith, r .kept .1 .1 .1 .0, r .ensures .2)) .1
 
 print-requires : tie.Need-print-requires
 print-requires c κs = search needs

@@ -3,8 +3,8 @@ use borrow.Author.Needs.{needs}
 use Rattle.quote.proofs.quotes.quote_answer.Statement.{statement}
 use Rattle.quote.proofs.quotes.quote_answer.Tie as tie
 
-write-stage-requires : tie.Need-write-stage-requires
-write-stage-requires c κs = search needs
+write-on-requires : tie.Need-write-on-requires
+write-on-requires c κs = search needs
 
 enum-known-written : tie.Need-enum-known-written
 enum-known-written c = search needs
@@ -21,7 +21,7 @@ same-length c = search needs
 returns : tie.Need-returns
 returns c =
     let a = c .before .before .before .before .before .before .before .before .before .args in
-    let w = c .before .before .before .before .before .write-stage in
+    let w = c .before .before .before .before .before .write-on in
     (with-length (a .answer) (w .result) (w .ensures .0) _ (c .before .written .given .1), w .ensures .1)
 
 same-length-2 : tie.Need-same-length-2
@@ -30,14 +30,14 @@ same-length-2 c = search needs
 returns-2 : tie.Need-returns-2
 returns-2 c =
     let a = c .before .before .before .before .before .before .before .before .before .before .args in
-    let w = c .before .before .before .before .before .before .write-stage in
+    let w = c .before .before .before .before .before .before .write-on in
     (with-refusal (a .answer) (w .result) (w .ensures .0) _ (c .before .before .written2 .given .1) (c .refused-quote .ensures), w .ensures .1)
 
 pub quote-answer-spec : {M : Type 1} → statement M
 quote-answer-spec =
     tie.close
     (tie.spec
-    write-stage-requires
+    write-on-requires
     enum-known-written
     enum-known-written-2
     refused-quote-requires

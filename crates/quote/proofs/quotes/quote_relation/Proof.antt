@@ -19,8 +19,8 @@ has-stage Best h = refl
 has-stage Stopped h = refl
 has-stage (Refused f) h = absurd (miss (0 ∷ 1 ∷ []) 2 tt h)
 
-search-requires : tie.Need-search-requires
-search-requires c κs = search needs
+search-on-requires : tie.Need-search-on-requires
+search-on-requires c κs = search needs
 
 enum-known-mark : tie.Need-enum-known-mark
 enum-known-mark c = search needs
@@ -33,7 +33,7 @@ returns c =
     let g = c .before .before .mark .given in
     let s = c .before .before .before .before in
     let a = s .before .before .args in
-    no-stage (a .relation) (a .budget) (a .buffer .now) (s .search .result) (s .search .ensures) (g .0 .0) (g .1) (c .refused-quote .ensures)
+    no-stage (a .kind) (a .relation) (a .budget) (a .buffer .now) (s .search-on .result) (s .search-on .ensures) (g .0 .0) (g .1) (c .refused-quote .ensures)
 
 quote-answer-requires : tie.Need-quote-answer-requires
 quote-answer-requires c κs = search needs
@@ -47,14 +47,14 @@ returns-2 c =
     let k = c .before .before .before .before in
     let s = k .before in
     let a = s .before .before .args in
-    with-stage (a .relation) (a .budget) (a .buffer .now) (s .search .result) (s .search .ensures)
-    (has-stage (s .search .result .mark) (k .match .keys2)) (q .0) (q .1)
+    with-stage (a .kind) (a .relation) (a .budget) (a .buffer .now) (s .search-on .result) (s .search-on .ensures)
+    (has-stage (s .search-on .result .mark) (k .match .keys2)) (q .0) (q .1)
 
 pub quote-relation-spec : {M : Type 1} → statement M
 quote-relation-spec =
     tie.close
     (tie.spec
-    search-requires
+    search-on-requires
     enum-known-mark
     refused-quote-requires
     returns

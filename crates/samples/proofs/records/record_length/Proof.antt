@@ -1,11 +1,11 @@
 -- `record_length` meets its contract: each arm is the case of `recordLength` for its kind.
 use Prim.Native.Nat.{ℕ, _+_, _≤_}
-use mathlib.Core.Path.{_≡_}
+use mathlib.Core.Path.{_≡_, ap, _∙_}
 use native.Mathlib.Omega.{arith}
 use borrow.Author.Needs.{needs}
 use borrow.Author.Tests.{ne-eqb}
 use Rattle.samples.specs.Inner.Lengths.{longestPart, longestRecord}
-use Rattle.samples.specs.Inner.Records.{recordLength}
+use Rattle.samples.specs.Inner.Records.{callOf, recordLength}
 use Rattle.samples.proofs.records.record_length.Statement.{statement}
 use Rattle.samples.proofs.records.record_length.Tie as tie
 
@@ -16,6 +16,9 @@ told head low high l e = (omega arith, omega arith, omega arith)
 
 byte-at-requires : tie.Need-byte-at-requires
 byte-at-requires c κs = search needs
+
+call-of-requires : tie.Need-call-of-requires
+call-of-requires c κs = search needs
 
 add-length-at : tie.Need-add-length-at
 add-length-at c = search needs
@@ -64,40 +67,40 @@ add-result-5 c = search needs
 
 returns : tie.Need-returns
 unfolding recordLength
-returns c = told _ (omega arith) (omega arith) (c .length-at .ensures) (simp (← c .before .before .byte-at .ensures, c .before .match .keys1) (omega arith))
+returns c = told _ (omega arith) (omega arith) (c .length-at .ensures) (simp (← (c .before .before .call-of .ensures ∙ ap callOf (c .before .before .before .byte-at .ensures)), c .before .match .keys1) (omega arith))
 
 returns-2 : tie.Need-returns-2
 unfolding recordLength
 returns-2 c =
     let k = c .before .length-at2 .ensures in
     let l = c .length-at3 .ensures in (
-      simp (← c .before .before .before .byte-at .ensures, c .before .before .match .keys2) (omega (arith, k .0, l .0)),
+      simp (← (c .before .before .before .call-of .ensures ∙ ap callOf (c .before .before .before .before .byte-at .ensures)), c .before .before .match .keys2) (omega (arith, k .0, l .0)),
       omega arith,
       omega (arith, k .1, l .1),
     )
 
 returns-3 : tie.Need-returns-3
 unfolding recordLength
-returns-3 c = (simp (← c .before .byte-at .ensures, c .match .keys3), omega arith, omega arith)
+returns-3 c = (simp (← (c .before .call-of .ensures ∙ ap callOf (c .before .before .byte-at .ensures)), c .match .keys3), omega arith, omega arith)
 
 returns-4 : tie.Need-returns-4
 unfolding recordLength
-returns-4 c = (simp (← c .before .byte-at .ensures, c .match .keys4), omega arith, omega arith)
+returns-4 c = (simp (← (c .before .call-of .ensures ∙ ap callOf (c .before .before .byte-at .ensures)), c .match .keys4), omega arith, omega arith)
 
 returns-5 : tie.Need-returns-5
 unfolding recordLength
-returns-5 c = told _ (omega arith) (omega arith) (c .length-at4 .ensures) (simp (← c .before .before .byte-at .ensures, c .before .match .keys5) (omega arith))
+returns-5 c = told _ (omega arith) (omega arith) (c .length-at4 .ensures) (simp (← (c .before .before .call-of .ensures ∙ ap callOf (c .before .before .before .byte-at .ensures)), c .before .match .keys5) (omega arith))
 
 returns-6 : tie.Need-returns-6
 unfolding recordLength
-returns-6 c = told _ (omega arith) (omega arith) (c .length-at5 .ensures) (simp (← c .before .before .byte-at .ensures, c .before .match .keys6) (omega arith))
+returns-6 c = told _ (omega arith) (omega arith) (c .length-at5 .ensures) (simp (← (c .before .before .call-of .ensures ∙ ap callOf (c .before .before .before .byte-at .ensures)), c .before .match .keys6) (omega arith))
 
 returns-7 : tie.Need-returns-7
 unfolding recordLength
 returns-7 c =
     let r = c .match .rest in (
       simp (
-        ← c .before .byte-at .ensures,
+        ← (c .before .call-of .ensures ∙ ap callOf (c .before .before .byte-at .ensures)),
         ne-eqb _ _ (r .1),
         ne-eqb _ _ (r .0 .1),
         ne-eqb _ _ (r .0 .0 .1),
@@ -114,6 +117,7 @@ record-length-spec =
     tie.close
     (tie.spec
     byte-at-requires
+    call-of-requires
     add-length-at
     length-at-requires
     add-result

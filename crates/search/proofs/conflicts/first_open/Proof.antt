@@ -1,7 +1,8 @@
 use Rattle.base.proofs.Tests.{told-yes, told-no, denied, granted}
 use Rattle.search.specs.declared.SplitPlace.the-variants.{Pair}
 use Rattle.branch_bound.specs.Search.{picks}
-use Rattle.branch_bound.specs.TreeBoard.{tree}
+use Rattle.branch_bound.specs.Boards.{boardOf}
+use Rattle.parts.specs.Inner.Boards.{kindIn, inputsIn}
 use Rattle.search.specs.Inner.Conflicts.{Settled, splitPlace}
 use borrow.Author.Needs.{needs}
 use mir.Val.{Fits}
@@ -17,22 +18,25 @@ use lib.ListN.{getD}
 use Rattle.sheet.specs.Limits.{maxPatterns}
 use Rattle.relation.specs.Tests.{ofSets, isOpen}
 use Rattle.table.specs.Cells.{wires}
-use Rattle.search.proofs.Opening.{allowed-test, free-test, some-open, none-open, pair-open}
+use Rattle.search.proofs.Opening.{counted, allowed-test, free-test, some-open, none-open, pair-open}
 use Rattle.search.proofs.conflicts.first_open.Statement.{statement}
 use Rattle.search.proofs.conflicts.first_open.Tie as tie
 
 abbrev Inv-loop : tie.InvT-loop
-Inv-loop n m from sets count side p j₀ set j = (j ≤ m) × ((i : ℕ) → i < j → T (not (isOpen m (ofSets sets p) i)))
+Inv-loop board m from sets count side p j₀ set j = (j ≤ m) × ((i : ℕ) → i < j → T (not (isOpen m (ofSets sets p) i)))
 
 abbrev μ-loop : tie.MeasureT-loop
-μ-loop n m from sets count side p j₀ set j = m - j
+μ-loop board m from sets count side p j₀ set j = m - j
 
 -- the tables, which the loops do not read, are named as the picks that they are
 abbrev Inv-patterns : tie.InvT-patterns
-Inv-patterns n m from sets count side p₀ j₀ p j = (p ≤ count) × Settled m sets (picks (tree n m) (ofSets sets)) p
+Inv-patterns board m from sets count side p₀ j₀ p j = (p ≤ count) × Settled m sets (picks (boardOf (kindIn board) (inputsIn board) m) (ofSets sets)) p
 
 abbrev μ-patterns : tie.MeasureT-patterns
-μ-patterns n m from sets count side p₀ j₀ p j = count - p
+μ-patterns board m from sets count side p₀ j₀ p j = count - p
+
+inputs-of-requires : tie.Need-inputs-of-requires Inv-loop μ-loop Inv-patterns μ-patterns
+inputs-of-requires c κs = tt
 
 patterns-of-requires : tie.Need-patterns-of-requires Inv-loop μ-loop Inv-patterns μ-patterns
 patterns-of-requires c κs = tt
@@ -42,9 +46,9 @@ side-by-side-requires c κs = tt
 
 patterns-holds : tie.Need-patterns-holds Inv-loop μ-loop Inv-patterns μ-patterns
 patterns-holds c =
-    let a = c .before .before .args in
-    let q = c .before .before .pre in
-    (omega (arith, q .3, c .before .patterns-of .ensures .2 (q .0 .n-most)), subst (λ ts. Settled (a .m) (a .sets .now) ts (a .from)) (q .2) (q .4))
+    let a = c .before .before .before .args in
+    let q = c .before .before .before .pre in
+    (omega (arith, q .3, counted (c .before .before .inputs-of .ensures) (c .before .patterns-of .ensures .2) (q .0 .n-most)), subst (λ ts. Settled (a .m) (a .sets .now) ts (a .from)) (q .2) (q .4))
 
 cast-set : tie.Need-cast-set Inv-loop μ-loop Inv-patterns μ-patterns
 cast-set c = omega arith
@@ -65,7 +69,7 @@ loop-holds : tie.Need-loop-holds Inv-loop μ-loop Inv-patterns μ-patterns
 loop-holds c = (omega arith, λ q l. absurd (omega arith))
 
 is-open-requires : tie.Need-is-open-requires Inv-loop μ-loop Inv-patterns μ-patterns
-is-open-requires c κs = omega (arith, c .before .before .before .before .before .before .before .before .before .before .pre .0 .m-most)
+is-open-requires c κs = omega (arith, c .before .before .before .before .before .before .before .before .before .before .before .pre .0 .m-most)
 
 add-j : tie.Need-add-j Inv-loop μ-loop Inv-patterns μ-patterns
 add-j c = omega arith
@@ -75,12 +79,12 @@ loop-less c = omega arith
 
 loop-again : tie.Need-loop-again Inv-loop μ-loop Inv-patterns μ-patterns
 loop-again c =
-    let a = c .before .before .before .before .before .before .before .before .before .before .before .before .args in
-    let q = c .before .before .before .before .before .before .before .before .before .before .before .before .pre in
+    let a = c .before .before .before .before .before .before .before .before .before .before .before .before .before .args in
+    let q = c .before .before .before .before .before .before .before .before .before .before .before .before .before .pre in
     let p = c .before .before .before .before .before .before .before .before .before .patterns .p in
     let j = c .before .before .before .loop .j in (
       omega arith,
-      below-more _ _ (c .before .before .before .loop .inv .1) (told-no (c .before .is-open .ensures ∙ free-test (q .0) (q .1) (q .2) p j) (c .if2 .left)),
+      below-more _ _ (c .before .before .before .loop .inv .1) (told-no (c .before .is-open .ensures ∙ free-test (kindIn (a .board)) (q .0) (q .1) (q .2) p j) (c .if2 .left)),
     )
 
 add-p : tie.Need-add-p Inv-loop μ-loop Inv-patterns μ-patterns
@@ -91,52 +95,52 @@ patterns-less c = omega arith
 
 patterns-again : tie.Need-patterns-again Inv-loop μ-loop Inv-patterns μ-patterns
 patterns-again c =
-    let a = c .before .before .before .before .before .before .before .before .args in
-    let q = c .before .before .before .before .before .before .before .before .pre in
+    let a = c .before .before .before .before .before .before .before .before .before .args in
+    let q = c .before .before .before .before .before .before .before .before .before .pre in
     let p = c .before .before .before .before .before .patterns .p in
     let small : (j : ℕ) → Fits w16 (getD (a .tables) j 0) = λ j. search needs in
-    let lp : p < 2 ^ a .n = omega (arith, c .before .before .before .before .before .before .before .patterns-of .ensures .2 (q .0 .n-most)) in
+    let lp : p < 2 ^ inputsIn (a .board) = omega (arith, counted (c .before .before .before .before .before .before .before .before .inputs-of .ensures) (c .before .before .before .before .before .before .before .patterns-of .ensures .2) (q .0 .n-most)) in
     let v = c .before .before .value-in in
     let side = c .before .before .before .before .before .before .side-by-side .ensures in
-    let here = allowed-test (q .0) (q .1) (q .2) (λ j. small j .fits) p (omega arith) side (v .ensures .0) (c .before .contains .ensures) in (
+    let here = allowed-test (kindIn (a .board)) (q .0) (q .1) (q .2) (λ j. small j .fits) p (omega arith) side (v .ensures .0) (c .before .contains .ensures) in (
       omega arith,
       below-more _ _ (c .before .before .before .before .before .patterns .inv .1)
           (⊎-elim
-          (λ w. absurd (some-open (q .0) (q .1) refl p lp (denied here (w .0 .taken)) (λ j l. w .1 .inv .1 j (omega (arith, w .2 .left, w .1 .inv .0)))))
+          (λ w. absurd (some-open (kindIn (a .board)) (q .0) (q .1) refl p lp (denied here (w .0 .taken)) (λ j l. w .1 .inv .1 j (omega (arith, w .2 .left, w .1 .inv .0)))))
           (λ w. granted here (w .0 .left))
           (c .if1 .came)),
     )
 
 returns : tie.Need-returns Inv-loop μ-loop Inv-patterns μ-patterns
 returns c =
-    let a = c .before .before .before .before .before .args in
-    let q = c .before .before .before .before .before .pre in
+    let a = c .before .before .before .before .before .before .args in
+    let q = c .before .before .before .before .before .before .pre in
     let p = c .before .before .patterns .p in
     let small : (j : ℕ) → Fits w16 (getD (a .tables) j 0) = λ j. search needs in
     let few = c .before .before .before .before .patterns-of .ensures in
-    let lp : p < 2 ^ a .n = omega (arith, c .if3 .taken, few .2 (q .0 .n-most)) in
+    let lp : p < 2 ^ inputsIn (a .board) = omega (arith, c .if3 .taken, counted (c .before .before .before .before .before .inputs-of .ensures) (few .2) (q .0 .n-most)) in
     ⊎-elim
     (λ w. absurd (omega (arith, w .0 .left, c .if3 .taken)))
     (λ w.
     let lt : p < maxPatterns = omega (arith, few .1, c .if3 .taken) in
     let side = c .before .before .before .side-by-side .ensures in
-    let here = allowed-test (q .0) (q .1) (q .2) (λ j. small j .fits) p lt side (w .2 .ensures .0) (w .3 .ensures) in
+    let here = allowed-test (kindIn (a .board)) (q .0) (q .1) (q .2) (λ j. small j .fits) p lt side (w .2 .ensures .0) (w .3 .ensures) in
     let j = w .5 .j in
     ap (Pair p) (w .9)
     ∙ sym
-    (pair-open (q .0) (q .1) refl p j lp (omega (arith, w .6 .taken)) (c .before .before .patterns .inv .1) (denied here (w .4 .taken)) (w .5 .inv .1)
-    (told-yes (w .7 .ensures ∙ free-test (q .0) (q .1) (q .2) p j) (w .8 .taken)))
-    ∙ ap (λ ts. splitPlace (a .n) (a .m) (ofSets (a .sets .now)) (wires ts)) (sym (q .2)))
+    (pair-open (kindIn (a .board)) (q .0) (q .1) refl p j lp (omega (arith, w .6 .taken)) (c .before .before .patterns .inv .1) (denied here (w .4 .taken)) (w .5 .inv .1)
+    (told-yes (w .7 .ensures ∙ free-test (kindIn (a .board)) (q .0) (q .1) (q .2) p j) (w .8 .taken)))
+    ∙ ap (λ ts. splitPlace (inputsIn (a .board)) (a .m) (ofSets (a .sets .now)) (wires ts)) (sym (q .2)))
     (c .before .patterns-test .came)
 
 returns-2 : tie.Need-returns-2 Inv-loop μ-loop Inv-patterns μ-patterns
 returns-2 c =
-    let a = c .before .before .before .before .before .args in
-    let q = c .before .before .before .before .before .pre in
+    let a = c .before .before .before .before .before .before .args in
+    let q = c .before .before .before .before .before .before .pre in
     ⊎-elim
-    (λ w. sym (none-open (q .0) (q .1) refl
-    (λ p l. c .before .before .patterns .inv .1 p (omega (arith, w .0 .left, c .before .before .before .before .patterns-of .ensures .2 (q .0 .n-most)))))
-    ∙ ap (λ ts. splitPlace (a .n) (a .m) (ofSets (a .sets .now)) (wires ts)) (sym (q .2)))
+    (λ w. sym (none-open (kindIn (a .board)) (q .0) (q .1) refl
+    (λ p l. c .before .before .patterns .inv .1 p (omega (arith, w .0 .left, counted (c .before .before .before .before .before .inputs-of .ensures) (c .before .before .before .before .patterns-of .ensures .2) (q .0 .n-most)))))
+    ∙ ap (λ ts. splitPlace (inputsIn (a .board)) (a .m) (ofSets (a .sets .now)) (wires ts)) (sym (q .2)))
     (λ w. absurd (omega (arith, w .0 .taken, c .if3 .left)))
     (c .before .patterns-test .came)
 
@@ -148,6 +152,7 @@ first-open-spec =
     μ-loop
     Inv-patterns
     μ-patterns
+    inputs-of-requires
     patterns-of-requires
     side-by-side-requires
     patterns-holds

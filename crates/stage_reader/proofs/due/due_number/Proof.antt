@@ -1,6 +1,6 @@
 use borrow.Author.Needs.{needs}
 use borrow.Author.Tests.{eq-eqb, ne-eqb}
-use Rattle.stage.specs.Read.{dueNumber}
+use Rattle.stage.specs.Steps.{dueNumber}
 use Rattle.stage_reader.proofs.Places.{byte-there, no-byte}
 use Rattle.stage_reader.proofs.due.due_number.Statement.{statement}
 use Rattle.stage_reader.proofs.due.due_number.Tie as tie

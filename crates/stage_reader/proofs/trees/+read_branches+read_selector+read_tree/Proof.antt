@@ -14,12 +14,15 @@ use Rattle.base.proofs.Refusal.at.Reads as at-reads
 use Rattle.sheet.specs.Limits.{maxPatterns}
 use Rattle.sheet.proofs.limits.all_ones.Reads as all-ones-reads
 use Rattle.table.specs.Tree.{selectors}
-use Rattle.stage.specs.Read.{fault, branchesAt, selectorAt, treeAt}
-use Rattle.stage_reader.specs.Inner.Trees.{treeReply, stepOf}
-use Rattle.stage_reader.proofs.Places.{tree-cut, tree-selects, tree-zero, tree-one, tree-misplaced, selector-cut, selector-none, selector-past}
-use Rattle.stage_reader.proofs.Places.{selector-input}
+use Rattle.stage.specs.Steps.{fault}
+use Rattle.stage.specs.TreeRead.{branchesAt, selectorAt, treeAt}
+use Rattle.stage.specs.Trees.{treeDrawing}
+use Rattle.stage_reader.specs.Inner.Wires.{wireReply, stepOf}
+use Rattle.stage_reader.proofs.TreePlaces.{tree-cut, tree-selects, tree-zero, tree-one, tree-misplaced, selector-cut, selector-none, selector-past}
+use Rattle.stage_reader.proofs.TreePlaces.{selector-input}
 use Rattle.stage_reader.proofs.Selecting.{table-zero, table-one}
-use Rattle.stage_reader.proofs.Taken.{handed, step-refused, tree-bounds, first-fault, second-fault, both-taken}
+use Rattle.stage_reader.proofs.Taken.{handed, step-refused}
+use Rattle.stage_reader.proofs.Branches.{tree-bounds, first-fault, second-fault, both-taken}
 use Rattle.stage_reader.proofs.due.misplaced_number.Reads as misplaced-number-reads
 use Rattle.stage_reader.proofs.tables.select.Reads as select-reads
 use Rattle.stage_reader.proofs.trees.read_branches.Reads as branches
@@ -56,8 +59,8 @@ module _ (t : ℕ) where
 
   first : (c : Branches branches-lts.After-for-zero)
       → handed (c .for-zero .given .0)
-      ≡ stepOf (from c .args .n) (treeAt (from c .args .n) (from c .args .i) (from c .args .at) (drop (from c .args .at) (from c .args .s .now)))
-  first c = ap treeReply (sym (c .for-zero .given .1)) ∙ c .before .before .read-tree .ensures
+      ≡ stepOf treeDrawing (from c .args .n) (treeAt (from c .args .n) (from c .args .i) (from c .args .at) (drop (from c .args .at) (from c .args .s .now)))
+  first c = ap wireReply (sym (c .for-zero .given .1)) ∙ c .before .before .read-tree .ensures
 
   abbrev earlier : Branches branches-lts.After-for-one → Branches branches-lts.After-for-zero
   earlier c = c .before .before .before .before
@@ -67,9 +70,9 @@ module _ (t : ℕ) where
 
   second : (c : Branches branches-lts.After-for-one)
       → handed (c .for-one .given .0)
-      ≡ stepOf (from (earlier c) .args .n)
+      ≡ stepOf treeDrawing (from (earlier c) .args .n)
       (treeAt (from (earlier c) .args .n) (from (earlier c) .args .i) (between c) (drop (between c) (from (earlier c) .args .s .now)))
-  second c = ap treeReply (sym (c .for-one .given .1)) ∙ c .before .before .read-tree2 .ensures
+  second c = ap wireReply (sym (c .for-one .given .1)) ∙ c .before .before .read-tree2 .ensures
 
   bounds : (c : Branches branches-lts.After-for-one)
       → (handed (earlier c .for-zero .given .0) .table < 2 ^ (2 ^ from (earlier c) .args .n)) × (handed (earlier c .for-zero .given .0) .cells < maxPatterns)
@@ -95,7 +98,7 @@ module _ (t : ℕ) where
   branches-returns c =
       let r = c .before .before in
       let a = r .before .before .args in
-      let refused = ap treeReply (c .enum-told .given .1) in
+      let refused = ap wireReply (c .enum-told .given .1) in
       refused ∙ first-fault (a .s .now) (a .n) (a .i) (a .at) _ (sym refused ∙ r .read-tree .ensures)
 
   branches-tree-requires-2 : Branches branches-lts.Need-read-tree-requires-2
@@ -111,7 +114,7 @@ module _ (t : ℕ) where
   branches-returns-2 c =
       let z = c .before .before .before .before in
       let a = from z .args in
-      let refused = ap treeReply (c .enum-told2 .given .1) in
+      let refused = ap wireReply (c .enum-told2 .given .1) in
       refused ∙ second-fault (a .s .now) (a .n) (a .i) (a .at) _ _ _ (first z) _ (sym refused ∙ c .before .before .read-tree2 .ensures)
 
   branches-select-requires : Branches branches-lts.Need-select-requires
@@ -162,7 +165,7 @@ module _ (t : ℕ) where
   selector-at-requires c κs = search needs
 
   selector-returns : Selector selector-lts.Need-returns
-  selector-returns c = step-refused _ _ _ _ (selector-cut _ _ _ _ (c .before .if1 .taken)) (c .at .ensures)
+  selector-returns c = step-refused treeDrawing _ _ _ _ (selector-cut _ _ _ _ (c .before .if1 .taken)) (c .at .ensures)
 
   selector-read-i : Selector selector-lts.Need-shared-slice-read-i
   selector-read-i c = omega arith
@@ -173,7 +176,7 @@ module _ (t : ℕ) where
   selector-returns-2 : Selector selector-lts.Need-returns-2
   selector-returns-2 c =
       let i2 = c .before in
-      step-refused _ _ _ _ (selector-none _ _ _ _ (i2 .before .before .if1 .left) (i2 .if2 .taken)) (c .at2 .ensures)
+      step-refused treeDrawing _ _ _ _ (selector-none _ _ _ _ (i2 .before .before .if1 .left) (i2 .if2 .taken)) (c .at2 .ensures)
 
   selector-at-requires-3 : Selector selector-lts.Need-at-requires-3
   selector-at-requires-3 c κs = search needs
@@ -182,7 +185,7 @@ module _ (t : ℕ) where
   selector-returns-3 c =
       let i3 = c .before in
       let i2 = i3 .before in
-      step-refused _ _ _ _ (selector-past _ _ _ _ (i2 .before .before .if1 .left) (i2 .if2 .left) (i3 .if3 .taken)) (c .at3 .ensures)
+      step-refused treeDrawing _ _ _ _ (selector-past _ _ _ _ (i2 .before .before .if1 .left) (i2 .if2 .left) (i3 .if3 .taken)) (c .at3 .ensures)
 
   selector-at-requires-4 : Selector selector-lts.Need-at-requires-4
   selector-at-requires-4 c κs = search needs
@@ -206,7 +209,7 @@ module _ (t : ℕ) where
   selector-returns-4 c =
       let i3 = c .before .before in
       let not-above : input-at i3 ≤ from-selector i3 .args .k = c .before .if4 .taken in
-      step-refused _ _ _ _ (ascends i3 ∙ rw (le-leb _ _ not-above)) (c .at4 .ensures)
+      step-refused treeDrawing _ _ _ _ (ascends i3 ∙ rw (le-leb _ _ not-above)) (c .at4 .ensures)
 
   selector-add-read-branches : Selector selector-lts.Need-add-read-branches
   selector-add-read-branches c = omega arith
@@ -258,7 +261,7 @@ module _ (t : ℕ) where
 
   tree-returns : Tree tree-lts.Need-returns
   tree-returns c =
-      step-refused _ _ _ _ (tree-cut _ _ _ _ (c .before .before .before .pre .1 .0) (c .before .if1 .taken)) (c .at .ensures)
+      step-refused treeDrawing _ _ _ _ (tree-cut _ _ _ _ (c .before .before .before .pre .1 .0) (c .before .if1 .taken)) (c .at .ensures)
 
   tree-read-b : Tree tree-lts.Need-shared-slice-read-b
   tree-read-b c = omega arith
@@ -309,7 +312,7 @@ module _ (t : ℕ) where
   tree-returns-5 c =
       let e = c .before .before .before .before in
       let r = c .before .before .match .rest in
-      step-refused _ _ _ _ (tree-misplaced _ _ _ _ (from-tree e .pre .1 .0) (e .if1 .left) (r .0 .0 .1) (r .0 .1) (r .1))
+      step-refused treeDrawing _ _ _ _ (tree-misplaced _ _ _ _ (from-tree e .pre .1 .0) (e .if1 .left) (r .0 .0 .1) (r .0 .1) (r .1))
       (c .at2 .ensures ∙ ap (λ (k : ℕ). refusalAt k (from-tree e .args .at)) (c .before .misplaced-number .ensures))
 
   pub tree-meets : {M : Type 1} → tree-lts.Closed tree-claims (here 2 tree.Pre) tree.Post M

@@ -1,4 +1,5 @@
 use borrow.Author.Needs.{needs}
+use Rattle.diagram.specs.Forms.{formOf}
 use Rattle.stage_writer.proofs.Storing.{stage-stored}
 use Rattle.stage_writer.proofs.stores.put_sheet.Statement.{statement}
 use Rattle.stage_writer.proofs.stores.put_sheet.Tie as tie
@@ -33,7 +34,7 @@ returns c =
     let second = third .before .before .before .before in
     let first = second .before .before .before .before in
     let a = first .before .before .before .args in
-    stage-stored (a .buffer .now) _ _ _ _ _ (a .tables) (a .n) (a .m) _ (first .put .ensures) (second .put2 .ensures) (third .put3 .ensures)
+    stage-stored (formOf (a .kind)) (a .buffer .now) _ _ _ _ _ (a .tables) (a .n) (a .m) _ (first .put .ensures) (second .put2 .ensures) (third .put3 .ensures)
     (wires .put-wires .ensures) (end .put4 .ensures)
 
 pub put-sheet-spec : {M : Type 1} → statement M

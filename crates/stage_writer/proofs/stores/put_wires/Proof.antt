@@ -6,28 +6,30 @@ use borrow.Author.Needs.{needs}
 use lib.ListN.{length, getD, length-append}
 use lib.Seq.{sets}
 use Rattle.sheet.specs.Limits.{maxWires}
-use Rattle.table.specs.Tree.{reduced}
-use Rattle.stage.specs.Bytes.{wireBytes, wiresBytes}
-use Rattle.stage.specs.Written.{stageTrees}
-use Rattle.stage_writer.proofs.Storing.{wiresFrom, wires-step, wires-end, wire-fits, stored-on}
+use Rattle.stage.specs.Bytes.{wiresBytes}
+use Rattle.stage.specs.Written.{stageDrawn}
+use Rattle.diagram.specs.Bytes.{longestShared}
+use Rattle.diagram.specs.Forms.{formOf}
+use Rattle.stage_writer.proofs.Forms.{form-length-most}
+use Rattle.stage_writer.proofs.Storing.{wiresFrom, wires-step, wires-end, wire-fits, put-length, stored-on}
 use Rattle.stage_writer.proofs.stores.put_wires.Statement.{statement}
 use Rattle.stage_writer.proofs.stores.put_wires.Tie as tie
 
 abbrev Inv-loop : tie.InvT-loop
-Inv-loop buffer₀ n m tables at₀ j₀ buffer at j =
+Inv-loop kind buffer₀ n m tables at₀ j₀ buffer at j =
     (j ≤ m)
     × (length buffer ≡ length buffer₀)
-    × (sets buffer at (wiresFrom n m j tables) ≡ sets buffer₀ 3 (wiresBytes 0 (stageTrees n m tables)))
-    × (at + length (wiresFrom n m j tables) ≡ 3 + length (wiresBytes 0 (stageTrees n m tables)))
+    × (sets buffer at (wiresFrom (formOf kind) n m j tables) ≡ sets buffer₀ 3 (wiresBytes (formOf kind) 0 (stageDrawn (formOf kind) n m tables)))
+    × (at + length (wiresFrom (formOf kind) n m j tables) ≡ 3 + length (wiresBytes (formOf kind) 0 (stageDrawn (formOf kind) n m tables)))
 
 abbrev μ-loop : tie.MeasureT-loop
-μ-loop buffer₀ n m tables at₀ j₀ buffer at j = m - j
+μ-loop kind buffer₀ n m tables at₀ j₀ buffer at j = m - j
 
-within : (c : tie.Start Inv-loop μ-loop) → c .args .m ≤ length (c .args .t4)
-within c = let l : length (c .args .t4) ≡ maxWires = search needs in omega arith
+within : (c : tie.Start Inv-loop μ-loop) → c .args .m ≤ length (c .args .t5)
+within c = let l : length (c .args .t5) ≡ maxWires = search needs in omega arith
 
 loop-holds : tie.Need-loop-holds Inv-loop μ-loop
-unfolding stageTrees
+unfolding stageDrawn
 loop-holds c = (omega arith, refl, refl, refl)
 
 cast-put-wire : tie.Need-cast-put-wire Inv-loop μ-loop
@@ -44,7 +46,9 @@ put-wire-requires c κs =
     let l = c .before .before .loop in
     let s = c .before .before .before .before in
     let a = s .args in
-    (s .pre .0, wire-fits (a .n) (a .m) (l .j) (a .t4) (within s) (l .at) (s .pre .0) (s .pre .1) (c .before .loop-test .taken) (l .inv .3))
+    let i = c .before .loop-test .taken in
+    let most = form-length-most (a .kind) (a .n) (a .m) (a .t5) (within s) (s .pre .0) (s .pre .1) in
+    (s .pre .0, s .pre .2 (l .j) i, wire-fits (formOf (a .kind)) (a .n) (a .m) (l .j) (a .t5) (within s) (l .at) longestShared most i (l .inv .3))
 
 add-j : tie.Need-add-j Inv-loop μ-loop
 add-j c = omega arith
@@ -59,11 +63,12 @@ loop-again c =
     let l = i .before .loop in
     let s = i .before .before .before in
     let a = s .args in
-    let step = wires-step (a .n) (a .m) (l .j) (a .t4) (within s) (i .loop-test .taken) in
-    let x = wireBytes (l .j) (reduced (a .n) 0 (getD (a .t4) (l .j) 0)) in
-    let y = wiresFrom (a .n) (a .m) (l .j + 1) (a .t4) in (
+    let F = formOf (a .kind) in
+    let step = wires-step F (a .n) (a .m) (l .j) (a .t5) (within s) (i .loop-test .taken) in
+    let x = F .wireBytes (l .j) (F .reduced (a .n) (getD (a .t5) (l .j) 0)) in
+    let y = wiresFrom F (a .n) (a .m) (l .j + 1) (a .t5) in (
       omega arith,
-      p .put-wire .kept .0 ∙ l .inv .1,
+      put-length {x = x} (p .put-wire .ensures) ∙ l .inv .1,
       stored-on (l .buffer) _ x y _ (l .at) _ (p .put-wire .ensures) (rw step at (l .inv .2)),
       omega (arith, l .inv, p .put-wire .ensures .past, ap length step, length-append x y),
     )
@@ -76,7 +81,7 @@ returns c =
     let l = c .before .loop in
     let s = c .before .before .before in
     let a = s .args in
-    let e = wires-end (a .n) (a .m) (l .j) (a .t4) (within s) (c .loop-test .left) in
+    let e = wires-end (formOf (a .kind)) (a .n) (a .m) (l .j) (a .t5) (within s) (c .loop-test .left) in
     record { stored = rw e at (l .inv .2); past = omega (arith, l .inv, ap length e) }
 
 pub put-wires-spec : {M : Type 1} → statement M

@@ -1,0 +1,9 @@
+-- The boards: document 01's, whose cells are the selectors of trees, and document 02's (E2), whose cells are shared. On either, of equal cells the smaller
+-- table is picked.
+use Prim.Native.Nat.{ℕ}
+use Rattle.table.specs.declared.BoardKind.{BoardKind}
+use Rattle.nodes.specs.Counts.{countOf}
+use Rattle.branch_bound.specs.Search.{Board}
+
+unfoldable pub boardOf : BoardKind → ℕ → ℕ → Board
+boardOf kind n m = record { n = n; m = m; count = countOf kind n; key = countOf kind n }

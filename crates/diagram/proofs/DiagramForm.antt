@@ -1,0 +1,81 @@
+-- Diagrams are a form: their wires are read as they are written, and nodes are fair to them. Their stages' lengths.
+use Prim.Native.Nat.{ℕ, _+_, _*_, _^_, _-_, _<_, _≤_}
+use mathlib.Core.Path.{_≡_, refl, sym}
+use mathlib.Core.List.{List}
+use native.Mathlib.Omega.{arith}
+use lib.ListN.{length, take}
+use Rattle.sheet.specs.Limits.{maxInputs, maxWires, maxPatterns}
+use Rattle.table.specs.Cells.{wires, total}
+use Rattle.table.specs.Drawing.{got, drawnTable}
+use Rattle.table.specs.Inner.Drawing.{FairCount}
+use Rattle.table.proofs.Bits.{ofBits-lt, bit-ofBits}
+use Rattle.nodes.specs.Nodes.{nodes}
+use Rattle.stage.specs.Written.{stageOf}
+use Rattle.stage.specs.Inner.Laws.{FormLaws}
+use Rattle.stage.proofs.Lengths.{sheet-length, sheet-length-most}
+use Rattle.stage.proofs.Prefix.{none-longer as sheet-none-longer, front-tells as sheet-front}
+use Rattle.diagram.specs.Diagram.{Diagram, mostEntries, followDiagram}
+use Rattle.diagram.specs.Bytes.{longestShared, longestDiagrams}
+use Rattle.diagram.specs.Written.{reducedDiagram}
+use Rattle.diagram.specs.Diagrams.{diagramForm, diagramDrawing, readDiagrams}
+use Rattle.diagram.proofs.Entries.{diagram-drives}
+use Rattle.diagram.proofs.Least.{least-diagram}
+use Rattle.diagram.proofs.Reduced.{reduced-few, reduced-formed, reduced-means, reduced-cells, reduced-entries}
+use Rattle.diagram.proofs.Reading.{wire-length, wire-told, wire-back, wire-more}
+
+-- nodes are fair to diagrams: none of a function has fewer cells, and the one that is written has as many
+unfoldable pub diagram-counts : (n : ℕ) → n ≤ maxInputs → FairCount diagramDrawing n (nodes n)
+unfolding drawnTable
+diagram-counts n small =
+    record {
+      drives = diagram-drives n;
+      least = λ d w.
+          let f : ℕ → ℕ = λ p. followDiagram n p d in
+          least-diagram n d w (drawnTable diagramDrawing n d) (ofBits-lt f (2 ^ n) (λ p _. diagram-drives n d w p))
+          (λ p l. sym (bit-ofBits f (2 ^ n) (λ p _. diagram-drives n d w p) p l));
+      reduced = reducedDiagram n;
+      reduced-formed = λ t l. reduced-formed n t l small;
+      reduced-follow = λ t p l b. reduced-means n t l p b;
+      reduced-cells = reduced-cells n;
+    }
+
+unfoldable pub diagram-laws : FormLaws diagramForm
+unfolding diagram-counts
+diagram-laws =
+    record {
+      frame = 4;
+      selectors = λ d. length (d .entries);
+      wire-length = wire-length;
+      most = mostEntries;
+      few = λ n d _ w. w .few;
+      told = wire-told;
+      back = wire-back;
+      more = λ n m j at bytes q _ l. wire-more n m j at bytes q (omega arith);
+      fair = diagram-counts;
+      reduces = λ n _. refl;
+    }
+
+-- no sheet that is accepted is longer, and reading looks at no byte past the one that would follow
+pub none-longer : (bytes : List ℕ) (n m : ℕ) (stage : List Diagram) → readDiagrams bytes ≡ got n m stage → length bytes ≤ longestDiagrams
+unfolding diagram-laws
+none-longer bytes n m stage e = sheet-none-longer diagramForm diagram-laws bytes n m stage e
+
+pub front-tells : (s : List ℕ) (k : ℕ) → longestDiagrams < k → readDiagrams (take k s) ≡ readDiagrams s
+unfolding diagram-laws
+front-tells s k h = sheet-front diagramForm diagram-laws s k h
+
+-- the length of a stage that is written, by its wires and nodes, and its bound
+pub stage-length : (n m : ℕ) (tables : List ℕ) → m ≤ length tables
+    → length (stageOf diagramForm n m tables) ≡ 4 + 4 * m + 3 * total (nodes n) m (wires tables)
+unfolding diagram-laws
+stage-length n m tables h = sheet-length diagramForm diagram-laws n (nodes n) (reduced-entries n) m tables h
+
+pub stage-length-most : (n m : ℕ) (tables : List ℕ) → m ≤ length tables → n ≤ maxInputs → m ≤ maxWires
+    → length (stageOf diagramForm n m tables) ≤ longestShared
+unfolding diagram-laws
+stage-length-most n m tables h a b =
+    omega (
+      arith,
+      sheet-length-most diagramForm diagram-laws n (nodes n) (reduced-entries n) m tables h (maxPatterns - 1)
+          (λ t. omega (arith, reduced-few n t a, reduced-entries n t)),
+    )

@@ -1,0 +1,117 @@
+-- No diagram of a table's function has fewer cells than the table has nodes.
+use Prim.Native.Nat.{ℕ, suc, _+_, _-_, _^_, _*_, _<_, _≤_}
+use mathlib.Core.Path.{_≡_, sym, ap, subst, _∙_}
+use mathlib.Core.Logic.{⊎-elim}
+use mathlib.Core.List.{List, [], _∷_}
+use native.Mathlib.Omega.{arith}
+use lib.Dec.{T, eqb}
+use Rattle.base.proofs.Tests.{cond-has}
+use Rattle.table.specs.Bits.{bit, ofBits}
+use Rattle.table.specs.Cells.{low, high}
+use Rattle.table.specs.Tree.{Tree, con, sel, Ordered, follow}
+use Rattle.table.proofs.Bits.{ofBits-bit, sum-cong}
+use Rattle.table.proofs.Cells.{low-lt, high-lt}
+use Rattle.table.proofs.Trees.{Means, Past, Tests, halves}
+use Rattle.nodes.specs.Nodes.{Node, node, has, listing, price, weight, nodes}
+use Rattle.nodes.proofs.Lists.{has-none, has-head, has-later, has-cases, subset-weight}
+use Rattle.nodes.proofs.Listing.{visits, listing-once}
+use Rattle.diagram.specs.Diagram.{Entry, Diagram, nextNumber, followDiagram, WellFormed, entryPrice, entriesCells, diagramCells}
+use Rattle.diagram.proofs.Entries.{treeOf, follow-tree, diagram-ordered}
+
+-- the node that a selector on input i stands for, told by what its tree means
+unfoldable nodeOf : ℕ → ℕ → Tree → Node
+nodeOf n i x = node (n - i) (ofBits (2 ^ suc (n - i)) (λ p. follow n p x))
+
+node-means : (n k r : ℕ) (x : Tree) (t : ℕ) → k + suc r ≡ n → t < 2 ^ (2 ^ suc r) → Means n (suc r) x t → nodeOf n (suc k) x ≡ node r t
+unfolding nodeOf ofBits
+node-means n k r x t at lt mx =
+    let w : n - suc k ≡ r = omega arith in
+    let e : ofBits (2 ^ suc r) (λ p. follow n p x) ≡ ofBits (2 ^ suc r) (bit t) =
+    sum-cong (2 ^ suc r) (λ p. follow n p x * 2 ^ p) (λ p. bit t p * 2 ^ p) (λ p l. ap (λ y. y * 2 ^ p) (mx p l)) in
+    ap (λ y. node y (ofBits (2 ^ suc y) (λ p. follow n p x))) w ∙ ap (node r) (e ∙ ofBits-bit (2 ^ suc r) t lt)
+
+-- the list has what the selectors of a tree stand for
+Held : ℕ → List Node → Tree → Type 0
+Held n ks (con b) = Unit {0}
+Held n ks (sel i z o) = T (has ks (nodeOf n i (sel i z o))) × Held n ks z × Held n ks o
+
+held-later : (n : ℕ) (k : Node) (ks : List Node) (x : Tree) → Held n ks x → Held n (k ∷ ks) x
+unfolding Held
+held-later n k ks (con b) h = tt
+held-later n k ks (sel i z o) h = (has-later k (nodeOf n i (sel i z o)) ks (h .0), held-later n k ks z (h .1), held-later n k ks o (h .2))
+
+-- what an entry stands for after those before it, and what all entries do
+abbrev standsFor : ℕ → List Entry → Entry → Node
+standsFor n before e = nodeOf n (e .input) (sel (e .input) (treeOf before (e .onZero)) (treeOf before (e .onOne)))
+
+nodesOf : ℕ → List Entry → List Node
+nodesOf n [] = []
+nodesOf n (e ∷ before) = standsFor n before e ∷ nodesOf n before
+
+tree-held : (n : ℕ) (es : List Entry) (x : ℕ) → Held n (nodesOf n es) (treeOf es x)
+unfolding Held nodesOf treeOf
+tree-held n [] x = tt
+tree-held n (e ∷ es) x =
+    let k = standsFor n es e in
+    let later : (z : ℕ) → Held n (k ∷ nodesOf n es) (treeOf es z) = λ z. held-later n k (nodesOf n es) (treeOf es z) (tree-held n es z) in
+    cond-has (Held n (k ∷ nodesOf n es)) (eqb x (nextNumber es)) (λ _. (has-head k (nodesOf n es), later (e .onZero), later (e .onOne))) (λ _. later x)
+
+-- a list that has what a tree's selectors stand for has all that a visit to the tree's table lists
+Covers : ℕ → List Node → ℕ → ℕ → List Node → List Node → Type 0
+Covers n ks r t s o = (k : ℕ) (x : Tree) → k + r ≡ n → Ordered n k x → t < 2 ^ (2 ^ r) → Means n r x t → Held n ks x
+    → ((j : Node) → T (has s j) → T (has ks j)) → (j : Node) → T (has o j) → T (has ks j)
+
+module _ (n : ℕ) (ks : List Node) where
+  covers-passed : (r t : ℕ) (s o : List Node) → Covers n ks r (low r t) s o → Covers n ks (suc r) t s o
+  unfolding Covers Held
+  covers-passed r t s o p k x at ord lt mx hx hs =
+      ⊎-elim
+      (λ (h : Past n k r t x). p (suc k) x (omega arith) (h .ordered) (low-lt r t) (h .means) hx hs)
+      (λ (h : Tests n k r t x).
+      let hy : Held n ks (sel (suc k) (h .z) (h .o)) = rw (h .is) at hx in
+      p (suc k) (h .z) (omega arith) (h .z-ordered) (low-lt r t) (h .z-means) (hy .1) hs)
+      (halves n k r at t lt x ord mx)
+
+  covers-new : (r t : ℕ) (s m o : List Node) → (low r t ≡ high r t → ⊥) → Covers n ks r (low r t) s m → Covers n ks r (high r t) m o
+      → Covers n ks (suc r) t s (node r t ∷ o)
+  unfolding Covers Held
+  covers-new r t s m o d p q k x at ord lt mx hx hs j hj =
+      ⊎-elim
+      (λ (h : Past n k r t x). absurd (d (h .same)))
+      (λ (h : Tests n k r t x).
+      let y = sel (suc k) (h .z) (h .o) in
+      let hy : Held n ks (sel (suc k) (h .z) (h .o)) = rw (h .is) at hx in
+      let hm = p (suc k) (h .z) (omega arith) (h .z-ordered) (low-lt r t) (h .z-means) (hy .1) hs in
+      let ho = q (suc k) (h .o) (omega arith) (h .o-ordered) (high-lt r t lt) (h .o-means) (hy .2) hm in
+      let my : Means n (suc r) (sel (suc k) (h .z) (h .o)) t = rw (h .is) at mx in
+      let e = node-means n k r y t at lt my in
+      ⊎-elim (λ (g : j ≡ node r t). subst (λ y. T (has ks y)) (e ∙ sym g) (hy .0)) (ho j) (has-cases (node r t) j o hj))
+      (halves n k r at t lt x ord mx)
+
+  covers : (r t : ℕ) (s : List Node) → Covers n ks r t s (listing r t s)
+  unfolding Covers
+  covers =
+      visits (Covers n ks) (λ t s k x at ord lt mx hx hs. hs) (λ r t s o e p. covers-passed r t s o p)
+      (λ r t s d y k x at ord lt mx hx hs. hs)
+      (λ r t s m o d y p q. covers-new r t s m o d p q)
+
+-- what an entry stands for costs no more than the entry, and so for all of them
+price-most : (n : ℕ) (before : List Entry) (e : Entry) → price (standsFor n before e) ≤ entryPrice e
+unfolding price entryPrice
+price-most n before e = omega arith
+
+entries-weight : (n : ℕ) (es : List Entry) → weight price (nodesOf n es) ≤ entriesCells es
+unfolding weight nodesOf entriesCells
+entries-weight n [] = omega arith
+entries-weight n (e ∷ es) = omega (arith, price-most n es e, entries-weight n es)
+
+pub least-diagram : (n : ℕ) (d : Diagram) → WellFormed n d → (t : ℕ) → t < 2 ^ (2 ^ n)
+    → ((p : ℕ) → p < 2 ^ n → followDiagram n p d ≡ bit t p) → nodes n t ≤ diagramCells d
+unfolding nodes Covers
+least-diagram n d w t lt m =
+    let es = d .entries in
+    let all = covers n (nodesOf n es) n t [] 0 (treeOf es (d .top)) (omega arith) (diagram-ordered n d w) lt
+    (λ p l. sym (follow-tree n p es (d .top)) ∙ m p l)
+    (tree-held n es (d .top))
+    (λ j h. absurd (has-none j h)) in
+    omega (arith, subset-weight price (listing n t []) (nodesOf n es) (listing-once n t) all, entries-weight n es)

@@ -1,0 +1,240 @@
+-- The diagram that the writer makes of a table: it is well formed, stands for the reduced tree, and has an entry for each node.
+use Prim.Native.Nat.{ℕ, zero, suc, _+_, _-_, _^_, _<_, _≤_}
+use mathlib.Core.Path.{_≡_, refl, sym, ap, ap₂, _∙_}
+use mathlib.Core.Logic.{⊎-elim}
+use mathlib.Core.Bool.{Bool, true, false, cond, not}
+use mathlib.Core.List.{List, [], _∷_}
+use native.Mathlib.Omega.{arith}
+use native.Mathlib.Nat.{mod-eq-of-lt, zero-add}
+use lib.Dec.{T, T-not, eqb, ltb, ltb→lt, lt→ltb}
+use lib.ListN.{length}
+use lib.Pow.{pow-pos, pow-mono}
+use Rattle.base.proofs.Tests.{cond-has, cond-has₂, eqb-yes, eqb-not, or-cases}
+use Rattle.sheet.specs.Limits.{maxInputs, maxPatterns}
+use Rattle.table.specs.Bits.{bit}
+use Rattle.table.specs.Cells.{low, high}
+use Rattle.table.specs.Tree.{Tree, sel, follow, reduced}
+use Rattle.table.proofs.Cells.{low-lt, high-lt}
+use Rattle.table.proofs.Trees.{reduced-ordered, reduced-follow}
+use Rattle.nodes.specs.Nodes.{Node, node, same, has, listing, price, weight, nodes}
+use Rattle.nodes.proofs.Lists.{same-eq, has-head}
+use Rattle.nodes.proofs.Listing.{visits, Grown, grown-same, grown-passed, grown-new}
+use Rattle.diagram.specs.Diagram.{inputAt, EntriesFit, followDiagram, WellFormed, entryPrice, entriesCells, diagramCells}
+use Rattle.diagram.specs.Written.{place, numberOf, entryOf, entriesOf, reducedDiagram}
+use Rattle.diagram.proofs.Entries.{treeOf, follow-tree, constant-tree, input-above}
+
+-- a table of r inputs has its number in the list
+unfoldable pub numbered : List Node → ℕ → ℕ → Bool
+numbered ks zero t = ltb t 2
+numbered ks (suc r) t = let passed = numbered ks r (low r t) in cond (eqb (low r t) (high r t)) passed (has ks (node r t))
+
+pub numbered-kept : (s o : List Node) → ((k : Node) → T (has s k) → T (has o k)) → (r t : ℕ) → T (numbered s r t) → T (numbered o r t)
+unfolding numbered
+numbered-kept s o h zero t = λ k. k
+numbered-kept s o h (suc r) t =
+    cond-has₂ (λ a b. T a → T b) (eqb (low r t) (high r t)) (λ _. numbered-kept s o h r (low r t)) (λ _. h (node r t))
+
+-- the halves of what is listed have their numbers among the earlier ones
+pub record Based (n : ℕ) (ks : List Node) (k : Node) : Type 0 where
+  pub inside : k .after < n
+  pub bound : k .table < 2 ^ (2 ^ suc (k .after))
+  pub zero-there : T (numbered ks (k .after) (low (k .after) (k .table)))
+  pub one-there : T (numbered ks (k .after) (high (k .after) (k .table)))
+
+unfoldable pub Closed : ℕ → List Node → Type 0
+Closed n [] = Unit {0}
+Closed n (k ∷ ks) = Based n ks k × Closed n ks
+
+-- a visit lists what it is asked for, after its halves
+pub record Visited (n r t : ℕ) (s o : List Node) : Type 0 where
+  pub grown : Grown r s o
+  pub asked : t < 2 ^ (2 ^ r) → T (numbered o r t)
+  pub closed : r ≤ n → t < 2 ^ (2 ^ r) → Closed n s → Closed n o
+
+module _ (n : ℕ) where
+  visited-passed : (r t : ℕ) (s o : List Node) → low r t ≡ high r t → Visited n r (low r t) s o → Visited n (suc r) t s o
+  unfolding numbered
+  visited-passed r t s o e p =
+      record {
+        grown = grown-passed r s o (p .grown);
+        asked = λ l. rw (eqb-yes (low r t) (high r t) (numbered o r (low r t)) (has o (node r t)) e) (p .asked (low-lt r t));
+        closed = λ i l c. p .closed (omega arith) (low-lt r t) c;
+      }
+
+  asked-has : (r t : ℕ) (o : List Node) → (low r t ≡ high r t → ⊥) → T (has o (node r t)) → T (numbered o (suc r) t)
+  unfolding numbered
+  asked-has r t o d h = rw (eqb-not (low r t) (high r t) (numbered o r (low r t)) (has o (node r t)) d) h
+
+  visited-new : (r t : ℕ) (s m o : List Node) → (low r t ≡ high r t → ⊥) → T (not (has s (node r t))) → Visited n r (low r t) s m
+      → Visited n r (high r t) m o → Visited n (suc r) t s (node r t ∷ o)
+  unfolding Closed
+  visited-new r t s m o d y p q =
+      record {
+        grown = grown-new r t s m o y (p .grown) (q .grown);
+        asked = λ l. asked-has r t (node r t ∷ o) d (has-head (node r t) o);
+        closed = λ i l c. (
+          record {
+            inside = i;
+            bound = l;
+            zero-there = numbered-kept m o (q .grown .kept) r (low r t) (p .asked (low-lt r t));
+            one-there = q .asked (high-lt r t l);
+          },
+          q .closed (omega arith) (high-lt r t l) (p .closed (omega arith) (low-lt r t) c),
+        );
+      }
+
+  pub visited : (r t : ℕ) (s : List Node) → Visited n r t s (listing r t s)
+  unfolding numbered
+  visited =
+      visits (Visited n) (λ t s. record { grown = grown-same zero s; asked = λ l. lt→ltb t 2 (omega arith); closed = λ i l c. c })
+      visited-passed
+      (λ r t s d h. record { grown = grown-same (suc r) s; asked = λ l. asked-has r t s d h; closed = λ i l c. c })
+      visited-new
+
+-- numbers
+place-lt : (ks : List Node) (k : Node) → place ks k < length ks + 2
+unfolding place
+place-lt [] k = omega arith
+place-lt (x ∷ xs) k =
+    cond-has (λ y. y < suc (length xs) + 2) (same k x) {x = length xs + 2} {y = place xs k} (λ _. omega arith) (λ _. omega (arith, place-lt xs k))
+
+number-lt : (ks : List Node) (r t : ℕ) → T (numbered ks r t) → numberOf ks r t < length ks + 2
+unfolding numbered numberOf
+number-lt ks zero t = λ h. omega (arith, ltb→lt t 2 h)
+number-lt ks (suc r) t =
+    cond-has₂ (λ a y. T a → y < length ks + 2) (eqb (low r t) (high r t)) (λ _. number-lt ks r (low r t)) (λ _ _. place-lt ks (node r t))
+
+entries-length : (n : ℕ) (ks : List Node) → length (entriesOf n ks) ≡ length ks
+unfolding entriesOf
+entries-length n [] = refl
+entries-length n (k ∷ ks) = ap suc (entries-length n ks)
+
+-- what an entry stands for: the reduced tree
+abbrev selector : ℕ → Node → Tree
+selector n k =
+    sel (n - k .after) (reduced (k .after) (n - k .after) (low (k .after) (k .table))) (reduced (k .after) (n - k .after) (high (k .after) (k .table)))
+
+cond-has₃ : {A B C : Type 0} (P : A → B → C → Type 0) (b : Bool) {x y : A} {u v : B} {m n : C} → (T b → P x u m) → (T (not b) → P y v n)
+    → P (cond b x y) (cond b u v) (cond b m n)
+cond-has₃ P true f g = f tt
+cond-has₃ P false f g = g tt
+
+module _ (n : ℕ) (ks : List Node) (placed : (k : Node) → T (has ks k) → treeOf (entriesOf n ks) (place ks k) ≡ selector n k) where
+  number-tree : (r t : ℕ) → r ≤ n → T (numbered ks r t) → treeOf (entriesOf n ks) (numberOf ks r t) ≡ reduced r (n - r) t
+  unfolding numbered numberOf reduced
+  number-tree zero t l = λ h. constant-tree (entriesOf n ks) t (ltb→lt t 2 h)
+  number-tree (suc r) t l =
+      let e : suc (n - suc r) ≡ n - r = omega arith in
+      rw e
+      (cond-has₃ (λ a y x. T a → treeOf (entriesOf n ks) y ≡ x) (eqb (low r t) (high r t)) (λ _. number-tree r (low r t) (omega arith))
+      (λ _. placed (node r t)))
+
+placed : (n : ℕ) (ks : List Node) → Closed n ks → (k : Node) → T (has ks k) → treeOf (entriesOf n ks) (place ks k) ≡ selector n k
+unfolding Closed has entriesOf place treeOf
+placed n [] c k h = absurd h
+placed n (x ∷ xs) c k h =
+    let es = entriesOf n xs in
+    let len = entries-length n xs in
+    let b = c .0 in
+    let zeros = low (x .after) (x .table) in
+    let ones = high (x .after) (x .table) in
+    let own = sel (n - x .after) (treeOf es (numberOf xs (x .after) zeros)) (treeOf es (numberOf xs (x .after) ones)) in
+    let child = number-tree n xs (placed n xs (c .1)) (x .after) in
+    cond-has (λ y. cond (eqb y (length es + 2)) own (treeOf es y) ≡ selector n k) (same k x)
+    (λ s.
+    eqb-yes (length xs + 2) (length es + 2) own (treeOf es (length xs + 2)) (ap (λ y. y + 2) (sym len))
+    ∙ ap₂ (sel (n - x .after)) (child zeros (omega (arith, b .inside)) (b .zero-there)) (child ones (omega (arith, b .inside)) (b .one-there))
+    ∙ ap (selector n) (sym (same-eq k x s)))
+    (λ s.
+    eqb-not (place xs k) (length es + 2) own (treeOf es (place xs k)) (λ e. absurd (omega (arith, place-lt xs k)))
+    ∙ placed n xs (c .1) k (⊎-elim (λ y. absurd (T-not (same k x) s y)) (λ y. y) (or-cases (same k x) (has xs k) h)))
+
+-- the entries are well formed
+entries-fit : (n : ℕ) (ks : List Node) → Closed n ks → EntriesFit n (entriesOf n ks)
+unfolding Closed EntriesFit entriesOf
+entries-fit n [] c = tt
+entries-fit n (k ∷ ks) c =
+    let b = c .0 in
+    let r = k .after in
+    let len = entries-length n ks in
+    let above : (t : ℕ) → t < 2 ^ (2 ^ r) → T (numbered ks r t) → n - r < inputAt n (entriesOf n ks) (numberOf ks r t) =
+    λ t l h.
+    input-above n (n - r) (entriesOf n ks) (numberOf ks r t) (omega arith)
+    (rw (number-tree n ks (placed n ks (c .1)) r t (omega (arith, b .inside)) h) (reduced-ordered n r (n - r) t (omega (arith, b .inside)) l)) in (
+      record {
+        least = omega (arith, b .inside);
+        most = omega arith;
+        zero-lower = omega (arith, len, number-lt ks r (low r (k .table)) (b .zero-there));
+        one-lower = omega (arith, len, number-lt ks r (high r (k .table)) (b .one-there));
+        zero-above = above (low r (k .table)) (low-lt r (k .table)) (b .zero-there);
+        one-above = above (high r (k .table)) (high-lt r (k .table) (b .bound)) (b .one-there);
+      },
+      entries-fit n ks (c .1),
+    )
+
+-- a table of n inputs has fewer than 2 ^ n nodes
+listing-short : (n t : ℕ) → length (listing n t []) < 2 ^ n
+listing-short n t = omega (arith, longer n t [])
+  where
+    longer : (r t : ℕ) (s : List Node) → length (listing r t s) < length s + 2 ^ r
+    longer =
+        visits (λ r t s o. length o < length s + 2 ^ r) (λ t s. omega arith)
+        (λ r t s o e p. omega arith)
+        (λ r t s d y. omega (arith, pow-pos (suc r)))
+        (λ r t s m o d y p q. omega arith)
+
+pub reduced-few : (n t : ℕ) → n ≤ maxInputs → length (reducedDiagram n t .entries) < maxPatterns
+unfolding reducedDiagram
+reduced-few n t s =
+    let p : 2 ^ n ≤ maxPatterns = pow-mono {j = maxInputs} s in
+    omega (arith, entries-length n (listing n t []), listing-short n t)
+
+module _ (n t : ℕ) (lt : t < 2 ^ (2 ^ n)) where
+  pub reduced-formed : n ≤ maxInputs → WellFormed n (reducedDiagram n t)
+  unfolding reducedDiagram Closed
+  reduced-formed s =
+      let v = visited n n t [] in
+      let ks = listing n t [] in
+      record {
+        few = omega (arith, reduced-few n t s);
+        fit = entries-fit n ks (v .closed (omega arith) lt tt);
+        top-there = omega (arith, entries-length n ks, number-lt ks n t (v .asked lt));
+      }
+
+  -- it stands for the reduced tree
+  pub reduced-tree : treeOf (reducedDiagram n t .entries) (reducedDiagram n t .top) ≡ reduced n 0 t
+  unfolding reducedDiagram Closed
+  reduced-tree =
+      let v = visited n n t [] in
+      let ks = listing n t [] in
+      let z : n - n ≡ 0 = omega arith in
+      number-tree n ks (placed n ks (v .closed (omega arith) lt tt)) n t (omega arith) (v .asked lt) ∙ ap (λ y. reduced n y t) z
+
+  pub reduced-means : (p : ℕ) → p < 2 ^ n → followDiagram n p (reducedDiagram n t) ≡ bit t p
+  reduced-means p l =
+      let d = reducedDiagram n t in
+      follow-tree n p (d .entries) (d .top) ∙ ap (follow n p) reduced-tree ∙ reduced-follow n n 0 t p (zero-add n) lt ∙ ap (bit t) (mod-eq-of-lt l)
+
+-- an entry costs what its node does, and so for all of them
+price-same : (n : ℕ) (before : List Node) (k : Node) → entryPrice (entryOf n before k) ≡ price k
+unfolding entryPrice price
+price-same n before k = refl
+
+entries-price : (n : ℕ) (ks : List Node) → entriesCells (entriesOf n ks) ≡ weight price ks
+unfolding entriesCells entriesOf weight
+entries-price n [] = refl
+entries-price n (k ∷ ks) = ap₂ _+_ (price-same n ks k) (entries-price n ks)
+
+pub reduced-cells : (n t : ℕ) → diagramCells (reducedDiagram n t) ≡ nodes n t
+unfolding reducedDiagram nodes
+reduced-cells n t = entries-price n (listing n t [])
+
+-- while every entry counts for one, the cells are the entries
+entries-one : (n : ℕ) (ks : List Node) → length (entriesOf n ks) ≡ weight price ks
+unfolding entriesOf weight price
+entries-one n [] = refl
+entries-one n (k ∷ ks) = omega (arith, entries-one n ks)
+
+pub reduced-entries : (n t : ℕ) → length (reducedDiagram n t .entries) ≡ nodes n t
+unfolding reducedDiagram nodes
+reduced-entries n t = entries-one n (listing n t [])

@@ -1,0 +1,27 @@
+-- Document 02, E2: a wire that is a decision diagram, as bytes.
+use Prim.Native.Nat.{ℕ, _+_, _*_}
+use mathlib.Core.List.{List, [], _∷_, _++_}
+use lib.ListN.{length}
+use Rattle.sheet.specs.Limits.{maxWires}
+use Rattle.stage.specs.TreeBytes.{mostCells}
+use Rattle.diagram.specs.Diagram.{Entry, Diagram, mostEntries}
+
+abbrev pub entryBytes : Entry → List ℕ
+entryBytes e = e .input ∷ e .onZero ∷ e .onOne ∷ []
+
+-- from the first entry to the latest
+unfoldable pub entriesBytes : List Entry → List ℕ
+entriesBytes [] = []
+entriesBytes (e ∷ before) = entriesBytes before ++ entryBytes e
+
+-- wire j: 26, its number and how many entries it has; these; the number that it takes
+unfoldable pub diagramWireBytes : ℕ → Diagram → List ℕ
+diagramWireBytes j d = 0x26 ∷ j ∷ length (d .entries) ∷ entriesBytes (d .entries) ++ d .top ∷ []
+
+-- the length of the longest stage that is written: a table has fewer nodes than there are patterns
+abbrev pub longestShared : ℕ
+longestShared = 4 + 4 * maxWires + 3 * mostCells
+
+-- the length of the longest stage sheet that is accepted
+abbrev pub longestDiagrams : ℕ
+longestDiagrams = 4 + 4 * maxWires + 3 * maxWires * mostEntries

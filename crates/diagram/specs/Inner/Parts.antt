@@ -1,0 +1,15 @@
+-- Document 02, E2, to the letter: the subfunctions of a table that need a selector. What `listing` lists are just these, each once (proofs/Parts).
+use Prim.Native.Nat.{ℕ, zero, suc}
+use mathlib.Core.Path.{_≡_}
+use mathlib.Core.Logic.{_⊎_}
+use Rattle.table.specs.Cells.{low, high}
+use Rattle.nodes.specs.Nodes.{Node}
+
+-- a table of r inputs is left of a table of n inputs once the first of these have values
+unfoldable pub PartOf : (n t r u : ℕ) → Type 0
+PartOf zero t r u = (zero ≡ r) × (t ≡ u)
+PartOf (suc n) t r u = ((suc n ≡ r) × (t ≡ u)) ⊎ (PartOf n (low n t) r u ⊎ PartOf n (high n t) r u)
+
+-- a subfunction that needs a selector: its value depends on the first input that is left
+abbrev pub Needed : (n t : ℕ) → Node → Type 0
+Needed n t k = PartOf n t (suc (k .after)) (k .table) × (low (k .after) (k .table) ≡ high (k .after) (k .table) → ⊥)

@@ -1,0 +1,44 @@
+-- The nodes of a table by its halves.
+use Prim.Native.Nat.{ℕ, zero, suc, _+_, _^_, _<_, _≤_}
+use mathlib.Core.Path.{_≡_, refl, sym, ap, _∙_}
+use mathlib.Core.List.{List, [], _∷_}
+use native.Mathlib.Omega.{arith}
+use native.Mathlib.Nat.{le-refl, zero-mod, zero-div}
+use Rattle.base.proofs.Tests.{eqb-yes, eqb-not}
+use Rattle.table.specs.Cells.{low, high}
+use Rattle.table.proofs.Halving.{join, join-low, join-high}
+use Rattle.nodes.specs.Nodes.{Node, node, has, listing, price, weight, nodes}
+use Rattle.nodes.proofs.Listing.{visits}
+
+-- what is listed counts for no less than what was listed before
+listing-more : (r t : ℕ) (s : List Node) → weight price s ≤ weight price (listing r t s)
+unfolding weight
+listing-more =
+    visits (λ r t s o. weight price s ≤ weight price o) (λ t s. le-refl (weight price s)) (λ r t s o e p. p) (λ r t s d y. le-refl (weight price s))
+    (λ r t s m o d y p q. omega arith)
+
+-- the nodes of a table, by its lower half
+pub nodes-same : (r t : ℕ) → low r t ≡ high r t → nodes (suc r) t ≡ nodes r (low r t)
+unfolding nodes listing has
+nodes-same r t e = ap (weight price) (eqb-yes (low r t) (high r t) (listing r (low r t) []) _ e)
+
+pub nodes-differ : (r t : ℕ) → (low r t ≡ high r t → ⊥) → nodes r (low r t) < nodes (suc r) t
+unfolding nodes listing has weight price
+nodes-differ r t d =
+    let s = listing r (low r t) [] in
+    let e : nodes (suc r) t ≡ 1 + weight price (listing r (high r t) s) =
+    ap (weight price) (eqb-not (low r t) (high r t) s (node r t ∷ listing r (high r t) s) d) in
+    omega (arith, e, listing-more r (high r t) s)
+
+pub nodes-twice : (r t : ℕ) → t < 2 ^ (2 ^ r) → nodes (suc r) (join r t t) ≡ nodes r t
+nodes-twice r t l =
+    let e = join-low r t t l l in
+    nodes-same r (join r t t) (e ∙ sym (join-high r t t l l)) ∙ ap (nodes r) e
+
+-- a table of zeros has none
+pub nodes-zero : (n : ℕ) → nodes n 0 ≡ 0
+unfolding nodes listing weight low high
+nodes-zero zero = refl
+nodes-zero (suc n) =
+    let z : low n 0 ≡ 0 = zero-mod (2 ^ (2 ^ n)) in
+    nodes-same n 0 (z ∙ sym (zero-div (2 ^ (2 ^ n)))) ∙ ap (nodes n) z ∙ nodes-zero n

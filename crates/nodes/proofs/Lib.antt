@@ -1,0 +1,21 @@
+-- Laws of nodes.
+pub mod Lists
+pub mod Listing
+pub mod Held
+pub mod Halved
+pub mod Counts
+pub mod Gathered
+pub mod Quarters
+pub mod Framed
+pub mod OwnFrame
+pub mod TopEntries
+pub mod Classes
+pub mod Sound
+pub mod Complete
+pub mod Fifteen
+pub mod Restricted
+pub mod Linked
+pub mod HalvesAlike
+pub mod FourInputs
+pub mod Repeated
+pub mod Narrow

@@ -1,0 +1,69 @@
+-- Laws of the listing: it keeps what it had, lists what it is asked for, and nothing twice.
+use Prim.Native.Nat.{ℕ, zero, suc, _≤_}
+use mathlib.Core.Path.{_≡_, ap}
+use mathlib.Core.Logic.{⊎-elim}
+use mathlib.Core.Bool.{not}
+use mathlib.Core.List.{List, [], _∷_}
+use native.Mathlib.Omega.{arith}
+use lib.Dec.{T, T-not, not-T, eqb, eqb→eq}
+use Rattle.base.proofs.Tests.{cond-has, eq-test}
+use Rattle.table.specs.Cells.{low, high}
+use Rattle.nodes.specs.Nodes.{Node, node, has, listing}
+use Rattle.nodes.proofs.Lists.{has-later, has-cases, Distinct}
+
+-- what holds of every visit: by the four ways that a visit can go
+module _
+    (P : ℕ → ℕ → List Node → List Node → Type 0)
+    (constant : (t : ℕ) (s : List Node) → P zero t s s)
+    (passed : (r t : ℕ) (s o : List Node) → low r t ≡ high r t → P r (low r t) s o → P (suc r) t s o)
+    (old : (r t : ℕ) (s : List Node) → (low r t ≡ high r t → ⊥) → T (has s (node r t)) → P (suc r) t s s)
+    (new : (r t : ℕ) (s m o : List Node) → (low r t ≡ high r t → ⊥) → T (not (has s (node r t))) → P r (low r t) s m → P r (high r t) m o
+    → P (suc r) t s (node r t ∷ o)) where
+  pub visits : (r t : ℕ) (s : List Node) → P r t s (listing r t s)
+  unfolding listing
+  visits zero t s = constant t s
+  visits (suc r) t s =
+      let l = visits r (low r t) s in
+      let h = visits r (high r t) (listing r (low r t) s) in
+      cond-has (P (suc r) t s) (eqb (low r t) (high r t))
+      (λ e. passed r t s (listing r (low r t) s) (eqb→eq (low r t) (high r t) e) l)
+      (λ e.
+      let d : low r t ≡ high r t → ⊥ = λ q. T-not (eqb (low r t) (high r t)) e (eq-test q) in
+      cond-has (P (suc r) t s) (has s (node r t)) (λ y. old r t s d y)
+      (λ y. new r t s (listing r (low r t) s) (listing r (high r t) (listing r (low r t) s)) d y l h))
+
+-- A visit to a table of r inputs keeps what was listed, adds only what has fewer than r inputs after, and lists nothing twice.
+pub record Grown (r : ℕ) (s o : List Node) : Type 0 where
+  pub kept : (k : Node) → T (has s k) → T (has o k)
+  pub fresh : (k : Node) → r ≤ k .after → T (has o k) → T (has s k)
+  pub distinct : Distinct s → Distinct o
+
+pub grown-same : (r : ℕ) (s : List Node) → Grown r s s
+grown-same r s = record { kept = λ k h. h; fresh = λ k l h. h; distinct = λ d. d }
+
+pub grown-passed : (r : ℕ) (s o : List Node) → Grown r s o → Grown (suc r) s o
+grown-passed r s o p = record { kept = p .kept; fresh = λ k l h. p .fresh k (omega arith) h; distinct = p .distinct }
+
+pub grown-new : (r t : ℕ) (s m o : List Node) → T (not (has s (node r t))) → Grown r s m → Grown r m o → Grown (suc r) s (node r t ∷ o)
+unfolding Distinct
+grown-new r t s m o y p q = record {
+  kept = λ k h. has-later (node r t) k o (q .kept k (p .kept k h));
+  fresh = λ k l h.
+      ⊎-elim (λ (e : k ≡ node r t). let w : k .after ≡ r = ap (λ z. z .after) e in absurd (omega arith))
+      (λ g. p .fresh k (omega arith) (q .fresh k (omega arith) g)) (has-cases (node r t) k o h);
+  distinct = λ d. (
+    not-T (has o (node r t)) (λ g. T-not (has s (node r t)) y (p .fresh (node r t) (omega arith) (q .fresh (node r t) (omega arith) g))),
+    q .distinct (p .distinct d),
+  );
+}
+
+pub listing-grown : (r t : ℕ) (s : List Node) → Grown r s (listing r t s)
+listing-grown =
+    visits (λ r t s o. Grown r s o) (λ t s. grown-same zero s)
+    (λ r t s o e p. grown-passed r s o p)
+    (λ r t s d y. grown-same (suc r) s) (λ r t s m o d y p q. grown-new r t s m o y p q)
+
+-- what is listed for a table, each once
+pub listing-once : (n t : ℕ) → Distinct (listing n t [])
+unfolding Distinct
+listing-once n t = listing-grown n t [] .distinct tt

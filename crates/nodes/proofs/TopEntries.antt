@@ -1,0 +1,51 @@
+-- The table of the best quarters: what an entry is, and what it gives at the places of a class.
+use Prim.Native.Nat.{ℕ, _+_, _*_, _/_, _%_, _≤_}
+use mathlib.Core.Path.{_≡_, ap, _∙_}
+use mathlib.Core.Bool.{Bool}
+use mathlib.Core.List.{List}
+use mathlib.Core.Option.{Option, none, some}
+use native.Mathlib.Omega.{arith}
+use lib.Bits.{bitAnd, and-le-l}
+use lib.Dec.{eqb}
+use lib.ListN.{getD}
+use Rattle.base.proofs.Tests.{cond-has}
+use Rattle.table.specs.Cells.{low, high}
+use Rattle.table.specs.Pick.{suits, least, leastOf}
+use Rattle.table.specs.Inner.Ranks.{masked}
+use Rattle.table.specs.Inner.Pairs.{blockSpace}
+use Rattle.table.specs.Inner.Blocks.{entries, noEntry, threeSpace}
+use Rattle.table.proofs.Least.{Least, least-is}
+use Rattle.nodes.specs.Nodes.{price}
+use Rattle.nodes.specs.Inner.Tops.{top, topOf, Tops}
+use Rattle.nodes.specs.Inner.Ways.{topAt, classAt, allNodes, mostClass}
+
+-- a quarter needs at most one selector of its own
+pub top-le : (x : ℕ) → top x ≤ 1
+unfolding top price
+top-le x = cond-has (λ y. y ≤ 1) (eqb (low 1 x) (high 1 x)) (λ _. omega arith) (λ _. omega arith)
+
+entry-le : (fit : ℕ → Bool) → topOf (least top fit blockSpace) ≤ noEntry
+unfolding topOf
+entry-le fit = go (least top fit blockSpace) (least-is top fit blockSpace)
+  where
+    go : (o : Option ℕ) → Least top fit blockSpace o → topOf o ≤ noEntry
+    go none h = omega arith
+    go (some x) h = omega (arith, h .0, top-le x)
+
+pub entry-at : {e : List ℕ} → Tops e → (at : ℕ) → (getD e (at % entries) 0 ≡ topAt at) × (getD e (at % entries) 0 ≤ noEntry)
+unfolding topAt leastOf
+entry-at {e} t at =
+    let k = at % entries in
+    let d : k ≡ k / blockSpace * blockSpace + k % blockSpace = omega arith in
+    let r : getD e k 0 ≡ topAt at = ap (λ i. getD e i 0) d ∙ t .entry (k / blockSpace) (k % blockSpace) (omega arith) (omega arith) in
+    (r, omega (arith, r, entry-le (suits 2 (masked (k / blockSpace) (k % blockSpace)))))
+
+-- what `class` gives
+pub class-at : (at places x : ℕ) → x ≡ topAt at → x ≤ noEntry
+    → (bitAnd (x * threeSpace + x % threeSpace) (allNodes + places * 15) ≡ classAt at places)
+    × (bitAnd (x * threeSpace + x % threeSpace) (allNodes + places * 15) ≤ mostClass)
+unfolding classAt
+class-at at places x e l = (
+  ap (λ y. bitAnd (y * threeSpace + y % threeSpace) (allNodes + places * 15)) e,
+  omega (arith, and-le-l (x * threeSpace + x % threeSpace) (allNodes + places * 15)),
+)

@@ -1,0 +1,27 @@
+-- `class` meets its contract: the entry's digits at the places.
+use Rattle.nodes.proofs.TopEntries.{class-at}
+use borrow.Author.Needs.{needs}
+use Rattle.nodes.proofs.picks.class.Statement.{statement}
+use Rattle.nodes.proofs.picks.class.Tie as tie
+
+entry-requires : tie.Need-entry-requires
+entry-requires c κs = search needs
+
+mul-result : tie.Need-mul-result
+mul-result c = search needs
+
+add-result : tie.Need-add-result
+add-result c = search needs
+
+mul-result-2 : tie.Need-mul-result-2
+mul-result-2 c = search needs
+
+add-result-2 : tie.Need-add-result-2
+add-result-2 c = search needs
+
+returns : tie.Need-returns
+returns c = class-at (c .before .args .at) (c .before .args .places) (c .entry .result) (c .entry .ensures .0) (c .entry .ensures .1)
+
+pub class-spec : {M : Type 1} → statement M
+class-spec =
+    tie.close (tie.spec entry-requires mul-result add-result mul-result-2 add-result-2 returns)

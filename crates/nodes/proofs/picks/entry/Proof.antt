@@ -1,0 +1,25 @@
+-- `entry` meets its contract: the table has it at its place.
+use native.Mathlib.Omega.{arith}
+use Rattle.nodes.proofs.TopEntries.{entry-at}
+use borrow.Author.Needs.{needs}
+use Rattle.nodes.proofs.picks.entry.Statement.{statement}
+use Rattle.nodes.proofs.picks.entry.Tie as tie
+
+cast-result : tie.Need-cast-result
+cast-result c = search needs
+
+mul-result : tie.Need-mul-result
+mul-result c = search needs
+
+element-copy-out-result : tie.Need-element-copy-out-result
+element-copy-out-result c = search needs
+
+cast-result-2 : tie.Need-cast-result-2
+cast-result-2 c = omega (arith, entry-at (c .before .pre) (c .before .args .at) .1)
+
+returns : tie.Need-returns
+returns c = entry-at (c .before .pre) (c .before .args .at)
+
+pub entry-spec : {M : Type 1} → statement M
+entry-spec =
+    tie.close (tie.spec cast-result mul-result element-copy-out-result cast-result-2 returns)

@@ -1,0 +1,64 @@
+-- `way` meets its contract: equal halves where the masks are repeated, and otherwise the least of four groups.
+use Prim.Native.Nat.{min}
+use mathlib.Core.Path.{sym, ap₂, _∙_}
+use native.Mathlib.Omega.{arith}
+use Rattle.nodes.specs.Inner.Ways.{leastWay}
+use Rattle.nodes.proofs.HalvesAlike.{repeated-way}
+use borrow.Author.Needs.{needs}
+use Rattle.nodes.proofs.picks.way.Statement.{statement}
+use Rattle.nodes.proofs.picks.way.Tie as tie
+
+halves-alike-requires : tie.Need-halves-alike-requires
+halves-alike-requires c κs = search needs
+
+returns : tie.Need-returns
+returns c =
+    let h = c .before in
+    (h .halves-alike .ensures .0 ∙ sym (repeated-way (h .before .args .pair) (omega arith)), h .halves-alike .ensures .1)
+
+three-alike-requires : tie.Need-three-alike-requires
+three-alike-requires c κs = search needs
+
+across-alike-requires : tie.Need-across-alike-requires
+across-alike-requires c κs = search needs
+
+tree-like-requires : tie.Need-tree-like-requires
+tree-like-requires c κs = search needs
+
+lesser-requires : tie.Need-lesser-requires
+lesser-requires c κs = search needs
+
+lesser-requires-2 : tie.Need-lesser-requires-2
+lesser-requires-2 c κs = search needs
+
+lesser-requires-3 : tie.Need-lesser-requires-3
+lesser-requires-3 c κs = search needs
+
+returns-2 : tie.Need-returns-2
+unfolding leastWay
+returns-2 c =
+    let y = c .before in
+    let x = y .before in
+    let tree = x .before in
+    let across = tree .before in
+    let three = across .before in
+    let halves = three .before .before in (
+      c .lesser3 .ensures
+          ∙ ap₂ min (x .lesser .ensures ∙ ap₂ min (halves .halves-alike .ensures .0) (tree .tree-like .ensures))
+          (y .lesser2 .ensures ∙ ap₂ min (three .three-alike .ensures) (across .across-alike .ensures)),
+      omega (arith, c .lesser3 .ensures, x .lesser .ensures, halves .halves-alike .ensures .1),
+    )
+
+pub way-spec : {M : Type 1} → statement M
+way-spec =
+    tie.close
+    (tie.spec
+    halves-alike-requires
+    returns
+    three-alike-requires
+    across-alike-requires
+    tree-like-requires
+    lesser-requires
+    lesser-requires-2
+    lesser-requires-3
+    returns-2)

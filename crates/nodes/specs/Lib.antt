@@ -1,0 +1,4 @@
+-- The nodes of a table: its cells on a board that shares selectors.
+pub mod Nodes
+pub mod Counts
+pub mod Inner

@@ -1,0 +1,519 @@
+// The pick for the board that shares selectors: the table of fewest nodes between the two masks of a pair (table::picks).
+// A table of four inputs has four quarters, its cofactors by inputs 1 and 2, and the bytes of the pair are their masks. Which selectors on inputs 1 and 2 a
+// table needs is told by which of its quarters coincide. Quarters that coincide are a class, and each class takes its best quarter by itself: first by
+// whether that needs a selector on input 3, then by its number. Below stand the literals of input 4, the input and its inverse, which all quarters share:
+// each choice of literals that may occur is tried with masks restricted so that no best quarter has another. The least of all is the pick.
+use table::picks::BLOCK_SPACE;
+use table::picks::ENTRIES;
+use table::picks::FOURTH_BYTE;
+use table::picks::ONE_SPACE;
+use table::picks::PLACES;
+use table::picks::TABLE_SPACE;
+use table::picks::THIRD_BYTE;
+use table::picks::THREE_SPACE;
+use table::picks::lesser;
+ghost use mathlib.Core.Path.{_≡_};
+ghost use lib.ListN.{getD};
+ghost use Prim.Native.Nat.{ℕ, _<_, _≤_, _+_, _*_, _^_};
+ghost use Rattle.sheet.specs.Limits.{maxInputs};
+ghost use Rattle.table.specs.Inner.Ranks.{pickOf, rank};
+ghost use Rattle.table.specs.Inner.Blocks.{noEntry, Covered};
+ghost use Rattle.table.specs.Inner.Pairs.{zerosIn, onesIn};
+ghost use Rattle.nodes.specs.Nodes.{nodes};
+ghost use Rattle.nodes.specs.Inner.Tops.{Tops};
+ghost use Rattle.nodes.specs.Inner.Ways.{topAt, classAt, mostClass, allPlaces, apartAt, halfAt, classIn, four, halvesAlike, treeLike, threeAlike, crossedAlike, besideAlike, acrossAlike, leastWay, bytesOf, noPlain, noInverted, choiceCount, choiceOf};
+
+// The best quarter of each pair of masks, at zeros * BLOCK_SPACE + ones: THREE_SPACE where it needs a selector, and the quarter twice side by side.
+// Where some pattern is in no mask there is none: 64 selectors. What stands below a quarter is not counted.
+const TOPS: [u16; ENTRIES] = [
+    0x4000,
+    0x4000,
+    0x4000,
+    0x4000,
+    0x4000,
+    0x4000,
+    0x4000,
+    0x4000,
+    0x4000,
+    0x4000,
+    0x4000,
+    0x4000,
+    0x4000,
+    0x4000,
+    0x4000,
+    0x00ff,
+    0x4000,
+    0x4000,
+    0x4000,
+    0x4000,
+    0x4000,
+    0x4000,
+    0x4000,
+    0x4000,
+    0x4000,
+    0x4000,
+    0x4000,
+    0x4000,
+    0x4000,
+    0x4000,
+    0x01ee,
+    0x00ff,
+    0x4000,
+    0x4000,
+    0x4000,
+    0x4000,
+    0x4000,
+    0x4000,
+    0x4000,
+    0x4000,
+    0x4000,
+    0x4000,
+    0x4000,
+    0x4000,
+    0x4000,
+    0x01dd,
+    0x4000,
+    0x00ff,
+    0x4000,
+    0x4000,
+    0x4000,
+    0x4000,
+    0x4000,
+    0x4000,
+    0x4000,
+    0x4000,
+    0x4000,
+    0x4000,
+    0x4000,
+    0x4000,
+    0x01cc,
+    0x01cc,
+    0x01cc,
+    0x00ff,
+    0x4000,
+    0x4000,
+    0x4000,
+    0x4000,
+    0x4000,
+    0x4000,
+    0x4000,
+    0x4000,
+    0x4000,
+    0x4000,
+    0x4000,
+    0x01bb,
+    0x4000,
+    0x4000,
+    0x4000,
+    0x00ff,
+    0x4000,
+    0x4000,
+    0x4000,
+    0x4000,
+    0x4000,
+    0x4000,
+    0x4000,
+    0x4000,
+    0x4000,
+    0x4000,
+    0x00aa,
+    0x00aa,
+    0x4000,
+    0x4000,
+    0x00aa,
+    0x00aa,
+    0x4000,
+    0x4000,
+    0x4000,
+    0x4000,
+    0x4000,
+    0x4000,
+    0x4000,
+    0x4000,
+    0x4000,
+    0x0199,
+    0x4000,
+    0x0199,
+    0x4000,
+    0x0199,
+    0x4000,
+    0x00ff,
+    0x4000,
+    0x4000,
+    0x4000,
+    0x4000,
+    0x4000,
+    0x4000,
+    0x4000,
+    0x4000,
+    0x0188,
+    0x0188,
+    0x00aa,
+    0x00aa,
+    0x0188,
+    0x0188,
+    0x00aa,
+    0x00aa,
+    0x4000,
+    0x4000,
+    0x4000,
+    0x4000,
+    0x4000,
+    0x4000,
+    0x4000,
+    0x0177,
+    0x4000,
+    0x4000,
+    0x4000,
+    0x4000,
+    0x4000,
+    0x4000,
+    0x4000,
+    0x00ff,
+    0x4000,
+    0x4000,
+    0x4000,
+    0x4000,
+    0x4000,
+    0x4000,
+    0x0166,
+    0x0166,
+    0x4000,
+    0x4000,
+    0x4000,
+    0x4000,
+    0x4000,
+    0x4000,
+    0x0166,
+    0x00ff,
+    0x4000,
+    0x4000,
+    0x4000,
+    0x4000,
+    0x4000,
+    0x0055,
+    0x4000,
+    0x0055,
+    0x4000,
+    0x4000,
+    0x4000,
+    0x4000,
+    0x4000,
+    0x0055,
+    0x4000,
+    0x0055,
+    0x4000,
+    0x4000,
+    0x4000,
+    0x4000,
+    0x0144,
+    0x0055,
+    0x0144,
+    0x0055,
+    0x4000,
+    0x4000,
+    0x4000,
+    0x4000,
+    0x0144,
+    0x0055,
+    0x0144,
+    0x0055,
+    0x4000,
+    0x4000,
+    0x4000,
+    0x0133,
+    0x4000,
+    0x4000,
+    0x4000,
+    0x0133,
+    0x4000,
+    0x4000,
+    0x4000,
+    0x0133,
+    0x4000,
+    0x4000,
+    0x4000,
+    0x00ff,
+    0x4000,
+    0x4000,
+    0x0122,
+    0x0122,
+    0x4000,
+    0x4000,
+    0x0122,
+    0x0122,
+    0x4000,
+    0x4000,
+    0x00aa,
+    0x00aa,
+    0x4000,
+    0x4000,
+    0x00aa,
+    0x00aa,
+    0x4000,
+    0x0111,
+    0x4000,
+    0x0111,
+    0x4000,
+    0x0055,
+    0x4000,
+    0x0055,
+    0x4000,
+    0x0111,
+    0x4000,
+    0x0111,
+    0x4000,
+    0x0055,
+    0x4000,
+    0x0055,
+    0x0000,
+    0x0000,
+    0x0000,
+    0x0000,
+    0x0000,
+    0x0000,
+    0x0000,
+    0x0000,
+    0x0000,
+    0x0000,
+    0x0000,
+    0x0000,
+    0x0000,
+    0x0000,
+    0x0000,
+    0x0000,
+];
+
+// A selector, in a rank.
+const NODE: u32 = TABLE_SPACE;
+
+// The quarters' places in a table: digits to the base BLOCK_SPACE.
+const A: u32 = 1;
+
+const B: u32 = BLOCK_SPACE;
+
+const C: u32 = B * BLOCK_SPACE;
+
+const D: u32 = C * BLOCK_SPACE;
+
+// The bits of a rank that count selectors, and the greatest digit of a table.
+const NODES: u32 = 0xffff0000;
+
+const DIGIT: u32 = BLOCK_SPACE - 1;
+
+// The seats of a pair but for the zeros of the patterns where input 4 is 0 (even), or 1 (odd).
+const NOT_EVEN_ZEROS: u32 = 0xafafafaf;
+
+const NOT_ODD_ZEROS: u32 = 0x5f5f5f5f;
+
+// The choices of literals of input 4: both, neither, the inverse, the input; each literal is a selector.
+const CHOICES: u32 = 4;
+
+const COSTS: [u32; CHOICES as usize] = [2 * NODE, 0, NODE, NODE];
+
+// More than any rank.
+const NO_PICK: u32 = u32::MAX;
+
+// A pair of three inputs twice, of two inputs four times, of one input eight times.
+const TWICE: u32 = 1 + THIRD_BYTE;
+
+const FOUR_TIMES: u32 = TWICE + PLACES * TWICE;
+
+const EIGHT_TIMES: u32 = (1 + ONE_SPACE) * FOUR_TIMES;
+
+// The table of the best quarters, to be lent to the functions below.
+pub fn tops() -> [u16; ENTRIES]
+    ensures { λ r. ⌜ Tops r ⌝ }
+{
+    TOPS
+}
+
+// The best quarter between the masks in the lowest byte of `at`: an entry of the table.
+fn entry(e: &[u16; ENTRIES], at: u32) -> u32
+    requires { ⌜ Tops (now e) ⌝ }
+    ensures { λ r. ⌜ (r ≡ topAt at) × (r ≤ noEntry) ⌝ }
+{
+    e[(at % PLACES) as usize] as u32
+}
+
+// The same for the quarters of a class, at their places: twice the entry has the quarter four times, and the places are cut out.
+fn class(e: &[u16; ENTRIES], at: u32, places: u32) -> u32
+    requires { ⌜ Tops (now e) × (places ≤ allPlaces) ⌝ }
+    ensures { λ r. ⌜ (r ≡ classAt at places) × (r ≤ mostClass) ⌝ }
+{
+    let x = entry(e, at);
+    (x * THREE_SPACE + x % THREE_SPACE) & (NODES + places * DIGIT)
+}
+
+// Two classes, of masks x and y at the places i and j.
+fn apart(e: &[u16; ENTRIES], x: u32, y: u32, i: u32, j: u32) -> u32
+    requires { ⌜ Tops (now e) × (i ≤ allPlaces) × (j ≤ allPlaces) ⌝ }
+    ensures { λ r. ⌜ (r ≡ apartAt x y i j) × (r ≤ 2 * mostClass) ⌝ }
+{
+    class(e, x, i) + class(e, y, j)
+}
+
+// The two quarters of a half, of masks x and y at the places i and j: one class, or two and a selector.
+fn half(e: &[u16; ENTRIES], x: u32, y: u32, i: u32, j: u32) -> u32
+    requires { ⌜ Tops (now e) × (i + j ≤ allPlaces) ⌝ }
+    ensures { λ r. ⌜ (r ≡ halfAt x y i j) × (r ≤ mostClass) ⌝ }
+{
+    lesser(class(e, x & y, i + j), NODE + apart(e, x, y, i, j))
+}
+
+// Equal halves: one class, or two and a selector for both halves.
+fn halves_alike(e: &[u16; ENTRIES], a: u32, b: u32, c: u32, d: u32) -> u32
+    requires { ⌜ Tops (now e) ⌝ }
+    ensures { λ r. ⌜ (r ≡ halvesAlike (classIn (four a b c d))) × (r ≤ mostClass) ⌝ }
+{
+    lesser(
+        class(e, a & b & c & d, A + B + C + D),
+        NODE + apart(e, a & c, b & d, A + C, B + D),
+    )
+}
+
+// Halves that share no quarter.
+fn tree_like(e: &[u16; ENTRIES], a: u32, b: u32, c: u32, d: u32) -> u32
+    requires { ⌜ Tops (now e) ⌝ }
+    ensures { λ r. ⌜ r ≡ treeLike (classIn (four a b c d)) ⌝ }
+{
+    NODE + half(e, a, b, A, B) + half(e, c, d, C, D)
+}
+
+// Three quarters alike: a selector for the half that has the fourth.
+fn three_alike(e: &[u16; ENTRIES], a: u32, b: u32, c: u32, d: u32) -> u32
+    requires { ⌜ Tops (now e) ⌝ }
+    ensures { λ r. ⌜ r ≡ threeAlike (classIn (four a b c d)) ⌝ }
+{
+    let x = lesser(
+        apart(e, a & b & c, d, A + B + C, D),
+        apart(e, a & b & d, c, A + B + D, C),
+    );
+    let y = lesser(
+        apart(e, a & c & d, b, A + C + D, B),
+        apart(e, b & c & d, a, B + C + D, A),
+    );
+    2 * NODE + lesser(x, y)
+}
+
+// The first quarter of one half is the second of the other.
+fn crossed(e: &[u16; ENTRIES], a: u32, b: u32, c: u32, d: u32) -> u32
+    requires { ⌜ Tops (now e) ⌝ }
+    ensures { λ r. ⌜ (r ≡ crossedAlike (classIn (four a b c d))) × (r ≤ 3 * mostClass) ⌝ }
+{
+    let ad = class(e, a & d, A + D);
+    let bc = class(e, b & c, B + C);
+    lesser(
+        ad + lesser(bc, apart(e, b, c, B, C)),
+        bc + apart(e, a, d, A, D),
+    )
+}
+
+// The halves have their first quarter in common, or their second.
+fn beside(e: &[u16; ENTRIES], a: u32, b: u32, c: u32, d: u32) -> u32
+    requires { ⌜ Tops (now e) ⌝ }
+    ensures { λ r. ⌜ (r ≡ besideAlike (classIn (four a b c d))) × (r ≤ 3 * mostClass) ⌝ }
+{
+    lesser(
+        class(e, a & c, A + C) + apart(e, b, d, B, D),
+        class(e, b & d, B + D) + apart(e, a, c, A, C),
+    )
+}
+
+// A quarter of one half is a quarter of the other, and both halves need a selector.
+fn across_alike(e: &[u16; ENTRIES], a: u32, b: u32, c: u32, d: u32) -> u32
+    requires { ⌜ Tops (now e) ⌝ }
+    ensures { λ r. ⌜ r ≡ acrossAlike (classIn (four a b c d)) ⌝ }
+{
+    3 * NODE + lesser(crossed(e, a, b, c, d), beside(e, a, b, c, d))
+}
+
+// The least over the fifteen ways in which the quarters of a pair coincide, with no selectors on input 4 counted. Where both halves have the same masks,
+// equal halves are the best: so it is with every pair of fewer than four inputs, repeated.
+fn way(e: &[u16; ENTRIES], pair: u32) -> u32
+    requires { ⌜ Tops (now e) ⌝ }
+    ensures { λ r. ⌜ (r ≡ leastWay (classIn (bytesOf pair))) × (r ≤ mostClass) ⌝ }
+{
+    let a = pair;
+    let b = pair / PLACES;
+    let c = pair / THIRD_BYTE;
+    let d = pair / FOURTH_BYTE;
+    let halves = halves_alike(e, a, b, c, d);
+    if pair % THIRD_BYTE == c {
+        return halves;
+    }
+    let three = three_alike(e, a, b, c, d);
+    let across = across_alike(e, a, b, c, d);
+    let tree = tree_like(e, a, b, c, d);
+    lesser(lesser(halves, tree), lesser(three, across))
+}
+
+// The masks under which no best quarter has input 4 itself as a half. That is 0 on the even pattern and 1 on the odd one: 0 on an even pattern now asks for
+// 0 on the odd one beside it, and where that may stand, constant 0 is the better half.
+fn no_plain(pair: u32) -> u32
+    ensures { λ r. ⌜ r ≡ noPlain pair ⌝ }
+{
+    pair & ((pair >> 1) | NOT_EVEN_ZEROS)
+}
+
+// The same for its inverse, which is 0 on the odd pattern.
+fn no_inverted(pair: u32) -> u32
+    ensures { λ r. ⌜ r ≡ noInverted pair ⌝ }
+{
+    pair & ((pair << 1) | NOT_ODD_ZEROS)
+}
+
+// A pair restricted to each choice of literals, in the order of COSTS.
+fn choices(pair: u32) -> [u32; CHOICES as usize]
+    ensures { λ r. ⌜ ((u : ℕ) → u < choiceCount → getD r u 0 ≡ choiceOf pair u) ⌝ }
+{
+    let plain = no_inverted(pair);
+    [pair, no_plain(plain), no_plain(pair), plain]
+}
+
+// Four inputs: the least over the choices of literals that may occur. Before the literals are counted no choice gives less than the first, both: so once
+// neither has been tried, what is no greater than the first with one literal is the least.
+fn pick4(e: &[u16; ENTRIES], pair: u32) -> u32
+    requires { ⌜ Tops (now e) × Covered 4 (zerosIn pair) (onesIn pair) ⌝ }
+    ensures { λ r. ⌜ r ≡ rank (nodes 4) (pickOf (nodes 4) 4 (zerosIn pair) (onesIn pair)) ⌝ }
+{
+    let pairs = choices(pair);
+    let costs = COSTS;
+    let mut best = NO_PICK;
+    let mut floor: u32 = 0;
+    for u in 0..CHOICES {
+        if best <= floor {
+            return best;
+        }
+        let x = way(e, pairs[u as usize]);
+        if u == 0 {
+            floor = x + NODE;
+        }
+        best = lesser(best, x + costs[u as usize]);
+    }
+    best
+}
+
+// The rank of the pick between the two masks of a pair, among the tables of n inputs. Fewer than four inputs are looked up as four: the masks of a pair
+// repeated have the pick repeated.
+pub fn pick_shared(e: &[u16; ENTRIES], n: u8, pair: u32) -> u32
+    requires { ⌜ Tops (now e) × (1 ≤ n) × (n ≤ maxInputs) × (zerosIn pair < 2 ^ (2 ^ n)) × (onesIn pair < 2 ^ (2 ^ n))
+        × Covered n (zerosIn pair) (onesIn pair) ⌝ }
+    ensures { λ r. ⌜ r ≡ rank (nodes n) (pickOf (nodes n) n (zerosIn pair) (onesIn pair)) ⌝ }
+{
+    match n {
+        1 => {
+            let x = pick4(e, pair * EIGHT_TIMES);
+            x / TABLE_SPACE * TABLE_SPACE + x % ONE_SPACE
+        }
+        2 => {
+            let x = pick4(e, pair * FOUR_TIMES);
+            x / TABLE_SPACE * TABLE_SPACE + x % BLOCK_SPACE
+        }
+        3 => {
+            let x = pick4(e, pair * TWICE);
+            x / TABLE_SPACE * TABLE_SPACE + x % THREE_SPACE
+        }
+        _ => pick4(e, pair),
+    }
+}

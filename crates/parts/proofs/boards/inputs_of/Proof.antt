@@ -1,0 +1,11 @@
+use mathlib.Core.Path.{refl}
+use Rattle.parts.specs.Inner.Boards.{inputsIn}
+use Rattle.parts.proofs.boards.inputs_of.Statement.{statement}
+use Rattle.parts.proofs.boards.inputs_of.Tie as tie
+
+returns : tie.Need-returns
+unfolding inputsIn
+returns c = refl
+
+pub inputs-of-spec : {M : Type 1} → statement M
+inputs-of-spec = tie.close (tie.spec returns)

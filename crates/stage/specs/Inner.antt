@@ -1,0 +1,2 @@
+-- What only laws use.
+pub mod Laws

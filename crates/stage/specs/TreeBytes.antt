@@ -1,0 +1,28 @@
+-- Document 01, "Stage sheet": a wire that is a decision tree, as bytes.
+use Prim.Native.Nat.{ℕ, _+_, _-_, _*_}
+use mathlib.Core.Bool.{cond}
+use mathlib.Core.List.{List, [], _∷_, _++_}
+use lib.Dec.{eqb}
+use Rattle.sheet.specs.Limits.{maxWires, maxPatterns}
+use Rattle.table.specs.Tree.{Tree, con, sel}
+
+-- a constant is one byte
+abbrev pub constantByte : ℕ → ℕ
+constantByte b = cond (eqb b 0) 0x23 0x24
+
+-- a tree from its top down: a selector is 22 and its input, then the tree where the input is 0, then the tree where it is 1
+unfoldable pub treeBytes : Tree → List ℕ
+treeBytes (con b) = constantByte b ∷ []
+treeBytes (sel k z o) = 0x22 ∷ k ∷ treeBytes z ++ treeBytes o
+
+-- wire j: 21 and its number, then its tree
+abbrev pub treeWireBytes : ℕ → Tree → List ℕ
+treeWireBytes j x = 0x21 ∷ j ∷ treeBytes x
+
+-- no stage has more cells: a tree has fewer selectors than there are patterns
+abbrev pub mostCells : ℕ
+mostCells = maxWires * (maxPatterns - 1)
+
+-- the length of the longest stage
+abbrev pub longestStage : ℕ
+longestStage = 4 + 3 * maxWires + 3 * mostCells

@@ -1,0 +1,2 @@
+-- Writing stages. What only inner functions use is in Inner.
+pub mod Inner

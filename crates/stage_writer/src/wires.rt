@@ -1,0 +1,54 @@
+// A wire by the board: the only place where the writer looks at which board it writes for.
+// Inner functions: `write_on` has tested sizes, tables and buffer before it calls them.
+use crate::diagrams::node_count;
+use crate::diagrams::put_diagram_wire;
+use crate::trees::put_tree_wire;
+use table::BoardKind;
+use table::cell_counts::count;
+ghost use mathlib.Core.Path.{_≡_};
+ghost use Prim.Native.Nat.{_+_, _^_, _<_, _≤_};
+ghost use lib.ListN.{length};
+ghost use Rattle.table.specs.declared.BoardKind.the-variants.{Sharing};
+ghost use Rattle.sheet.specs.Limits.{maxInputs, maxPatterns};
+ghost use Rattle.diagram.specs.Bytes.{longestShared};
+ghost use Rattle.diagram.specs.Forms.{formOf};
+ghost use Rattle.base.specs.Inner.Put.{Put};
+ghost use Rattle.stage_writer.specs.Inner.Wires.{frameOf, selectorsOf};
+
+// What a wire takes besides three bytes for each selector. A tree: 21, its number, and a byte since it has one constant more than selectors.
+const TREE_FRAME: usize = 3;
+
+// A diagram: 26, its number, how many entries it has, and the top.
+const DIAGRAM_FRAME: usize = 4;
+
+// The frame of a wire. No board's is longer than a diagram's.
+pub fn frame(kind: BoardKind) -> usize
+    ensures { λ r. ⌜ (r ≡ frameOf kind) × (r ≤ frameOf Sharing) ⌝ }
+{
+    match kind {
+        BoardKind::Tree => TREE_FRAME,
+        BoardKind::Sharing => DIAGRAM_FRAME,
+    }
+}
+
+// The selectors of what is written of a table. Each selector of a tree is a cell, so the cells tell how many there are.
+pub fn selectors(kind: BoardKind, n: u8, t: u16) -> u8
+    requires { ⌜ (1 ≤ n) × (n ≤ maxInputs) × (t < 2 ^ (2 ^ n)) ⌝ }
+    ensures { λ r. ⌜ (r ≡ selectorsOf kind n t) × (r < maxPatterns) ⌝ }
+{
+    match kind {
+        BoardKind::Tree => count(n, t),
+        BoardKind::Sharing => node_count(n, t),
+    }
+}
+
+// Writes wire j's part of a stage, and hands back the place after it.
+pub fn put_wire(kind: BoardKind, buffer: &mut [u8], at: usize, n: u8, j: u8, t: u16) -> usize
+    requires { ⌜ (n ≤ maxInputs) × (t < 2 ^ (2 ^ n)) × (at + length (formOf kind .wireBytes j (formOf kind .reduced n t)) ≤ longestShared) ⌝ }
+    ensures { λ r. ⌜ Put (now (buffer .entry)) at (formOf kind .wireBytes j (formOf kind .reduced n t)) (now (buffer .exit)) r ⌝ }
+{
+    match kind {
+        BoardKind::Tree => put_tree_wire(buffer, at, n, j, t),
+        BoardKind::Sharing => put_diagram_wire(buffer, at, n, j, t),
+    }
+}
