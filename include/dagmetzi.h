@@ -43,19 +43,20 @@ enum {
     DAGMETZI_STAGE_REFUSED = 3 /* audit: the stage is refused */
 };
 
-/* The refusals. Where no place is named below, it is where the command at fault begins. */
+/* The refusals. Where no place is named below, it is where the command at fault begins; in a stage that shares selectors
+ * each entry of a list, and its top, counts as a command of its own. */
 enum {
     DAGMETZI_CUT_SHORT = 1,      /* the bytes end inside a command, or where one is due */
     DAGMETZI_UNKNOWN = 2,        /* no command begins with this byte */
     DAGMETZI_OUT_OF_RANGE = 3,   /* an operand; of a relation: its sizes (place 0), or a set (place: the pattern) */
     DAGMETZI_TRAILING = 4,       /* something stands behind the end; place: there */
     DAGMETZI_OUT_OF_TURN = 5,    /* a command, or a stage's wire, where another is due */
-    DAGMETZI_NO_SIGNAL = 6,      /* a signal that is not made yet; of a list: an entry that is not there yet */
+    DAGMETZI_NO_SIGNAL = 6,      /* a signal that is not made yet; of a list: an entry that is not there yet, or no top */
     DAGMETZI_REPEATED = 7,       /* the pattern has a value already, or is impossible already */
     DAGMETZI_TOO_MANY = 8,       /* the 33rd gate or the 9th output */
     DAGMETZI_MISSING_ROW = 9,    /* a pattern with no value that is not impossible; place: the lowest */
     DAGMETZI_EMPTY = 10,         /* no value is left for a pattern; place: the lowest */
-    DAGMETZI_NOT_ASCENDING = 11, /* a selector input that is not above its parent's; of a list: that the namer's does not precede */
+    DAGMETZI_NOT_ASCENDING = 11, /* a selector input that is not above its parent's; of a list: not above that of an entry that names it */
     DAGMETZI_SHORT_BUFFER = 12,  /* the buffer is shorter than the stage or the copy; place: the length needed */
     DAGMETZI_SIZES_DIFFER = 13   /* audit: the stage has another n or m than the sheet; place 0 */
 };
@@ -64,10 +65,10 @@ enum {
 #define DAGMETZI_PATTERNS 16
 #define DAGMETZI_WIRES 4
 
-/* No stage has more bytes than this: a quote's buffer of this length is never too short. */
+/* No stage of trees has more bytes than this: a quote's buffer of this length is never too short. */
 #define DAGMETZI_LONGEST_STAGE 196
 
-/* The same for the board that shares selectors. */
+/* No sharing quote writes more bytes. A stage handed to the sharing audit may be longer, up to 3,056 bytes. */
 #define DAGMETZI_LONGEST_SHARED 200
 
 /* No clean copy of a sheet has more bytes than this. */

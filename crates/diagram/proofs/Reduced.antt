@@ -104,7 +104,7 @@ number-lt ks zero t = λ h. omega (arith, ltb→lt t 2 h)
 number-lt ks (suc r) t =
     cond-has₂ (λ a y. T a → y < length ks + 2) (eqb (low r t) (high r t)) (λ _. number-lt ks r (low r t)) (λ _ _. place-lt ks (node r t))
 
-entries-length : (n : ℕ) (ks : List Node) → length (entriesOf n ks) ≡ length ks
+pub entries-length : (n : ℕ) (ks : List Node) → length (entriesOf n ks) ≡ length ks
 unfolding entriesOf
 entries-length n [] = refl
 entries-length n (k ∷ ks) = ap suc (entries-length n ks)

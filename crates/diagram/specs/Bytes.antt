@@ -18,7 +18,7 @@ entriesBytes (e ∷ before) = entriesBytes before ++ entryBytes e
 unfoldable pub diagramWireBytes : ℕ → Diagram → List ℕ
 diagramWireBytes j d = 0x26 ∷ j ∷ length (d .entries) ∷ entriesBytes (d .entries) ++ d .top ∷ []
 
--- the length of the longest stage that is written: a table has fewer nodes than there are patterns
+-- no stage that is written is longer: a table has fewer nodes than there are patterns
 abbrev pub longestShared : ℕ
 longestShared = 4 + 4 * maxWires + 3 * mostCells
 

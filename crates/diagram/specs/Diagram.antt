@@ -24,9 +24,12 @@ pub record Diagram : Type 0 where
 abbrev pub diagram : List Entry → ℕ → Diagram
 diagram es x = record { entries = es; top = x }
 
--- numbers 0 and 1 are the constants; the entry that follows those before it has the next number
+-- numbers 0 and 1 are the constants; an entry has the number that follows those before it
+abbrev pub firstNumber : ℕ
+firstNumber = 2
+
 abbrev pub nextNumber : List Entry → ℕ
-nextNumber before = length before + 2
+nextNumber before = length before + firstNumber
 
 -- the input that number x tests; a constant tests none, and stands for an input after all n
 unfoldable pub inputAt : ℕ → List Entry → ℕ → ℕ

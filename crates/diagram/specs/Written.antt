@@ -6,12 +6,12 @@ use lib.Dec.{eqb}
 use lib.ListN.{length}
 use Rattle.table.specs.Cells.{low, high}
 use Rattle.nodes.specs.Nodes.{Node, node, same, listing}
-use Rattle.diagram.specs.Diagram.{Entry, entry, Diagram, diagram}
+use Rattle.diagram.specs.Diagram.{Entry, entry, Diagram, diagram, firstNumber}
 
 -- the number of a node that is listed
 unfoldable pub place : List Node → Node → ℕ
 place [] k = zero
-place (x ∷ before) k = cond (same k x) (length before + 2) (place before k)
+place (x ∷ before) k = cond (same k x) (length before + firstNumber) (place before k)
 
 -- the number of a table of so many inputs: a constant's; or the node's that is left once the inputs are passed over that it does not need
 unfoldable pub numberOf : List Node → ℕ → ℕ → ℕ

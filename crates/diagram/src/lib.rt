@@ -3,6 +3,9 @@
 use sheet::Sheet;
 use stage::MOST_CELLS;
 
+// Numbers 0 and 1 are the constants, and the entries have those after them.
+pub const FIRST_NUMBER: u8 = 2;
+
 // A wire has no more entries: their numbers are bytes.
 pub const MOST_ENTRIES: usize = 253;
 

@@ -3,6 +3,7 @@
 // table needs is told by which of its quarters coincide. Quarters that coincide are a class, and each class takes its best quarter by itself: first by
 // whether that needs a selector on input 3, then by its number. Below stand the literals of input 4, the input and its inverse, which all quarters share:
 // each choice of literals that may occur is tried with masks restricted so that no best quarter has another. The least of all is the pick.
+// Inner functions: the parts of a search meet what they require.
 use table::picks::BLOCK_SPACE;
 use table::picks::ENTRIES;
 use table::picks::FOURTH_BYTE;

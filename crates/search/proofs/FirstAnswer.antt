@@ -16,11 +16,10 @@ use Rattle.sheet.specs.Limits.{maxWires, maxValues}
 use Rattle.base.proofs.Tests.{decide, eq-test, test-ext}
 use Rattle.table.specs.Bits.{sum, tabulate}
 use Rattle.table.specs.Cells.{wires, total}
-use Rattle.table.specs.Inner.Ranks.{pickOf, rank}
+use Rattle.table.specs.Inner.Ranks.{rank}
 use Rattle.table.proofs.Bits.{tabulate-at, tabulate-length, sum-cong}
 use Rattle.relation.specs.Source.{Tables}
 use Rattle.relation.specs.Tests.{ofSets, agree}
-use Rattle.relation.specs.Inner.Masks.{maskOf}
 use Rattle.relation.specs.Inner.Narrowed.{agreed}
 use Rattle.relation.proofs.Splits.{agree-well-defined}
 use Rattle.relation.proofs.Narrowing.{agreed-agree, agreed-narrow}

@@ -13,7 +13,7 @@ use Rattle.base.proofs.Tests.{cond-has}
 use Rattle.sheet.specs.Limits.{maxInputs, maxWires, maxPatterns}
 use Rattle.table.specs.Bits.{bit}
 use Rattle.table.specs.Cells.{cells, wires, total}
-use Rattle.table.specs.Drawing.{drawnTable}
+use Rattle.table.specs.Drawing.{got, drawnTable}
 use Rattle.table.specs.Tree.{Tree, Ordered, selectors, reduced}
 use Rattle.table.specs.Inner.Drawing.{FairCount}
 use Rattle.table.proofs.Cells.{cells-lt}
@@ -26,7 +26,7 @@ use Rattle.stage.specs.Written.{stageOf}
 use Rattle.stage.specs.Inner.Laws.{ToldWire, FormLaws}
 use Rattle.stage.proofs.Steps.{due-has}
 use Rattle.stage.proofs.Lengths.{sheet-length, sheet-length-most}
-use Rattle.stage.proofs.Prefix.{front-tells as sheet-front}
+use Rattle.stage.proofs.Prefix.{none-longer as sheet-none-longer, front-tells as sheet-front}
 use Rattle.stage.proofs.TreeReading.{ToldTree, tree-told, tree-back, tree-length}
 use Rattle.stage.proofs.TreeTables.{table-lt, table-bit, selectors-few, patterns-most}
 use Rattle.stage.proofs.TreeMore.{wire-more}
@@ -93,7 +93,11 @@ tree-laws =
 pub cells-few : (n t : ℕ) → n ≤ maxInputs → cells n t < maxPatterns
 cells-few n t h = omega (arith, cells-lt n t, patterns-most n h)
 
--- reading looks at no byte past the one that follows the longest stage
+-- no sheet that is accepted is longer, and reading looks at no byte past the one that would follow
+pub none-longer : (bytes : List ℕ) (n m : ℕ) (stage : List Tree) → readStage bytes ≡ got n m stage → length bytes ≤ longestStage
+unfolding tree-laws
+none-longer bytes n m stage e = sheet-none-longer treeForm tree-laws bytes n m stage e
+
 pub front-tells : (s : List ℕ) (k : ℕ) → longestStage < k → readStage (take k s) ≡ readStage s
 unfolding tree-laws
 front-tells s k h = sheet-front treeForm tree-laws s k h

@@ -19,10 +19,10 @@ treeBytes (sel k z o) = 0x22 ∷ k ∷ treeBytes z ++ treeBytes o
 abbrev pub treeWireBytes : ℕ → Tree → List ℕ
 treeWireBytes j x = 0x21 ∷ j ∷ treeBytes x
 
--- no stage has more cells: a tree has fewer selectors than there are patterns
+-- no stage that is written has more selectors: a table needs fewer than it has patterns
 abbrev pub mostCells : ℕ
 mostCells = maxWires * (maxPatterns - 1)
 
--- the length of the longest stage
+-- the length of the longest stage of trees
 abbrev pub longestStage : ℕ
 longestStage = 4 + 3 * maxWires + 3 * mostCells

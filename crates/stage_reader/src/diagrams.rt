@@ -4,6 +4,7 @@ use crate::due::due_number;
 use crate::steps::WireStep;
 use crate::tables::select;
 use base::Refusal;
+use diagram::FIRST_NUMBER;
 use diagram::MOST_ENTRIES;
 use sheet::limits::all_ones;
 use table::BoardKind;
@@ -19,15 +20,15 @@ ghost use Rattle.diagram.specs.Diagrams.{diagramDrawing};
 ghost use Rattle.stage_reader.specs.Inner.Numbers.{mostNumbers, InputsTell, TablesTell, entryThere, entryBy, Selects, tableBy};
 ghost use Rattle.stage_reader.specs.Inner.Wires.{wireReply, stepOf};
 
-// The constants have the first numbers, and the entries those after them.
-const CONSTANTS: u8 = 2;
-
-const NUMBERS: usize = CONSTANTS as usize + MOST_ENTRIES;
+const NUMBERS: usize = FIRST_NUMBER as usize + MOST_ENTRIES;
 
 // The most entries, as the byte says that counts them.
 const MOST: u8 = MOST_ENTRIES as u8;
 
+// An entry, and the head of a wire, 26 j c.
 const ENTRY_BYTES: usize = 3;
+
+const HEAD_BYTES: usize = 3;
 
 // The number of the refusal of the entry that is to have a number of its own, 0 where it may follow those before it. A test is over both numbers
 // that it names before the next one comes.
@@ -132,7 +133,7 @@ fn read_diagram(s: &[u8], from: usize, n: u8, count: u8) -> WireStep
     let mut k: u8 = 0;
     while k < count {
         let at = from + ENTRY_BYTES * (k as usize);
-        let own = CONSTANTS + k;
+        let own = FIRST_NUMBER + k;
         let f = judge_entry(s, at, n, own, &inputs);
         if f != 0 {
             return WireStep::Refused(Refusal::at(f, at));
@@ -144,7 +145,7 @@ fn read_diagram(s: &[u8], from: usize, n: u8, count: u8) -> WireStep
     read_top(
         s,
         from + ENTRY_BYTES * (count as usize),
-        CONSTANTS + count,
+        FIRST_NUMBER + count,
         cells,
         &tables,
     )
@@ -159,7 +160,7 @@ pub fn read_diagram_wire(s: &[u8], at: usize, j: u8, n: u8, m: u8) -> WireStep
     if f != 0 {
         return WireStep::Refused(Refusal::at(f, at));
     }
-    if s.len() - at < 3 {
+    if s.len() - at < HEAD_BYTES {
         return WireStep::Refused(Refusal::at(Refusal::CUT_SHORT, at));
     }
     let i = s[at + 1];
@@ -173,5 +174,5 @@ pub fn read_diagram_wire(s: &[u8], at: usize, j: u8, n: u8, m: u8) -> WireStep
     if i != j {
         return WireStep::Refused(Refusal::at(Refusal::OUT_OF_TURN, at));
     }
-    read_diagram(s, at + 3, n, count)
+    read_diagram(s, at + HEAD_BYTES, n, count)
 }

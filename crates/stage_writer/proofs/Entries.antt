@@ -1,6 +1,6 @@
 -- Laws of writing a diagram: an entry for each listed node, and the whole wire.
 use Prim.Native.Nat.{ℕ, zero, suc, _+_, _-_, _*_, _^_, _/_, _%_, _<_}
-use mathlib.Core.Path.{_≡_, refl, ap, _∙_}
+use mathlib.Core.Path.{_≡_, ap, _∙_}
 use mathlib.Core.Logic.{⊎-elim}
 use mathlib.Core.List.{List, [], _∷_, _++_}
 use native.Mathlib.Omega.{arith}
@@ -14,16 +14,10 @@ use Rattle.nodes.specs.Nodes.{Node, listing}
 use Rattle.diagram.specs.Bytes.{entryBytes, entriesBytes, diagramWireBytes}
 use Rattle.diagram.specs.Written.{numberOf, entryOf, entriesOf, reducedDiagram}
 use Rattle.diagram.proofs.Reading.{entries-bytes-length, wire-length}
-use Rattle.diagram.proofs.Reduced.{Closed, visited}
+use Rattle.diagram.proofs.Reduced.{Closed, visited, entries-length}
 use Rattle.stage_writer.specs.Inner.Keys.{nodeOf, nodesIn, Keyed}
 use Rattle.stage_writer.proofs.Keys.{nodes-length}
 use Rattle.stage_writer.proofs.Storing.{one-stored}
-
--- there is an entry for each node
-pub entries-length : (n : ℕ) (ks : List Node) → length (entriesOf n ks) ≡ length ks
-unfolding entriesOf
-entries-length n [] = refl
-entries-length n (k ∷ ks) = ap suc (entries-length n ks)
 
 pub entries-bytes : (n : ℕ) (keys : List ℕ) (k : ℕ) → length (entriesBytes (entriesOf n (nodesIn keys k))) ≡ 3 * k
 entries-bytes n keys k =

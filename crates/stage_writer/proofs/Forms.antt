@@ -17,8 +17,8 @@ use Rattle.diagram.specs.Bytes.{longestShared}
 use Rattle.diagram.specs.Diagrams.{diagramForm}
 use Rattle.diagram.specs.Written.{reducedDiagram}
 use Rattle.diagram.specs.Forms.{formOf}
+use Rattle.diagram.proofs.Reduced.{entries-length}
 use Rattle.diagram.proofs.DiagramForm.{diagram-laws, stage-length-most as diagrams-most}
-use Rattle.stage_writer.proofs.Entries.{entries-length}
 use Rattle.stage_writer.specs.Inner.Wires.{frameOf, selectorsOf}
 
 -- the length by wires and selectors

@@ -12,10 +12,11 @@ use lib.ListN.{length, getD, set}
 use lib.Seq.{getD-set-same, getD-set-other}
 use borrow.Author.Tests.{ne-eqb}
 use Rattle.base.proofs.Tests.{cond-has}
+use Rattle.table.specs.Inner.Ranks.{tableSpace}
 use Rattle.nodes.specs.Nodes.{Node, node, same, has}
 use Rattle.nodes.proofs.Lists.{same-eq, same-self}
 use Rattle.diagram.specs.Written.{place}
-use Rattle.stage_writer.specs.Inner.Keys.{tableSpace, nodeOf, nodesIn}
+use Rattle.stage_writer.specs.Inner.Keys.{nodeOf, nodesIn}
 
 -- a key stands for its node, and for no other
 pub key-node : (r t : ℕ) → t < tableSpace → nodeOf (r * tableSpace + t) ≡ node r t

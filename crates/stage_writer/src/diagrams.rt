@@ -3,7 +3,9 @@
 use crate::common::half_of;
 use crate::common::put_three;
 use base::put;
+use diagram::FIRST_NUMBER;
 use sheet::Sheet;
+use table::picks::TABLE_SPACE;
 ghost use mathlib.Core.Path.{_≡_};
 ghost use mathlib.Core.List.{[]};
 ghost use Prim.Native.Nat.{ℕ, _+_, _*_, _^_, _<_, _≤_};
@@ -18,12 +20,7 @@ ghost use Rattle.stage_writer.specs.Inner.Keys.{mostNodes, nodeOf, nodes
 // A table has fewer nodes than patterns.
 const MOST_NODES: usize = Sheet::MAX_PATTERNS - 1;
 
-// Tables are below this. A node is kept as one number, its key: this times the inputs after the one that it tests, and its table.
-const TABLE_SPACE: u32 = 1 << 16;
-
-// Numbers 0 and 1 are the constants, so this is the first node's.
-const FIRST_NUMBER: u8 = 2;
-
+// A node is kept as one number, its key: the inputs after the one that it tests, and its table.
 fn key_of(after: u8, table: u16) -> u32
     ensures { λ r. ⌜ nodeOf r ≡ node after table ⌝ }
 {

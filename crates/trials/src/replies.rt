@@ -273,8 +273,8 @@ fn put_clean(out: &mut [u8], at: usize, s: &[u8], from: usize) -> usize
 }
 
 // The board that a record is for, by its kind byte.
-fn board_of(kind: u8) -> BoardKind {
-    if call_of(kind) == kind {
+fn kind_of(letter: u8) -> BoardKind {
+    if call_of(letter) == letter {
         BoardKind::Tree
     } else {
         BoardKind::Sharing
@@ -287,7 +287,7 @@ pub fn put_reply(out: &mut [u8], at: usize, s: &[u8], from: usize) -> usize
     ensures { λ r. ⌜ r ≤ at + longestReply ⌝ }
 {
     let kind = byte_at(s, from);
-    let board = board_of(kind);
+    let board = kind_of(kind);
     let call = call_of(kind);
     match call {
         b'Q' => put_quote(board, out, at, s, from),

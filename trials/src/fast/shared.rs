@@ -11,26 +11,28 @@
 //! pick: every sum is reached by a table with no more cells, and a table's own
 //! way and nodes give its own cells.
 //!
-//! The choices of nodes come one after another, as in the sketches that this is
-//! taken from, so that the benchmark times the same work on both sides. Side by
-//! side, in the lanes of a vector, they took a visit of (4,4) from 71 ns to 49.
+//! It is the library's method, so that the benchmark times the same work on both
+//! sides: one table of quarters; a choice of nodes restricts the masks; and the
+//! choices of one node are passed over where they cannot be less. With a table
+//! for each choice, four times 1 KB, and no choice passed over, a visit of (4,4)
+//! took 59 to 83 ns in place of 74 to 115; with the choices side by side in the
+//! lanes of a vector, 48.
 
-use super::{tree, CELL, NONE};
+use super::{tree, CELL};
 
-/// For each choice of one-input nodes (1: inverted, 2: straight) the keys of
-/// the quarters by their masks, zeros * 16 + ones. A key has a cell where the
-/// quarter needs a selector on input 3, and its function in all four places.
-static QUARTERS: [[u32; 256]; 4] = [quarters(0), quarters(1), quarters(2), quarters(3)];
+/// The keys of the quarters by their masks, zeros * 16 + ones. A key has a cell
+/// where the quarter needs a selector on input 3, above its function twice.
+static QUARTERS: [u16; 256] = quarters();
 
-const fn quarters(nodes: usize) -> [u32; 256] {
-    let mut all = [NONE; 256];
+const fn quarters() -> [u16; 256] {
+    let mut all = [0x4000; 256];
     let mut at = 0;
     while at < 256 {
         let (zeros, ones) = (at >> 4, at & 15);
         let mut quarter = 0;
         while quarter < 16 {
-            let fits = quarter & !ones == 0 && !quarter & 15 & !zeros == 0 && nodes_below(quarter) & !nodes == 0;
-            let key = (quarter & 3 != quarter >> 2) as u32 * CELL + quarter as u32 * 0x1111;
+            let fits = quarter & !ones == 0 && !quarter & 15 & !zeros == 0;
+            let key = (quarter & 3 != quarter >> 2) as u16 * 0x100 + quarter as u16 * 0x11;
             if fits && key < all[at] {
                 all[at] = key;
             }
@@ -41,31 +43,41 @@ const fn quarters(nodes: usize) -> [u32; 256] {
     all
 }
 
-/// The one-input nodes of a quarter: 01 is the inverted input, 10 the input.
-const fn nodes_below(quarter: usize) -> usize {
-    let (zero, one) = (quarter & 3, quarter >> 2);
-    (zero == 1 || one == 1) as usize | ((zero == 2 || one == 2) as usize) << 1
-}
-
-/// Where the quarter can be 0 and where 1, as the keys are listed.
+/// The masks of the four quarters side by side, a byte each.
 #[inline(always)]
-fn masks(zeros: u16, ones: u16, quarter: u32) -> usize {
-    let at = 4 * quarter;
-    usize::from(zeros >> at & 15) << 4 | usize::from(ones >> at & 15)
+fn pair(zeros: u16, ones: u16) -> u32 {
+    let spread = |x: u16| {
+        let x = (u32::from(x) | u32::from(x) << 8) & 0x00FF_00FF;
+        (x | x << 4) & 0x0F0F_0F0F
+    };
+    spread(zeros) << 4 | spread(ones)
 }
 
-/// The least function of a class, in the places of its quarters: one load.
+/// Masks under which no least quarter has the last input as a half: 0 where it
+/// is 0 asks for 0 where it is 1 too, and then constant 0 is the lesser half.
 #[inline(always)]
-fn class(nodes: usize, masks: usize, places: u32) -> u32 {
-    QUARTERS[nodes][masks & 255] & (0xFFFF_0000 | places)
+fn no_straight(pair: u32) -> u32 {
+    pair & (pair >> 1 | 0xAFAF_AFAF)
 }
 
-/// The least key over the fifteen ways, with these one-input nodes. A sum may
+#[inline(always)]
+fn no_inverted(pair: u32) -> u32 {
+    pair & (pair << 1 | 0x5F5F_5F5F)
+}
+
+/// The least function of a class, in the places of its quarters.
+#[inline(always)]
+fn class(masks: u32, places: u32) -> u32 {
+    let key = u32::from(QUARTERS[(masks & 255) as usize]);
+    (key << 8 | key & 255) & (0xFFFF_0000 | places)
+}
+
+/// The least key over the fifteen ways, between these masks. A sum may
 /// be met by a table whose quarters coincide in more ways than it counts with;
 /// then it is too high, and another sum has that table's cells.
 #[inline(always)]
-fn least_of_four(nodes: usize, [a, b, c, d]: [usize; 4]) -> u32 {
-    let class = |masks, places| class(nodes, masks, places);
+fn least_of_four(pair: u32) -> u32 {
+    let (a, b, c, d) = (pair, pair >> 8, pair >> 16, pair >> 24);
     let (qa, qb, qc, qd) = (class(a, 0x000F), class(b, 0x00F0), class(c, 0x0F00), class(d, 0xF000));
     let (ab, cd) = (class(a & b, 0x00FF), class(c & d, 0xFF00));
     let (ac, bd) = (class(a & c, 0x0F0F), class(b & d, 0xF0F0));
@@ -84,21 +96,33 @@ fn least_of_four(nodes: usize, [a, b, c, d]: [usize; 4]) -> u32 {
         .min(3 * CELL + ad.min(qa + qd) + bc.min(qb + qc))
 }
 
+/// The least key over the one-input nodes that may be there: both, neither,
+/// then one of them, unless what is found is no more than both with one node.
+#[inline(always)]
+fn least_choice(pair: u32, least: impl Fn(u32) -> u32) -> u32 {
+    let both = least(pair);
+    let straight = no_inverted(pair);
+    let neither = least(no_straight(straight));
+    if neither <= both + CELL {
+        return neither;
+    }
+    neither.min(CELL + least(no_straight(pair))).min(CELL + least(straight)).min(2 * CELL + both)
+}
+
 /// The key among four-input tables. Called, not put in place: the search is
 /// faster so.
 #[inline(never)]
 fn four(zeros: u16, ones: u16) -> u32 {
-    let quarters = [0, 1, 2, 3].map(|at| masks(zeros, ones, at));
-    let least = |nodes| least_of_four(nodes, quarters);
-    least(0).min(CELL + least(1)).min(CELL + least(2)).min(2 * CELL + least(3))
+    least_choice(pair(zeros, ones), least_of_four)
 }
 
 /// Three inputs: the table is two quarters, alike or not.
 #[inline(always)]
 fn three(zeros: u16, ones: u16) -> u32 {
-    let (a, b) = (masks(zeros, ones, 0), masks(zeros, ones, 1));
-    let least = |nodes| class(nodes, a & b, 0xFF).min(CELL + class(nodes, a, 0x0F) + class(nodes, b, 0xF0));
-    least(0).min(CELL + least(1)).min(CELL + least(2)).min(2 * CELL + least(3))
+    least_choice(pair(zeros, ones), |pair| {
+        let (a, b) = (pair, pair >> 8);
+        class(a & b, 0xFF).min(CELL + class(a, 0x0F) + class(b, 0xF0))
+    })
 }
 
 /// The key of the pick among N-input tables.

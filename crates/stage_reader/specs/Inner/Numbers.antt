@@ -8,13 +8,13 @@ use lib.ListN.{getD, drop}
 use Rattle.base.specs.Refusals.{refusalAt}
 use Rattle.table.specs.Drawing.{drawnTable}
 use Rattle.stage.specs.Steps.{Read, taken, fault}
-use Rattle.diagram.specs.Diagram.{Entry, entry, diagram, nextNumber, inputAt, mostEntries}
+use Rattle.diagram.specs.Diagram.{Entry, entry, diagram, firstNumber, nextNumber, inputAt, mostEntries}
 use Rattle.diagram.specs.Diagrams.{diagramDrawing}
 use Rattle.stage_reader.specs.Inner.Tables.{selectOf}
 
 -- the two constants and as many entries as a wire can have
 abbrev pub mostNumbers : ℕ
-mostNumbers = 2 + mostEntries
+mostNumbers = firstNumber + mostEntries
 
 -- The arrays tell every number so far. The code keeps them and not the entries, so contracts speak of any entries that they tell.
 abbrev pub InputsTell : (n : ℕ) → List Entry → (inputs : List ℕ) → Type 0

@@ -4,15 +4,12 @@ use mathlib.Core.Path.{_≡_}
 use mathlib.Core.List.{List, [], _∷_}
 use lib.ListN.{length, getD}
 use Rattle.sheet.specs.Limits.{maxPatterns}
+use Rattle.table.specs.Inner.Ranks.{tableSpace}
 use Rattle.nodes.specs.Nodes.{Node, node, listing}
 
 -- a table has fewer nodes than patterns
 abbrev pub mostNodes : ℕ
 mostNodes = maxPatterns - 1
-
--- tables are below this
-abbrev pub tableSpace : ℕ
-tableSpace = 65536
 
 -- the node of a key
 abbrev pub nodeOf : ℕ → Node

@@ -1,4 +1,4 @@
-use mathlib.Core.Path.{refl}
+-- `board_of` meets its contract: the number of each kind.
 use Rattle.parts.specs.Inner.Boards.{boardNumber}
 use borrow.Author.Needs.{needs}
 use Rattle.parts.proofs.boards.board_of.Statement.{statement}

@@ -1,3 +1,4 @@
+-- `inputs_of` meets its contract.
 use mathlib.Core.Path.{refl}
 use Rattle.parts.specs.Inner.Boards.{inputsIn}
 use Rattle.parts.proofs.boards.inputs_of.Statement.{statement}

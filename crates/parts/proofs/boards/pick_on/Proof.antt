@@ -1,8 +1,6 @@
 -- `pick_on` meets its contract: either side of the mark its own board's pick.
-use mathlib.Core.Path.{_≡_, ap₂, sym, _∙_}
+use mathlib.Core.Path.{ap₂, sym, _∙_}
 use native.Mathlib.Omega.{arith}
-use Rattle.parts.specs.Inner.Boards.{inputsIn, LentFor}
-use Rattle.parts.specs.Inner.Pairs.{Covers}
 use Rattle.parts.specs.Inner.Parts.{rankBetween}
 use Rattle.parts.proofs.BoardNumbers.{tree-kind, tree-inputs, sharing-kind, sharing-inputs, tree-asked, sharing-asked}
 use Rattle.parts.proofs.boards.pick_on.Statement.{statement}
