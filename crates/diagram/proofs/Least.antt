@@ -1,5 +1,5 @@
 -- No diagram of a table's function has fewer cells than the table has nodes.
-use Prim.Native.Nat.{ℕ, suc, _+_, _-_, _^_, _*_, _<_, _≤_}
+use Prim.Native.Nat.{ℕ, zero, suc, _+_, _-_, _^_, _*_, _<_, _≤_}
 use mathlib.Core.Path.{_≡_, sym, ap, subst, _∙_}
 use mathlib.Core.Logic.{⊎-elim}
 use mathlib.Core.List.{List, [], _∷_}
@@ -13,8 +13,9 @@ use Rattle.table.proofs.Bits.{ofBits-bit, sum-cong}
 use Rattle.table.proofs.Cells.{low-lt, high-lt}
 use Rattle.table.proofs.Trees.{Means, Past, Tests, halves}
 use Rattle.nodes.specs.Nodes.{Node, node, has, listing, price, weight, nodes}
-use Rattle.nodes.proofs.Lists.{has-none, has-head, has-later, has-cases, subset-weight}
-use Rattle.nodes.proofs.Listing.{visits, listing-once}
+use Rattle.nodes.proofs.Lists.{has-none, has-head, has-later, subset-weight}
+use Rattle.nodes.proofs.Listing.{listing-once}
+use Rattle.nodes.proofs.Held.{Holds, listing-within}
 use Rattle.diagram.specs.Diagram.{Entry, Diagram, nextNumber, followDiagram, WellFormed, entryPrice, entriesCells, diagramCells}
 use Rattle.diagram.proofs.Entries.{treeOf, follow-tree, diagram-ordered}
 
@@ -56,44 +57,25 @@ tree-held n (e ∷ es) x =
     let later : (z : ℕ) → Held n (k ∷ nodesOf n es) (treeOf es z) = λ z. held-later n k (nodesOf n es) (treeOf es z) (tree-held n es z) in
     cond-has (Held n (k ∷ nodesOf n es)) (eqb x (nextNumber es)) (λ _. (has-head k (nodesOf n es), later (e .onZero), later (e .onOne))) (λ _. later x)
 
--- a list that has what a tree's selectors stand for has all that a visit to the tree's table lists
-Covers : ℕ → List Node → ℕ → ℕ → List Node → List Node → Type 0
-Covers n ks r t s o = (k : ℕ) (x : Tree) → k + r ≡ n → Ordered n k x → t < 2 ^ (2 ^ r) → Means n r x t → Held n ks x
-    → ((j : Node) → T (has s j) → T (has ks j)) → (j : Node) → T (has o j) → T (has ks j)
-
+-- a list that has what a tree's selectors stand for holds the tree's table
 module _ (n : ℕ) (ks : List Node) where
-  covers-passed : (r t : ℕ) (s o : List Node) → Covers n ks r (low r t) s o → Covers n ks (suc r) t s o
-  unfolding Covers Held
-  covers-passed r t s o p k x at ord lt mx hx hs =
+  tree-holds : (r t k : ℕ) (x : Tree) → k + r ≡ n → Ordered n k x → t < 2 ^ (2 ^ r) → Means n r x t → Held n ks x → Holds ks r t
+  unfolding Held Holds
+  tree-holds zero t k x at ord lt mx hx = tt
+  tree-holds (suc r) t k x at ord lt mx hx =
       ⊎-elim
-      (λ (h : Past n k r t x). p (suc k) x (omega arith) (h .ordered) (low-lt r t) (h .means) hx hs)
-      (λ (h : Tests n k r t x).
-      let hy : Held n ks (sel (suc k) (h .z) (h .o)) = rw (h .is) at hx in
-      p (suc k) (h .z) (omega arith) (h .z-ordered) (low-lt r t) (h .z-means) (hy .1) hs)
-      (halves n k r at t lt x ord mx)
-
-  covers-new : (r t : ℕ) (s m o : List Node) → (low r t ≡ high r t → ⊥) → Covers n ks r (low r t) s m → Covers n ks r (high r t) m o
-      → Covers n ks (suc r) t s (node r t ∷ o)
-  unfolding Covers Held
-  covers-new r t s m o d p q k x at ord lt mx hx hs j hj =
-      ⊎-elim
-      (λ (h : Past n k r t x). absurd (d (h .same)))
+      (λ (h : Past n k r t x).
+      let b = tree-holds r (low r t) (suc k) x (omega arith) (h .ordered) (low-lt r t) (h .means) hx in
+      (λ d. absurd (d (h .same)), b, subst (Holds ks r) (h .same) b))
       (λ (h : Tests n k r t x).
       let y = sel (suc k) (h .z) (h .o) in
       let hy : Held n ks (sel (suc k) (h .z) (h .o)) = rw (h .is) at hx in
-      let hm = p (suc k) (h .z) (omega arith) (h .z-ordered) (low-lt r t) (h .z-means) (hy .1) hs in
-      let ho = q (suc k) (h .o) (omega arith) (h .o-ordered) (high-lt r t lt) (h .o-means) (hy .2) hm in
-      let my : Means n (suc r) (sel (suc k) (h .z) (h .o)) t = rw (h .is) at mx in
-      let e = node-means n k r y t at lt my in
-      ⊎-elim (λ (g : j ≡ node r t). subst (λ y. T (has ks y)) (e ∙ sym g) (hy .0)) (ho j) (has-cases (node r t) j o hj))
+      let my : Means n (suc r) (sel (suc k) (h .z) (h .o)) t = rw (h .is) at mx in (
+        λ _. subst (λ j. T (has ks j)) (node-means n k r y t at lt my) (hy .0),
+        tree-holds r (low r t) (suc k) (h .z) (omega arith) (h .z-ordered) (low-lt r t) (h .z-means) (hy .1),
+        tree-holds r (high r t) (suc k) (h .o) (omega arith) (h .o-ordered) (high-lt r t lt) (h .o-means) (hy .2),
+      ))
       (halves n k r at t lt x ord mx)
-
-  covers : (r t : ℕ) (s : List Node) → Covers n ks r t s (listing r t s)
-  unfolding Covers
-  covers =
-      visits (Covers n ks) (λ t s k x at ord lt mx hx hs. hs) (λ r t s o e p. covers-passed r t s o p)
-      (λ r t s d y k x at ord lt mx hx hs. hs)
-      (λ r t s m o d y p q. covers-new r t s m o d p q)
 
 -- what an entry stands for costs no more than the entry, and so for all of them
 price-most : (n : ℕ) (before : List Entry) (e : Entry) → price (standsFor n before e) ≤ entryPrice e
@@ -107,11 +89,11 @@ entries-weight n (e ∷ es) = omega (arith, price-most n es e, entries-weight n 
 
 pub least-diagram : (n : ℕ) (d : Diagram) → WellFormed n d → (t : ℕ) → t < 2 ^ (2 ^ n)
     → ((p : ℕ) → p < 2 ^ n → followDiagram n p d ≡ bit t p) → nodes n t ≤ diagramCells d
-unfolding nodes Covers
+unfolding nodes
 least-diagram n d w t lt m =
     let es = d .entries in
-    let all = covers n (nodesOf n es) n t [] 0 (treeOf es (d .top)) (omega arith) (diagram-ordered n d w) lt
+    let held = tree-holds n (nodesOf n es) n t 0 (treeOf es (d .top)) (omega arith) (diagram-ordered n d w) lt
     (λ p l. sym (follow-tree n p es (d .top)) ∙ m p l)
-    (tree-held n es (d .top))
-    (λ j h. absurd (has-none j h)) in
+    (tree-held n es (d .top)) in
+    let all = listing-within (nodesOf n es) n t [] held (λ j h. absurd (has-none j h)) in
     omega (arith, subset-weight price (listing n t []) (nodesOf n es) (listing-once n t) all, entries-weight n es)

@@ -18,7 +18,7 @@ use Rattle.table.proofs.Cells.{low-lt, high-lt}
 use Rattle.table.proofs.Trees.{reduced-ordered, reduced-follow}
 use Rattle.nodes.specs.Nodes.{Node, node, same, has, listing, price, weight, nodes}
 use Rattle.nodes.proofs.Lists.{same-eq, has-head}
-use Rattle.nodes.proofs.Listing.{visits, Grown, grown-same, grown-passed, grown-new}
+use Rattle.nodes.proofs.Listing.{visits, listing-grown}
 use Rattle.diagram.specs.Diagram.{inputAt, EntriesFit, followDiagram, WellFormed, entryPrice, entriesCells, diagramCells}
 use Rattle.diagram.specs.Written.{place, numberOf, entryOf, entriesOf, reducedDiagram}
 use Rattle.diagram.proofs.Entries.{treeOf, follow-tree, constant-tree, input-above}
@@ -28,7 +28,7 @@ unfoldable pub numbered : List Node → ℕ → ℕ → Bool
 numbered ks zero t = ltb t 2
 numbered ks (suc r) t = let passed = numbered ks r (low r t) in cond (eqb (low r t) (high r t)) passed (has ks (node r t))
 
-pub numbered-kept : (s o : List Node) → ((k : Node) → T (has s k) → T (has o k)) → (r t : ℕ) → T (numbered s r t) → T (numbered o r t)
+numbered-kept : (s o : List Node) → ((k : Node) → T (has s k) → T (has o k)) → (r t : ℕ) → T (numbered s r t) → T (numbered o r t)
 unfolding numbered
 numbered-kept s o h zero t = λ k. k
 numbered-kept s o h (suc r) t =
@@ -45,51 +45,43 @@ unfoldable pub Closed : ℕ → List Node → Type 0
 Closed n [] = Unit {0}
 Closed n (k ∷ ks) = Based n ks k × Closed n ks
 
--- a visit lists what it is asked for, after its halves
-pub record Visited (n r t : ℕ) (s o : List Node) : Type 0 where
-  pub grown : Grown r s o
-  pub asked : t < 2 ^ (2 ^ r) → T (numbered o r t)
-  pub closed : r ≤ n → t < 2 ^ (2 ^ r) → Closed n s → Closed n o
+-- a visit lists what it is asked for
+asked-has : (r t : ℕ) (o : List Node) → (low r t ≡ high r t → ⊥) → T (has o (node r t)) → T (numbered o (suc r) t)
+unfolding numbered
+asked-has r t o d h = rw (eqb-not (low r t) (high r t) (numbered o r (low r t)) (has o (node r t)) d) h
 
-module _ (n : ℕ) where
-  visited-passed : (r t : ℕ) (s o : List Node) → low r t ≡ high r t → Visited n r (low r t) s o → Visited n (suc r) t s o
-  unfolding numbered
-  visited-passed r t s o e p =
+asked : (r t : ℕ) (s : List Node) → t < 2 ^ (2 ^ r) → T (numbered (listing r t s) r t)
+unfolding numbered
+asked =
+    visits (λ r t s o. t < 2 ^ (2 ^ r) → T (numbered o r t)) (λ t s l. lt→ltb t 2 (omega arith))
+    (λ r t s o e p l. rw (eqb-yes (low r t) (high r t) (numbered o r (low r t)) (has o (node r t)) e) (p (low-lt r t)))
+    (λ r t s d y l. asked-has r t s d y)
+    (λ r t s m o d y p q l. asked-has r t (node r t ∷ o) d (has-head (node r t) o))
+
+-- and it lists a node after its halves
+visit-closed : (n r t : ℕ) (s : List Node) → r ≤ n → t < 2 ^ (2 ^ r) → Closed n s → Closed n (listing r t s)
+unfolding Closed listing
+visit-closed n zero t s i l c = c
+visit-closed n (suc r) t s i l c =
+    let m = listing r (low r t) s in
+    let o = listing r (high r t) m in
+    let lower = visit-closed n r (low r t) s (omega arith) (low-lt r t) c in
+    cond-has (Closed n) (eqb (low r t) (high r t)) (λ _. lower)
+    (λ _.
+    cond-has (Closed n) (has s (node r t)) (λ _. c)
+    (λ _. (
       record {
-        grown = grown-passed r s o (p .grown);
-        asked = λ l. rw (eqb-yes (low r t) (high r t) (numbered o r (low r t)) (has o (node r t)) e) (p .asked (low-lt r t));
-        closed = λ i l c. p .closed (omega arith) (low-lt r t) c;
-      }
+        inside = i;
+        bound = l;
+        zero-there = numbered-kept m o (listing-grown r (high r t) m .kept) r (low r t) (asked r (low r t) s (low-lt r t));
+        one-there = asked r (high r t) m (high-lt r t l);
+      },
+      visit-closed n r (high r t) m (omega arith) (high-lt r t l) lower,
+    )))
 
-  asked-has : (r t : ℕ) (o : List Node) → (low r t ≡ high r t → ⊥) → T (has o (node r t)) → T (numbered o (suc r) t)
-  unfolding numbered
-  asked-has r t o d h = rw (eqb-not (low r t) (high r t) (numbered o r (low r t)) (has o (node r t)) d) h
-
-  visited-new : (r t : ℕ) (s m o : List Node) → (low r t ≡ high r t → ⊥) → T (not (has s (node r t))) → Visited n r (low r t) s m
-      → Visited n r (high r t) m o → Visited n (suc r) t s (node r t ∷ o)
-  unfolding Closed
-  visited-new r t s m o d y p q =
-      record {
-        grown = grown-new r t s m o y (p .grown) (q .grown);
-        asked = λ l. asked-has r t (node r t ∷ o) d (has-head (node r t) o);
-        closed = λ i l c. (
-          record {
-            inside = i;
-            bound = l;
-            zero-there = numbered-kept m o (q .grown .kept) r (low r t) (p .asked (low-lt r t));
-            one-there = q .asked (high-lt r t l);
-          },
-          q .closed (omega arith) (high-lt r t l) (p .closed (omega arith) (low-lt r t) c),
-        );
-      }
-
-  pub visited : (r t : ℕ) (s : List Node) → Visited n r t s (listing r t s)
-  unfolding numbered
-  visited =
-      visits (Visited n) (λ t s. record { grown = grown-same zero s; asked = λ l. lt→ltb t 2 (omega arith); closed = λ i l c. c })
-      visited-passed
-      (λ r t s d h. record { grown = grown-same (suc r) s; asked = λ l. asked-has r t s d h; closed = λ i l c. c })
-      visited-new
+pub listing-closed : (n t : ℕ) → t < 2 ^ (2 ^ n) → Closed n (listing n t [])
+unfolding Closed
+listing-closed n t l = visit-closed n n t [] (omega arith) l tt
 
 -- numbers
 place-lt : (ks : List Node) (k : Node) → place ks k < length ks + 2
@@ -191,24 +183,22 @@ reduced-few n t s =
 
 module _ (n t : ℕ) (lt : t < 2 ^ (2 ^ n)) where
   pub reduced-formed : n ≤ maxInputs → WellFormed n (reducedDiagram n t)
-  unfolding reducedDiagram Closed
+  unfolding reducedDiagram
   reduced-formed s =
-      let v = visited n n t [] in
       let ks = listing n t [] in
       record {
         few = omega (arith, reduced-few n t s);
-        fit = entries-fit n ks (v .closed (omega arith) lt tt);
-        top-there = omega (arith, entries-length n ks, number-lt ks n t (v .asked lt));
+        fit = entries-fit n ks (listing-closed n t lt);
+        top-there = omega (arith, entries-length n ks, number-lt ks n t (asked n t [] lt));
       }
 
   -- it stands for the reduced tree
   pub reduced-tree : treeOf (reducedDiagram n t .entries) (reducedDiagram n t .top) ≡ reduced n 0 t
-  unfolding reducedDiagram Closed
+  unfolding reducedDiagram
   reduced-tree =
-      let v = visited n n t [] in
       let ks = listing n t [] in
       let z : n - n ≡ 0 = omega arith in
-      number-tree n ks (placed n ks (v .closed (omega arith) lt tt)) n t (omega arith) (v .asked lt) ∙ ap (λ y. reduced n y t) z
+      number-tree n ks (placed n ks (listing-closed n t lt)) n t (omega arith) (asked n t [] lt) ∙ ap (λ y. reduced n y t) z
 
   pub reduced-means : (p : ℕ) → p < 2 ^ n → followDiagram n p (reducedDiagram n t) ≡ bit t p
   reduced-means p l =

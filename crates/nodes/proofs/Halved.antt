@@ -6,7 +6,7 @@ use native.Mathlib.Omega.{arith}
 use native.Mathlib.Nat.{le-refl, zero-mod, zero-div}
 use Rattle.base.proofs.Tests.{eqb-yes, eqb-not}
 use Rattle.table.specs.Cells.{low, high}
-use Rattle.table.proofs.Halving.{join, join-low, join-high}
+use Rattle.table.proofs.Cells.{ByHalves}
 use Rattle.nodes.specs.Nodes.{Node, node, has, listing, price, weight, nodes}
 use Rattle.nodes.proofs.Listing.{visits}
 
@@ -18,11 +18,11 @@ listing-more =
     (λ r t s m o d y p q. omega arith)
 
 -- the nodes of a table, by its lower half
-pub nodes-same : (r t : ℕ) → low r t ≡ high r t → nodes (suc r) t ≡ nodes r (low r t)
+nodes-same : (r t : ℕ) → low r t ≡ high r t → nodes (suc r) t ≡ nodes r (low r t)
 unfolding nodes listing has
 nodes-same r t e = ap (weight price) (eqb-yes (low r t) (high r t) (listing r (low r t) []) _ e)
 
-pub nodes-differ : (r t : ℕ) → (low r t ≡ high r t → ⊥) → nodes r (low r t) < nodes (suc r) t
+nodes-differ : (r t : ℕ) → (low r t ≡ high r t → ⊥) → nodes r (low r t) < nodes (suc r) t
 unfolding nodes listing has weight price
 nodes-differ r t d =
     let s = listing r (low r t) [] in
@@ -30,10 +30,8 @@ nodes-differ r t d =
     ap (weight price) (eqb-not (low r t) (high r t) s (node r t ∷ listing r (high r t) s) d) in
     omega (arith, e, listing-more r (high r t) s)
 
-pub nodes-twice : (r t : ℕ) → t < 2 ^ (2 ^ r) → nodes (suc r) (join r t t) ≡ nodes r t
-nodes-twice r t l =
-    let e = join-low r t t l l in
-    nodes-same r (join r t t) (e ∙ sym (join-high r t t l l)) ∙ ap (nodes r) e
+pub nodes-halves : ByHalves nodes
+nodes-halves = record { alike = nodes-same; apart = nodes-differ }
 
 -- a table of zeros has none
 pub nodes-zero : (n : ℕ) → nodes n 0 ≡ 0

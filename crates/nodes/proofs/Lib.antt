@@ -17,5 +17,4 @@ pub mod Restricted
 pub mod Linked
 pub mod HalvesAlike
 pub mod FourInputs
-pub mod Repeated
 pub mod Narrow

@@ -17,6 +17,7 @@ use Rattle.table.specs.Inner.Blocks.{entries, threeSpace}
 use Rattle.table.proofs.Below.{all-at, all-intro, all-cong}
 use Rattle.table.proofs.Bits.{bit-mod, bit-div, test-and}
 use Rattle.table.proofs.Least.{Least, least-is}
+use Rattle.table.proofs.Masks.{mask-cong}
 use Rattle.table.proofs.Pairs.{Place, fromBlock, byte-place, first-place}
 use Rattle.table.proofs.Halving.{upper}
 use Rattle.nodes.specs.Nodes.{price}
@@ -31,14 +32,6 @@ use Rattle.nodes.proofs.Restricted.{inFour, together-cut, plain-beside,
 -- what may stand in a quarter whose masks are a byte
 fitAt : ℕ → ℕ → Bool
 fitAt at x = suits 2 (masked (at / blockSpace) (at % blockSpace)) x
-
-pub mask-cong : (z o y n p q v : ℕ) → bit z p ≡ bit y q → bit o p ≡ bit n q → masked z o p v ≡ masked y n q v
-unfolding masked
-mask-cong z o y n p q v e d = go (eqb v 0)
-  where
-    go : (c : Bool) → eqb (bit (cond c z o) p) 1 ≡ eqb (bit (cond c y n) q) 1
-    go true = ap (λ x. eqb x 1) e
-    go false = ap (λ x. eqb x 1) d
 
 -- two bytes together tell what may stand in both
 masked-and : (a b p v : ℕ)

@@ -1,22 +1,20 @@
 -- The pick among tables of fewer than four inputs: a pair repeated up to four inputs has the pick repeated.
-use Prim.Native.Nat.{ℕ, suc, _+_, _*_, _^_, _/_, _%_, _<_, _≤_}
+use Prim.Native.Nat.{ℕ, suc, _+_, _*_, _^_, _/_, _%_, _<_}
 use mathlib.Core.Path.{_≡_, refl, sym, ap, ap₂, subst, _∙_}
-use mathlib.Core.List.{List}
 use native.Mathlib.Omega.{arith}
 use native.Mathlib.Nat.{mod-eq-of-lt, mul-assoc, mul-add}
 use lib.Arith.{digits-div, digits-mod}
 use lib.Pow.{shr-shr, split}
-use Rattle.sheet.specs.Limits.{maxInputs}
 use Rattle.table.specs.Inner.Blocks.{entries, Covered}
 use Rattle.table.specs.Inner.Pairs.{blockSpace, pairBits, zerosIn, onesIn}
 use Rattle.table.specs.Inner.Ranks.{pickOf, rank, tableSpace}
-use Rattle.table.proofs.Halving.{join, join-lt}
+use Rattle.table.proofs.Halving.{join, join-lt, counted-twice}
 use Rattle.table.proofs.Pairs.{byte-place, first-place, zeros-lt, ones-lt, one-byte, two-bytes}
+use Rattle.table.proofs.Repeated.{covered-twice, pick-twice}
+use Rattle.table.proofs.Widths.{WidthFits}
 use Rattle.nodes.specs.Nodes.{nodes}
-use Rattle.nodes.specs.Inner.Tops.{Tops}
 use Rattle.nodes.proofs.FourInputs.{pick-least}
-use Rattle.nodes.proofs.Halved.{nodes-twice}
-use Rattle.nodes.proofs.Repeated.{covered-twice, pick-twice}
+use Rattle.nodes.proofs.Halved.{nodes-halves}
 
 -- a mask by its blocks
 blocks : (z a b c d : ℕ) → z < tableSpace → z % 16 ≡ a → z / 16 % 16 ≡ b → z / 256 % 16 ≡ c → z / 4096 % 16 ≡ d
@@ -77,31 +75,20 @@ one-twice w l h =
     let n = bytes (w * 5) 0 0 0 (w * 5) (omega arith) (omega arith) (omega arith) (omega arith) (omega arith) in
     (omega (arith, m .0, n .0), omega (arith, m .1, n .1))
 
--- the pick of a pair, and what is known of a pair of r inputs
+-- the pick of a pair
 abbrev pub pick : (r w : ℕ) → ℕ
 pick r w = pickOf (nodes r) r (zerosIn w) (onesIn w)
 
-abbrev pub Fit : (r w : ℕ) → Type 0
-Fit r w = (zerosIn w < 2 ^ (2 ^ r)) × (onesIn w < 2 ^ (2 ^ r)) × Covered r (zerosIn w) (onesIn w)
-
--- what `pick_shared` asks of its table and of a pair, at n inputs, and the same at k, where n is k
-abbrev pub Asked : (e : List ℕ) (n w : ℕ) → Type 0
-Asked e n w =
-    Tops e × (1 ≤ n) × (n ≤ maxInputs) × (zerosIn w < 2 ^ (2 ^ n)) × (onesIn w < 2 ^ (2 ^ n)) × Covered n (zerosIn w) (onesIn w)
-
-pub fit-at : {e : List ℕ} {n k : ℕ} (w : ℕ) → n ≡ k → Asked e n w → Fit k w
-fit-at w e h = subst (λ m. Fit m w) e (h .3, h .4, h .5)
-
-pick-lt : (r w : ℕ) → Fit r w → pick r w < 2 ^ (2 ^ r)
+pick-lt : (r w : ℕ) → WidthFits r w → pick r w < 2 ^ (2 ^ r)
 pick-lt r w f = pick-least r (zerosIn w) (onesIn w) (f .2) .0
 
 -- v has the pick of w times k, with as many nodes
 record Repeats (r v s w k : ℕ) : Type 0 where
-  fit : Fit r v
+  fit : WidthFits r v
   picks : pick r v ≡ pick s w * k
   counts : nodes r (pick r v) ≡ nodes s (pick s w)
 
-once : (r w : ℕ) → Fit r w → Repeats r w r w 1
+once : (r w : ℕ) → WidthFits r w → Repeats r w r w 1
 once r w f = record { fit = f; picks = omega arith; counts = refl }
 
 product : (t k m x : ℕ) → x ≡ t * k → x * m + x ≡ t * (k * (m + 1))
@@ -115,11 +102,12 @@ again r v u s w k e h =
     let o = onesIn u in
     let f = h .fit in
     let x = pick r u in
-    let j : pick (suc r) v ≡ join r x x = ap₂ (λ z o. pickOf (nodes (suc r)) (suc r) z o) (e .0) (e .1) ∙ pick-twice r z o (f .0) (f .1) (f .2) in
+    let j : pick (suc r) v ≡ join r x x =
+    ap₂ (λ z o. pickOf (nodes (suc r)) (suc r) z o) (e .0) (e .1) ∙ pick-twice r z o (f .0) (f .1) nodes nodes-halves (f .2) in
     record {
       fit = (rw (e .0) (join-lt r z z (f .0) (f .0)), rw (e .1) (join-lt r o o (f .1) (f .1)), rw (e .0, e .1) (covered-twice r z o (f .0) (f .1) (f .2)));
       picks = j ∙ product (pick s w) k (2 ^ (2 ^ r)) x (h .picks);
-      counts = ap (nodes (suc r)) j ∙ nodes-twice r x (pick-lt r u f) ∙ h .counts;
+      counts = ap (nodes (suc r)) j ∙ counted-twice nodes nodes-halves r x (pick-lt r u f) ∙ h .counts;
     }
 
 -- a pair of three or of two inputs as one of four
@@ -153,19 +141,19 @@ widened s w v k m z r l b y d =
     }
 
 module _ (w : ℕ) (l : w < 2 ^ pairBits) where
-  pub from-three : Fit 3 w → Widened 3 w (w * 65537) 256
+  pub from-three : WidthFits 3 w → Widened 3 w (w * 65537) 256
   from-three f =
       let y = two-bytes w l (f .0) (f .1) in
       let b : pick 3 w < 256 = pick-lt 3 w f in
       widened 3 w (w * 65537) 257 256 (λ c t. c * 256 + t) (three-four w 3 w 1 y (once 3 w f)) (omega arith) b (omega arith) (λ c t. omega arith)
 
-  pub from-two : Fit 2 w → Widened 2 w (w * 16843009) 16
+  pub from-two : WidthFits 2 w → Widened 2 w (w * 16843009) 16
   from-two f =
       let y : w < entries = omega (arith, one-byte w l (f .0) (f .1), f .0, f .1) in
       let b : pick 2 w < 16 = pick-lt 2 w f in
       widened 2 w (w * 16843009) 4369 16 (λ c t. c * 4096 + t * 273) (two-four w 2 w 1 y (once 2 w f)) (omega arith) b (omega arith) (λ c t. omega arith)
 
-  pub from-one : Fit 1 w → Widened 1 w (w * 84215045) 4
+  pub from-one : WidthFits 1 w → Widened 1 w (w * 84215045) 4
   from-one f =
       let h = one-byte w l (omega (arith, f .0)) (omega (arith, f .1)) in
       let z : w / blockSpace < 4 = omega (arith, h, f .0, f .1) in

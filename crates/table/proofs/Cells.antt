@@ -2,7 +2,7 @@
 use Prim.Native.Nat.{ℕ, zero, suc, _+_, _*_, _^_, _-_, _<_, _≤_}
 use mathlib.Core.Path.{_≡_, refl, sym, ap, _∙_}
 use mathlib.Core.Logic.{_⊎_, inl, inr, ⊎-elim}
-use mathlib.Core.Bool.{Bool, cond, _||_}
+use mathlib.Core.Bool.{_||_}
 use native.Mathlib.Omega.{arith}
 use native.Mathlib.Nat.{mod-lt, two-pow-succ, zero-mod, zero-div}
 use lib.Arith.{digits-div, digits-mod}
@@ -43,6 +43,14 @@ cells-differ r t e = eqb-not (low r t) (high r t) (cells r (low r t)) (suc (cell
 pub cells-most : (r t : ℕ) → cells (suc r) t ≤ suc (cells r (low r t) + cells r (high r t))
 unfolding cells
 cells-most r t = cond-has (λ x. x ≤ suc (cells r (low r t) + cells r (high r t))) (eqb (low r t) (high r t)) (λ _. omega arith) (λ _. omega arith)
+
+-- a count of tables over the width that goes by halves: a table of equal halves counts as one of them, another for more than its lower half
+pub record ByHalves (count : ℕ → ℕ → ℕ) : Type 0 where
+  pub alike : (r t : ℕ) → low r t ≡ high r t → count (suc r) t ≡ count r (low r t)
+  pub apart : (r t : ℕ) → (low r t ≡ high r t → ⊥) → count r (low r t) < count (suc r) t
+
+pub cells-halves : ByHalves cells
+cells-halves = record { alike = cells-same; apart = λ r t d. omega (arith, cells-differ r t d) }
 
 -- a table of n inputs has fewer than 2 ^ n cells
 pub cells-lt : (n t : ℕ) → cells n t < 2 ^ n

@@ -1,20 +1,18 @@
 -- What `count` returns at each number of inputs, from the entries of the table of three-input functions.
-use mathlib.Core.Path.{_≡_, refl, _∙_, ap, sym}
+use mathlib.Core.Path.{_≡_, _∙_, ap, sym}
 use Prim.Native.Nat.{ℕ, suc, _+_, _*_, _^_, _/_, _%_, _<_}
 use native.Mathlib.Nat.{mod-eq-of-lt}
 use native.Mathlib.Omega.{arith}
-use lib.Arith.{digits-div, digits-mod}
-use borrow.Author.Tests.{eq-eqb}
 use Rattle.table.specs.Cells.{cells, low, high}
 use Rattle.table.specs.Inner.Blocks.{oneSpace, threeSpace}
 use Rattle.table.specs.Inner.Pairs.{blockSpace}
-use Rattle.table.proofs.Cells.{cells-lt, cells-same, cells-differ}
+use Rattle.table.proofs.Cells.{cells-lt, cells-same, cells-differ, cells-halves}
+use Rattle.table.proofs.Halving.{join, counted-twice}
 
 -- a table repeated has no more cells
 pub repeated : (n t : ℕ) → t < 2 ^ (2 ^ n) → cells (suc n) (t * 2 ^ (2 ^ n) + t) ≡ cells n t
-unfolding cells low high
-repeated n t h =
-    rw (digits-div t h, digits-mod t h, eq-eqb t t refl)
+unfolding join
+repeated = counted-twice cells cells-halves
 
 -- a table of n inputs fits the bits of a table of k inputs, where n is k
 pub fits-at : {n k : ℕ} (t : ℕ) → n ≡ k → t < 2 ^ (2 ^ n) → t < 2 ^ (2 ^ k)

@@ -15,7 +15,7 @@ use Rattle.table.specs.Cells.{low, high, cells}
 use Rattle.table.specs.Pick.{Proj, suits, least, leastOf}
 use Rattle.table.proofs.Below.{all-at, all-intro}
 use Rattle.table.proofs.Bits.{bit-zero}
-use Rattle.table.proofs.Cells.{low-lt, high-lt, low-bit, high-bit, cells-same, cells-differ, cells-most}
+use Rattle.table.proofs.Cells.{ByHalves, low-lt, high-lt, low-bit, high-bit, cells-same, cells-differ, cells-most, cells-halves}
 use Rattle.table.proofs.Closer.{closer, closest, Lex, lex-trans, closer-left, closer-right, closer-one}
 use Rattle.table.proofs.Least.{Least, least-is}
 
@@ -66,6 +66,17 @@ join-halves r t = sym (mod-add-div' t (2 ^ (2 ^ r))) ∙ add-comm (t % 2 ^ (2 ^ 
 pub join-le : (r h l h′ l′ : ℕ) → h ≤ h′ → l ≤ l′ → join r h l ≤ join r h′ l′
 unfolding join
 join-le r h l h′ l′ a b = omega (arith, mul-le-mul-right (2 ^ (2 ^ r)) a)
+
+-- the halves of a table are the same, or they are not
+pub same-halves : (r x : ℕ) → (low r x ≡ high r x) ⊎ (low r x ≡ high r x → ⊥)
+same-halves r x =
+    ⊎-elim (λ y. inl (eqb→eq (low r x) (high r x) y)) (λ n. inr (λ e. T-not (eqb (low r x) (high r x)) n (eq-test e))) (decide (eqb (low r x) (high r x)))
+
+-- a half twice counts as the half
+pub counted-twice : (count : ℕ → ℕ → ℕ) → ByHalves count → (r t : ℕ) → t < 2 ^ (2 ^ r) → count (suc r) (join r t t) ≡ count r t
+counted-twice count by r t l =
+    let e = join-low r t t l l in
+    by .alike r (join r t t) (e ∙ sym (join-high r t t l l)) ∙ ap (count r) e
 
 -- a table suits where its halves do
 module _ (r : ℕ) (P : Proj) (t : ℕ) where
@@ -119,8 +130,7 @@ module _ (r : ℕ) (P : Proj) where
   same-first c b s ls ss e =
       let lc = b .inside in
       let d = b .first (low r s) (low-lt r s) (suits-common r P (low r s) (suits-low r P s ss) (rw e (suits-high r P s ss))) in
-      let j : cells (suc r) (join r c c) ≡ cells r c =
-      cells-same r (join r c c) (join-low r c c lc lc ∙ sym (join-high r c c lc lc)) ∙ ap (cells r) (join-low r c c lc lc) in
+      let j = counted-twice cells cells-halves r c lc in
       let k = cells-same r s e in
       record {
         fewer = omega (arith, d .fewer);
@@ -157,10 +167,9 @@ module _ (r : ℕ) (P : Proj) where
         suited = ⊎-elim (λ e. rw e (join-suits c c (bc .inside) (bc .inside) (sc .1) (sc .0)))
             (λ e. rw e (join-suits h l (bh .inside) (bl .inside) (bh .suited) (bl .suited))) (closer-one key a b);
         first = λ s ls ss.
-            ⊎-elim (λ e. lex-trans key (closer key a b) a s (closer-left key a b) (same-first c bc s ls ss (eqb→eq (low r s) (high r s) e)))
+            ⊎-elim (λ e. lex-trans key (closer key a b) a s (closer-left key a b) (same-first c bc s ls ss e))
             (λ e. lex-trans key (closer key a b) b s (closer-right key a b)
-            (apart-first h l bh bl s ls ss (λ d. T-not (eqb (low r s) (high r s)) e (eq-test d))))
-            (decide (eqb (low r s) (high r s)));
+            (apart-first h l bh bl s ls ss e)) (same-halves r s);
       }
 
   pub step : (c h l : Option ℕ) → BestTable r (common r P) c → BestTable r (upper r P) h → BestTable r P l

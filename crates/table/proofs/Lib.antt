@@ -9,6 +9,7 @@ pub mod Halving
 pub mod Count
 pub mod Ranks
 pub mod Masks
+pub mod Repeated
 pub mod Entries
 pub mod Pairs
 pub mod Places

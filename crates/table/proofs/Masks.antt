@@ -1,11 +1,11 @@
 -- The projection that two masks tell, by its halves.
-use Prim.Native.Nat.{ℕ, suc, _+_, _*_, _^_, _<_, _≤_}
-use mathlib.Core.Path.{_≡_, refl, sym, ap, ap₂, subst, _∙_, fun-ext}
+use Prim.Native.Nat.{ℕ, _+_, _*_, _^_, _<_, _≤_}
+use mathlib.Core.Path.{_≡_, refl, ap, ap₂, subst, _∙_, fun-ext}
 use mathlib.Core.Logic.{_⊎_, inl, inr, ⊎-elim}
 use mathlib.Core.Bool.{Bool, true, false, cond, _&&_}
 use mathlib.Core.Option.{Option, none, some}
 use native.Mathlib.Omega.{arith}
-use lib.Bits.{bitAnd, and-self}
+use lib.Bits.{bitAnd}
 use lib.Dec.{T, T-not, eqb}
 use Rattle.base.proofs.Tests.{cond-has, eq-test}
 use Rattle.table.specs.Bits.{bit, ofBits}
@@ -17,8 +17,7 @@ use Rattle.table.proofs.Below.{all-cong, all-intro, all-at}
 use Rattle.table.proofs.Bits.{ofBits-lt, bit-ofBits, bit-lt, bit-cases, test-and}
 use Rattle.table.proofs.Cells.{low-bit, high-bit}
 use Rattle.table.proofs.Least.{Least, least-is, least-eq}
-use Rattle.table.proofs.Halving.{upper, common, join, joins, least-halves, join-low, join-high}
-use Rattle.table.proofs.Closer.{closest, closer-self}
+use Rattle.table.proofs.Halving.{upper, common}
 
 -- only the patterns and bits there are count
 pub least-cong : (key : ℕ → ℕ) (n : ℕ) (P Q : Proj) → ((p b : ℕ) → p < 2 ^ n → b < 2 → P p b ≡ Q p b) → leastOf key n P ≡ leastOf key n Q
@@ -75,22 +74,23 @@ pub pick-some : (key : ℕ → ℕ) (n zeros ones : ℕ) → Covered n zeros one
 unfolding pickOf
 pick-some key n zeros ones h = least-some key n (masked zeros ones) (λ p l. masked-has zeros ones p (h p l))
 
+-- the projection tells the same where the masks have the same bits
+pub mask-cong : (z o y n p q v : ℕ) → bit z p ≡ bit y q → bit o p ≡ bit n q → masked z o p v ≡ masked y n q v
+unfolding masked
+mask-cong z o y n p q v e d = go (eqb v 0)
+  where
+    go : (c : Bool) → eqb (bit (cond c z o) p) 1 ≡ eqb (bit (cond c y n) q) 1
+    go true = ap (λ x. eqb x 1) e
+    go false = ap (λ x. eqb x 1) d
+
 -- the halves of the projection are told by the halves of the masks
 module _ (r zeros ones : ℕ) where
-  side : (f : ℕ → ℕ) (p q b : ℕ) → bit (f zeros) p ≡ bit zeros q → bit (f ones) p ≡ bit ones q → masked (f zeros) (f ones) p b ≡ masked zeros ones q b
-  unfolding masked
-  side f p q b z o = go (eqb b 0)
-    where
-      go : (c : Bool) → eqb (bit (cond c (f zeros) (f ones)) p) 1 ≡ eqb (bit (cond c zeros ones) q) 1
-      go true = ap (λ x. eqb x 1) z
-      go false = ap (λ x. eqb x 1) o
-
   masked-low : (p b : ℕ) → p < 2 ^ r → masked (low r zeros) (low r ones) p b ≡ masked zeros ones p b
-  masked-low p b l = side (low r) p p b (low-bit r zeros p l) (low-bit r ones p l)
+  masked-low p b l = mask-cong (low r zeros) (low r ones) zeros ones p p b (low-bit r zeros p l) (low-bit r ones p l)
 
   masked-high : (p b : ℕ) → masked (high r zeros) (high r ones) p b ≡ upper r (masked zeros ones) p b
   unfolding upper
-  masked-high p b = side (high r) p (p + 1 * 2 ^ r) b (high-bit r zeros p) (high-bit r ones p)
+  masked-high p b = mask-cong (high r zeros) (high r ones) zeros ones p (p + 1 * 2 ^ r) b (high-bit r zeros p) (high-bit r ones p)
 
   masked-common : (p b : ℕ) → p < 2 ^ r
       → masked (bitAnd (low r zeros) (high r zeros)) (bitAnd (low r ones) (high r ones)) p b ≡ common r (masked zeros ones) p b
@@ -117,21 +117,3 @@ module _ (r zeros ones : ℕ) where
   least-common =
       least-cong (cells r) r (masked (bitAnd (low r zeros) (high r zeros)) (bitAnd (low r ones) (high r ones))) (common r (masked zeros ones))
       (λ p b l _. masked-common p b l)
-
--- masks repeated over one input more have the pick repeated
-pub least-repeated : (r zeros ones t : ℕ) → zeros < 2 ^ (2 ^ r) → ones < 2 ^ (2 ^ r) → leastOf (cells r) r (masked zeros ones) ≡ some t
-    → leastOf (cells (suc r)) (suc r) (masked (join r zeros zeros) (join r ones ones)) ≡ some (join r t t)
-unfolding joins closest
-least-repeated r zeros ones t lz lo e =
-    let Z = join r zeros zeros in
-    let O = join r ones ones in
-    let lowz = join-low r zeros zeros lz lz in
-    let lowo = join-low r ones ones lo lo in
-    let highz = join-high r zeros zeros lz lz in
-    let higho = join-high r ones ones lo lo in
-    let best : ℕ → ℕ → Option ℕ = λ a b. leastOf (cells r) r (masked a b) in
-    let l : leastOf (cells r) r (masked Z O) ≡ some t = sym (least-low r Z O) ∙ ap₂ best lowz lowo ∙ e in
-    let h : leastOf (cells r) r (upper r (masked Z O)) ≡ some t = sym (least-high r Z O) ∙ ap₂ best highz higho ∙ e in
-    let c : leastOf (cells r) r (common r (masked Z O)) ≡ some t =
-    sym (least-common r Z O) ∙ ap₂ best (ap₂ bitAnd lowz highz ∙ and-self zeros) (ap₂ bitAnd lowo higho ∙ and-self ones) ∙ e in
-    least-halves r (masked Z O) ∙ rw (c, h, l) (ap {B = Option ℕ} some (closer-self (cells (suc r)) (join r t t)))

@@ -1,7 +1,6 @@
 -- What `pick` returns at each number of inputs up to four, from the table of blocks: where the pair's blocks stand, and the rank.
 use Prim.Native.Nat.{ℕ, _+_, _*_, _^_, _/_, _%_, _<_, _≤_}
 use mathlib.Core.Path.{_≡_, ap, ap₂, subst, _∙_}
-use mathlib.Core.List.{List}
 use native.Mathlib.Omega.{arith}
 use lib.Arith.{digits-mod}
 use Rattle.sheet.specs.Limits.{maxInputs}
@@ -9,24 +8,27 @@ use Rattle.table.specs.Cells.{cells}
 use Rattle.table.specs.Pick.{leastOf}
 use Rattle.table.specs.Inner.Ranks.{masked, pickOf, rank, tableSpace}
 use Rattle.table.specs.Inner.Pairs.{blockSpace, pairBits, zerosIn, onesIn}
-use Rattle.table.specs.Inner.Blocks.{oneSpace, threeSpace, entries, entryOf, blockOf, blockAt, zerosAt, onesAt, Blocks, Shown, PickShown, Covered}
+use Rattle.table.specs.Inner.Blocks.{oneSpace, threeSpace, entries, entryOf, blockOf, blockAt, zerosAt, onesAt, Shown, PickShown, Covered}
+use Rattle.table.proofs.Cells.{cells-halves}
 use Rattle.table.proofs.Count.{repeated}
 use Rattle.table.proofs.Halving.{join, BestTable, least-best}
-use Rattle.table.proofs.Masks.{least-repeated, pick-some}
+use Rattle.table.proofs.Masks.{pick-some}
+use Rattle.table.proofs.Repeated.{least-repeated}
 use Rattle.table.proofs.Entries.{digits}
 use Rattle.table.proofs.Pairs.{one-byte, two-bytes}
 use Rattle.table.proofs.Places.{pair-told}
 
--- what `pick` asks of its table and of a pair, at n inputs
-abbrev pub Asked : (e : List ℕ) (n w : ℕ) → Type 0
-Asked e n w =
-    Blocks e × (1 ≤ n) × (n ≤ maxInputs) × (zerosIn w < 2 ^ (2 ^ n)) × (onesIn w < 2 ^ (2 ^ n)) × Covered n (zerosIn w) (onesIn w)
+-- what a pick asks of the table lent to it and of a pair, at n inputs
+abbrev pub Asked : (Lent : Type 0) (n w : ℕ) → Type 0
+Asked Lent n w =
+    Lent × (1 ≤ n) × (n ≤ maxInputs) × (zerosIn w < 2 ^ (2 ^ n)) × (onesIn w < 2 ^ (2 ^ n)) × Covered n (zerosIn w) (onesIn w)
 
 -- the pair's masks are of k inputs and cover every pattern
-abbrev WidthFits : (k w : ℕ) → Type 0
+abbrev pub WidthFits : (k w : ℕ) → Type 0
 WidthFits k w = (zerosIn w < 2 ^ (2 ^ k)) × (onesIn w < 2 ^ (2 ^ k)) × Covered k (zerosIn w) (onesIn w)
 
-pub fit : {t : List ℕ} {n k : ℕ} (w : ℕ) → n ≡ k → Asked t n w → WidthFits k w
+-- what is asked at n inputs says so at k, where n is k
+pub fit : {Lent : Type 0} {n k : ℕ} (w : ℕ) → n ≡ k → Asked Lent n w → WidthFits k w
 fit w e h = subst (λ m. WidthFits m w) e (h .3, h .4, h .5)
 
 -- the rank of the pick between the pair's masks
@@ -34,7 +36,7 @@ abbrev rankIn : (n w : ℕ) → ℕ
 rankIn n w = rank (cells n) (pickOf (cells n) n (zerosIn w) (onesIn w))
 
 -- the rank at n inputs is that at k, where n is k
-pub rank-at : {t : List ℕ} {n k x : ℕ} (w : ℕ) → n ≡ k → Asked t n w → (WidthFits k w → x ≡ rankIn k w) → x ≡ rankIn n w
+pub rank-at : {Lent : Type 0} {n k x : ℕ} (w : ℕ) → n ≡ k → Asked Lent n w → (WidthFits k w → x ≡ rankIn k w) → x ≡ rankIn n w
 rank-at w e h f = rw e (f (fit w e h))
 
 inside : (n zeros ones : ℕ) → Covered n zeros ones → pickOf (cells n) n zeros ones < 2 ^ (2 ^ n)
@@ -54,7 +56,8 @@ rank-one zeros ones x lz lo h e =
     let ez : zeros * (oneSpace + 1) ≡ zeros * oneSpace + zeros = omega arith in
     let eo : ones * (oneSpace + 1) ≡ ones * oneSpace + ones = omega arith in
     let k : x ≡ cells 2 u * threeSpace + u * (blockSpace + 1) =
-    e ∙ ap₂ (λ a b. entryOf (leastOf (cells 2) 2 (masked a b))) ez eo ∙ ap entryOf (least-repeated 1 zeros ones t lz lo (pick-some (cells 1) 1 zeros ones h)) in
+    e ∙ ap₂ (λ a b. entryOf (leastOf (cells 2) 2 (masked a b))) ez eo
+    ∙ ap entryOf (least-repeated 1 zeros ones lz lo cells cells-halves t (pick-some (cells 1) 1 zeros ones h)) in
     let m : x ≡ cells 1 t * threeSpace + u * (blockSpace + 1) = k ∙ ap (λ y. y * threeSpace + u * (blockSpace + 1)) (repeated 1 t lt) in
     let d = digits (cells 1 t) u x (omega arith) m in
     let f : x ≡ (cells 1 t * 64 + t * 21) * oneSpace + t = omega arith in
