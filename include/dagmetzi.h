@@ -90,7 +90,7 @@ uint32_t dagmetzi_audit(const uint8_t *sheet, size_t sheet_length, const uint8_t
 uint32_t dagmetzi_search(uint8_t n, uint8_t m, const uint16_t sets[DAGMETZI_PATTERNS], uint32_t budget,
                          uint16_t tables[DAGMETZI_WIRES], uint64_t reply[DAGMETZI_NUMBERS]);
 
-/* The same three for the board on which a selector's result may feed several selectors of its own wire: a wire is a list
+/* The same three for the board where what one selector yields can drive more than one other of its wire: a wire is a list
  * of entries, a decision diagram, and each entry is a cell. The stage sheets are this board's own (docs/FORMATS.md), and
  * the audit counts every entry, also one that repeats another or is never reached. Sizes, refusals and replies are as
  * above. */
