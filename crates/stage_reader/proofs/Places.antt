@@ -1,6 +1,6 @@
 -- Laws of reading at a place of a slice: what stands there, in the meanings' terms of the bytes that are left; and the head of a sheet.
 use Prim.Native.Nat.{ℕ, _+_, _<_, _≤_}
-use mathlib.Core.Path.{_≡_, refl, sym, ap, _∙_}
+use mathlib.Core.Path.{_≡_, sym, ap, _∙_}
 use mathlib.Core.Logic.{⊎-elim}
 use mathlib.Core.Bool.{Bool, true, false, cond}
 use mathlib.Core.List.{List, [], _∷_}
@@ -58,6 +58,24 @@ module _ {A : Type 0} (stop : Refusal → A) (at : ℕ) (next : ℕ → List ℕ
 pub two-more : (at : ℕ) → at + 1 + 1 ≡ at + 2
 two-more at = omega arith
 
+-- two operands after a first byte, whose place is that of the refusal
+module _ {A : Type 0} (stop : Refusal → A) (next : ℕ → ℕ → List ℕ → A) (s : List ℕ) (at : ℕ) where
+  pub two-stop : length s < at + 3 → operand stop at (λ i. operand stop at (next i)) (drop (at + 1) s) ≡ stop (refusalAt cutShort at)
+  two-stop h =
+      ⊎-elim
+      (λ t. operand-stops stop at _ s (at + 1) (leb→le (length s) (at + 1) t))
+      (λ u. operand-goes stop at _ s (at + 1) (nleb→lt (length s) (at + 1) u) ∙ operand-stops stop at _ s (at + 1 + 1) (omega arith))
+      (decide (leb (length s) (at + 1)))
+
+  pub two-go : at + 3 ≤ length s
+      → operand stop at (λ i. operand stop at (next i)) (drop (at + 1) s) ≡ next (getD s (at + 1) 0) (getD s (at + 2) 0) (drop (at + 3) s)
+  two-go h =
+      let third : at + 2 + 1 ≡ at + 3 = omega arith in
+      operand-goes stop at _ s (at + 1) (omega arith)
+      ∙ ap (λ (p : ℕ). operand stop at (next (getD s (at + 1) 0)) (drop p s)) (two-more at)
+      ∙ operand-goes stop at _ s (at + 2) (omega arith)
+      ∙ ap (λ (p : ℕ). next (getD s (at + 1) 0) (getD s (at + 2) 0) (drop p s)) third
+
 -- the head of a sheet
 module _ (F : StageForm) (s : List ℕ) (f : ℕ) (told : f ≡ dueNumber (F .known) 0x20 s) where
   pub head-refused : (g : Refusal) → (f ≡ 0 → ⊥) → g ≡ refusalAt f 0 → readSheet F s ≡ noStage g
@@ -66,25 +84,15 @@ module _ (F : StageForm) (s : List ℕ) (f : ℕ) (told : f ≡ dueNumber (F .kn
 
   module _ (due-there : f ≡ 0) where
     pub head-cut : length s < 3 → readSheet F s ≡ noStage (refusalAt cutShort 0)
-    unfolding readSheet operand
-    head-cut l = due-goes (F .known) s 0x20 0 f told noStage _ due-there ∙ go s l
-      where
-        go : (s : List ℕ) → length s < 3
-            → operand noStage 0
-            (λ n. operand noStage 0 (λ m rest. cond (sizesOut n m) (noStage (refusalAt outOfRange 0)) (closed F n m (wiresAt F m n m 0 3 rest))))
-            (drop 1 s)
-            ≡ noStage (refusalAt cutShort 0)
-        go [] l = refl
-        go (a ∷ []) l = refl
-        go (a ∷ b ∷ []) l = refl
-        go (a ∷ b ∷ c ∷ s) l = absurd (omega arith)
+    unfolding readSheet
+    head-cut l = due-goes (F .known) s 0x20 0 f told noStage _ due-there ∙ two-stop noStage _ s 0 l
 
     module _ (there : 3 ≤ length s) where
       head-opens : readSheet F s
           ≡ cond (sizesOut (getD s 1 0) (getD s 2 0)) (noStage (refusalAt outOfRange 0))
           (closed F (getD s 1 0) (getD s 2 0) (wiresAt F (getD s 2 0) (getD s 1 0) (getD s 2 0) 0 3 (drop 3 s)))
       unfolding readSheet
-      head-opens = due-goes (F .known) s 0x20 0 f told noStage _ due-there ∙ operand-goes noStage 0 _ s 1 (omega arith) ∙ operand-goes noStage 0 _ s 2 there
+      head-opens = due-goes (F .known) s 0x20 0 f told noStage _ due-there ∙ two-go noStage _ s 0 there
 
       pub head-out : sizesOut (getD s 1 0) (getD s 2 0) ≡ true → readSheet F s ≡ noStage (refusalAt outOfRange 0)
       head-out e = head-opens ∙ rw e
