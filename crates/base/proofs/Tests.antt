@@ -45,6 +45,11 @@ pub cond-has₂ {ℓ κ} : {A : Type ℓ} {B : Type κ} (P : A → B → Type 0)
 cond-has₂ P true f g = f tt
 cond-has₂ P false f g = g tt
 
+pub cond-has₃ : {A B C : Type 0} (P : A → B → C → Type 0) (b : Bool) {x y : A} {u v : B} {m n : C} → (T b → P x u m) → (T (not b) → P y v n)
+    → P (cond b x y) (cond b u v) (cond b m n)
+cond-has₃ P true f g = f tt
+cond-has₃ P false f g = g tt
+
 pub below-suc : {i k : ℕ} → i < suc k → (i ≡ k) ⊎ (i < k)
 below-suc h = eq-or-lt-of-le (le-of-suc-le-suc h)
 

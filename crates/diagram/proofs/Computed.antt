@@ -15,7 +15,7 @@ use Rattle.stage.specs.Written.{stageDrawn, stageOf}
 use Rattle.diagram.specs.Diagram.{entry, Diagram, diagram, inputAt, followEntry, entryPrice, entriesCells, diagramCells}
 use Rattle.diagram.specs.Bytes.{entriesBytes, diagramWireBytes}
 use Rattle.diagram.specs.Read.{entryRefusal, entryAt, entriesAt, topAt, diagramWireAt}
-use Rattle.diagram.specs.Written.{place, numberOf, entriesOf, reducedDiagram}
+use Rattle.diagram.specs.Written.{nodeNumber, numberOf, entriesOf, reducedDiagram}
 use Rattle.diagram.specs.Diagrams.{diagramForm, diagramDrawing, readDiagrams}
 
 -- all meanings of the count, of diagrams, of writing, and of reading, open
@@ -28,7 +28,7 @@ unfolding inputAt followEntry entryPrice entriesCells
 drawing = 0
 
 unfoldable writing : ℕ
-unfolding counting place numberOf entriesOf reducedDiagram entriesBytes diagramWireBytes wiresBytes stageBytes stageDrawn stageOf
+unfolding counting nodeNumber numberOf entriesOf reducedDiagram entriesBytes diagramWireBytes wiresBytes stageBytes stageDrawn stageOf
 writing = 0
 
 unfoldable reading : ℕ

@@ -1,5 +1,5 @@
 -- What is listed of a table: just its subfunctions that need a selector (each once: `listing-once`).
-use Prim.Native.Nat.{ℕ, zero, suc, _^_, _<_}
+use Prim.Native.Nat.{ℕ, zero, suc}
 use mathlib.Core.Path.{_≡_, refl, sym, ap₂, subst}
 use mathlib.Core.Logic.{_⊎_, inl, inr, ⊎-elim, _↔_}
 use mathlib.Core.List.{List, []}
@@ -41,5 +41,5 @@ needed-held ks (suc n) t h k d =
 needed-listed : (n t : ℕ) (k : Node) → Needed n t k → T (has (listing n t []) k)
 needed-listed n t = needed-held (listing n t []) n t (listing-holds n t)
 
-pub listed-just : (n t : ℕ) → t < 2 ^ (2 ^ n) → (k : Node) → T (has (listing n t []) k) ↔ Needed n t k
-listed-just n t lt k = (λ h. ⊎-elim (λ z. absurd (has-none k z)) (λ z. z) (listed-was n t [] k h), needed-listed n t k)
+pub listed-just : (n t : ℕ) (k : Node) → T (has (listing n t []) k) ↔ Needed n t k
+listed-just n t k = (λ h. ⊎-elim (λ z. absurd (has-none k z)) (λ z. z) (listed-was n t [] k h), needed-listed n t k)

@@ -9,7 +9,7 @@ use native.Mathlib.Nat.{mod-eq-of-lt, zero-add}
 use lib.Dec.{T, T-not, eqb, ltb, ltb→lt, lt→ltb}
 use lib.ListN.{length}
 use lib.Pow.{pow-pos, pow-mono}
-use Rattle.base.proofs.Tests.{cond-has, cond-has₂, eqb-yes, eqb-not, or-cases}
+use Rattle.base.proofs.Tests.{cond-has, cond-has₂, cond-has₃, eqb-yes, eqb-not, or-cases}
 use Rattle.sheet.specs.Limits.{maxInputs, maxPatterns}
 use Rattle.table.specs.Bits.{bit}
 use Rattle.table.specs.Cells.{low, high}
@@ -20,7 +20,7 @@ use Rattle.nodes.specs.Nodes.{Node, node, same, has, listing, price, weight, no
 use Rattle.nodes.proofs.Lists.{same-eq, has-head}
 use Rattle.nodes.proofs.Listing.{visits, listing-grown}
 use Rattle.diagram.specs.Diagram.{inputAt, EntriesFit, followDiagram, WellFormed, entryPrice, entriesCells, diagramCells}
-use Rattle.diagram.specs.Written.{place, numberOf, entryOf, entriesOf, reducedDiagram}
+use Rattle.diagram.specs.Written.{nodeNumber, numberOf, entryOf, entriesOf, reducedDiagram}
 use Rattle.diagram.proofs.Entries.{treeOf, follow-tree, constant-tree, input-above}
 
 -- a table of r inputs has its number in the list
@@ -84,17 +84,17 @@ unfolding Closed
 listing-closed n t l = visit-closed n n t [] (omega arith) l tt
 
 -- numbers
-place-lt : (ks : List Node) (k : Node) → place ks k < length ks + 2
-unfolding place
-place-lt [] k = omega arith
-place-lt (x ∷ xs) k =
-    cond-has (λ y. y < suc (length xs) + 2) (same k x) {x = length xs + 2} {y = place xs k} (λ _. omega arith) (λ _. omega (arith, place-lt xs k))
+node-number-lt : (ks : List Node) (k : Node) → nodeNumber ks k < length ks + 2
+unfolding nodeNumber
+node-number-lt [] k = omega arith
+node-number-lt (x ∷ xs) k =
+    cond-has (λ y. y < suc (length xs) + 2) (same k x) {x = length xs + 2} {y = nodeNumber xs k} (λ _. omega arith) (λ _. omega (arith, node-number-lt xs k))
 
 number-lt : (ks : List Node) (r t : ℕ) → T (numbered ks r t) → numberOf ks r t < length ks + 2
 unfolding numbered numberOf
 number-lt ks zero t = λ h. omega (arith, ltb→lt t 2 h)
 number-lt ks (suc r) t =
-    cond-has₂ (λ a y. T a → y < length ks + 2) (eqb (low r t) (high r t)) (λ _. number-lt ks r (low r t)) (λ _ _. place-lt ks (node r t))
+    cond-has₂ (λ a y. T a → y < length ks + 2) (eqb (low r t) (high r t)) (λ _. number-lt ks r (low r t)) (λ _ _. node-number-lt ks (node r t))
 
 pub entries-length : (n : ℕ) (ks : List Node) → length (entriesOf n ks) ≡ length ks
 unfolding entriesOf
@@ -106,12 +106,7 @@ abbrev selector : ℕ → Node → Tree
 selector n k =
     sel (n - k .after) (reduced (k .after) (n - k .after) (low (k .after) (k .table))) (reduced (k .after) (n - k .after) (high (k .after) (k .table)))
 
-cond-has₃ : {A B C : Type 0} (P : A → B → C → Type 0) (b : Bool) {x y : A} {u v : B} {m n : C} → (T b → P x u m) → (T (not b) → P y v n)
-    → P (cond b x y) (cond b u v) (cond b m n)
-cond-has₃ P true f g = f tt
-cond-has₃ P false f g = g tt
-
-module _ (n : ℕ) (ks : List Node) (placed : (k : Node) → T (has ks k) → treeOf (entriesOf n ks) (place ks k) ≡ selector n k) where
+module _ (n : ℕ) (ks : List Node) (placed : (k : Node) → T (has ks k) → treeOf (entriesOf n ks) (nodeNumber ks k) ≡ selector n k) where
   number-tree : (r t : ℕ) → r ≤ n → T (numbered ks r t) → treeOf (entriesOf n ks) (numberOf ks r t) ≡ reduced r (n - r) t
   unfolding numbered numberOf reduced
   number-tree zero t l = λ h. constant-tree (entriesOf n ks) t (ltb→lt t 2 h)
@@ -121,8 +116,8 @@ module _ (n : ℕ) (ks : List Node) (placed : (k : Node) → T (has ks k) → tr
       (cond-has₃ (λ a y x. T a → treeOf (entriesOf n ks) y ≡ x) (eqb (low r t) (high r t)) (λ _. number-tree r (low r t) (omega arith))
       (λ _. placed (node r t)))
 
-placed : (n : ℕ) (ks : List Node) → Closed n ks → (k : Node) → T (has ks k) → treeOf (entriesOf n ks) (place ks k) ≡ selector n k
-unfolding Closed has entriesOf place treeOf
+placed : (n : ℕ) (ks : List Node) → Closed n ks → (k : Node) → T (has ks k) → treeOf (entriesOf n ks) (nodeNumber ks k) ≡ selector n k
+unfolding Closed has entriesOf nodeNumber treeOf
 placed n [] c k h = absurd h
 placed n (x ∷ xs) c k h =
     let es = entriesOf n xs in
@@ -138,7 +133,7 @@ placed n (x ∷ xs) c k h =
     ∙ ap₂ (sel (n - x .after)) (child zeros (omega (arith, b .inside)) (b .zero-there)) (child ones (omega (arith, b .inside)) (b .one-there))
     ∙ ap (selector n) (sym (same-eq k x s)))
     (λ s.
-    eqb-not (place xs k) (length es + 2) own (treeOf es (place xs k)) (λ e. absurd (omega (arith, place-lt xs k)))
+    eqb-not (nodeNumber xs k) (length es + 2) own (treeOf es (nodeNumber xs k)) (λ e. absurd (omega (arith, node-number-lt xs k)))
     ∙ placed n xs (c .1) k (⊎-elim (λ y. absurd (T-not (same k x) s y)) (λ y. y) (or-cases (same k x) (has xs k) h)))
 
 -- the entries are well formed

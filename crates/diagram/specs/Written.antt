@@ -9,16 +9,16 @@ use Rattle.nodes.specs.Nodes.{Node, node, same, listing}
 use Rattle.diagram.specs.Diagram.{Entry, entry, Diagram, diagram, firstNumber}
 
 -- the number of a node that is listed
-unfoldable pub place : List Node → Node → ℕ
-place [] k = zero
-place (x ∷ before) k = cond (same k x) (length before + firstNumber) (place before k)
+unfoldable pub nodeNumber : List Node → Node → ℕ
+nodeNumber [] k = zero
+nodeNumber (x ∷ before) k = cond (same k x) (length before + firstNumber) (nodeNumber before k)
 
 -- the number of a table of so many inputs: a constant's; or the node's that is left once the inputs are passed over that it does not need
 unfoldable pub numberOf : List Node → ℕ → ℕ → ℕ
 numberOf ks zero t = t
 numberOf ks (suc r) t =
     let passed = numberOf ks r (low r t) in
-    cond (eqb (low r t) (high r t)) passed (place ks (node r t))
+    cond (eqb (low r t) (high r t)) passed (nodeNumber ks (node r t))
 
 -- a node as an entry: the first of its inputs, of n in all, and the numbers of its halves among those listed before
 abbrev pub entryOf : ℕ → List Node → Node → Entry

@@ -15,7 +15,7 @@ use Rattle.table.specs.Inner.Blocks.{noTable}
 use Rattle.table.specs.Inner.Pairs.{blockSpace}
 use Rattle.table.proofs.Bits.{sum-cong, sum-le, sum-but-one}
 use Rattle.table.proofs.Least.{Least, least-is}
-use Rattle.nodes.specs.Inner.Tops.{top}
+use Rattle.nodes.specs.Inner.Tops.{topPrice}
 use Rattle.nodes.specs.Inner.Ways.{oneNode, placeOf, allPlaces, places}
 use Rattle.nodes.proofs.Framed.{within, frame}
 
@@ -55,28 +55,28 @@ module _ (fit : ℕ → ℕ → Bool) where
   ok i p js x = stands js x && within i p x
 
   abbrev pub best : (inverted plain : Bool) → List ℕ → Option ℕ
-  best i p js = least top (ok i p js) blockSpace
+  best i p js = least topPrice (ok i p js) blockSpace
 
 -- a quarter at the places of its class, with its own selector counted; more than any table has where there is none
 unfoldable pub shown : Option ℕ → ℕ → ℕ
 shown none m = noTable * oneNode
-shown (some x) m = top x * oneNode + x * m
+shown (some x) m = topPrice x * oneNode + x * m
 
 abbrev pub classValue : (ℕ → ℕ → Bool) → (inverted plain : Bool) → List ℕ → ℕ
 classValue fit i p js = shown (best fit i p js) (places js)
 
 -- no other quarter is better at the same places
-pub shown-le : (fit : ℕ → Bool) (y m : ℕ) → y < blockSpace → T (fit y) → m ≤ allPlaces → shown (least top fit blockSpace) m ≤ top y * oneNode + y * m
+pub shown-le : (fit : ℕ → Bool) (y m : ℕ) → y < blockSpace → T (fit y) → m ≤ allPlaces → shown (least topPrice fit blockSpace) m ≤ topPrice y * oneNode + y * m
 unfolding shown
-shown-le fit y m l f b = go (least top fit blockSpace) (least-is top fit blockSpace)
+shown-le fit y m l f b = go (least topPrice fit blockSpace) (least-is topPrice fit blockSpace)
   where
-    go : (o : Option ℕ) → Least top fit blockSpace o → shown o m ≤ top y * oneNode + y * m
+    go : (o : Option ℕ) → Least topPrice fit blockSpace o → shown o m ≤ topPrice y * oneNode + y * m
     go none h = absurd (h y l f)
     go (some x) h =
         let a = h .2 y l f in
         ⊎-elim
-        (λ t. let c = ltb→lt (top x) (top y) t in let k : x ≤ 15 = omega (arith, h .0) in omega (arith, mul-le-mul-right m k))
-        (λ t. omega (arith, mul-le-mul-right m (h .3 y l f (nltb→le (top x) (top y) t)))) (decide (ltb (top x) (top y)))
+        (λ t. let c = ltb→lt (topPrice x) (topPrice y) t in let k : x ≤ 15 = omega (arith, h .0) in omega (arith, mul-le-mul-right m k))
+        (λ t. omega (arith, mul-le-mul-right m (h .3 y l f (nltb→le (topPrice x) (topPrice y) t)))) (decide (ltb (topPrice x) (topPrice y)))
 
 -- the value of a way: what its classes give together, and the selectors on the first two inputs
 abbrev pub value : (ℕ → ℕ) → (List ℕ → ℕ) → ℕ

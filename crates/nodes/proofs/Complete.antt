@@ -15,7 +15,7 @@ use Rattle.table.specs.Inner.Ranks.{rank}
 use Rattle.table.proofs.Below.{all-intro, any-intro}
 use Rattle.table.proofs.Bits.{sum-cong, sum-le}
 use Rattle.nodes.specs.Nodes.{nodes}
-use Rattle.nodes.specs.Inner.Tops.{top}
+use Rattle.nodes.specs.Inner.Tops.{topPrice}
 use Rattle.nodes.specs.Inner.Ways.{oneNode, placeOf, places}
 use Rattle.nodes.proofs.Quarters.{quartersOf, quarters-lt, quarters-suit, made-sum, made-again}
 use Rattle.nodes.proofs.Framed.{may, uses, within}
@@ -72,7 +72,7 @@ module _ (P : Proj) (t : ℕ) (lt : t < 2 ^ (2 ^ 4)) (fits : T (suits 4 P t)) wh
 
   -- where those, and perhaps more, may occur
   module _ (i p : Bool) (allowed : (j : ℕ) → j < 4 → T (within i p (q j))) where
-    class-le : (j : ℕ) → j < 4 → classValue (fitIn P) i p (members r j 4) ≤ top (q j) * oneNode + q j * places (members r j 4)
+    class-le : (j : ℕ) → j < 4 → classValue (fitIn P) i p (members r j 4) ≤ topPrice (q j) * oneNode + q j * places (members r j 4)
     class-le j l =
         shown-le (ok (fitIn P) i p (members r j 4)) (q j) (places (members r j 4)) (quarters-lt t lt j l)
         (and-intro (stands (fitIn P) (members r j 4) (q j)) (within i p (q j))
@@ -85,10 +85,10 @@ module _ (P : Proj) (t : ℕ) (lt : t < 2 ^ (2 ^ 4)) (fits : T (suits 4 P t)) wh
     unfolding rank
     met =
         let f : ℕ → ℕ = λ j. cond (eqb (r j) j) (classValue (fitIn P) i p (members r j 4)) 0 in
-        let g : ℕ → ℕ = λ j. cond (eqb (r j) j) (top (q j) * oneNode + q j * places (members r j 4)) 0 in
+        let g : ℕ → ℕ = λ j. cond (eqb (r j) j) (topPrice (q j) * oneNode + q j * places (members r j 4)) 0 in
         let c = sum-le 4 f g (λ j l. cond-has₂ (λ x y. x ≤ y) (eqb (r j) j) (λ _. class-le j l) (λ _. omega arith)) in
-        let w = sum-apart g (λ j. cond (eqb (r j) j) (top (q j)) 0) (λ j. cond (eqb (r j) j) (q j * places (members r j 4)) 0)
-        (λ j l. split (eqb (r j) j) (top (q j)) (q j * places (members r j 4))) in
+        let w = sum-apart g (λ j. cond (eqb (r j) j) (topPrice (q j)) 0) (λ j. cond (eqb (r j) j) (q j * places (members r j 4)) 0)
+        (λ j l. split (eqb (r j) j) (topPrice (q j)) (q j * places (members r j 4))) in
         let e = exchange r q inside (λ j l. first-again q j) in
         let s = sum-cong 4 (λ j. q (r j) * placeOf j) (λ j. q j * placeOf j) (λ j l. ap (λ y. y * placeOf j) (first-same q j)) in
         let n = nodes-least r t (λ j k _ _ d. first-eq q j k d) in

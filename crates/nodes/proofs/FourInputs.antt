@@ -10,13 +10,13 @@ use lib.Dec.{T, eqb, ltb, ltb→lt, eqb→eq}
 use Rattle.base.specs.Lowest.{lowest}
 use Rattle.base.proofs.Tests.{and-left, and-right, below-suc}
 use Rattle.table.specs.Bits.{sum, isOne}
-use Rattle.table.specs.Pick.{Proj, suits, leastOf}
+use Rattle.table.specs.Pick.{Proj, suits}
 use Rattle.table.specs.Inner.Blocks.{Covered}
 use Rattle.table.specs.Inner.Pairs.{zerosIn, onesIn}
 use Rattle.table.specs.Inner.Ranks.{masked, pickOf, rank}
 use Rattle.table.proofs.Below.{all-at}
-use Rattle.table.proofs.Least.{Least, least-is}
-use Rattle.table.proofs.Masks.{pick-some}
+use Rattle.table.proofs.Least.{Least}
+use Rattle.table.proofs.Masks.{pickOf-least}
 use Rattle.nodes.specs.Nodes.{nodes}
 use Rattle.nodes.specs.Inner.Ways.{oneNode, four, choiceCount, wayOf, chosen, leastChosen}
 use Rattle.nodes.proofs.Quarters.{below4, quartersOf}
@@ -28,14 +28,6 @@ use Rattle.nodes.proofs.Complete.{first, first-le, first-again, own, me
 use Rattle.nodes.proofs.Fifteen.{isShape, way-least, way-most}
 use Rattle.nodes.proofs.Linked.{wayIn, both-linked, plain-linked, inverted-linked, none-linked}
 
--- the pick of covered masks is the least table between them
-pub pick-least : (n zeros ones : ℕ) → Covered n zeros ones
-    → Least (nodes n) (suits n (masked zeros ones)) (2 ^ (2 ^ n)) (some (pickOf (nodes n) n zeros ones))
-unfolding leastOf
-pick-least n zeros ones h =
-    subst (Least (nodes n) (suits n (masked zeros ones)) (2 ^ (2 ^ n))) (pick-some (nodes n) n zeros ones h)
-    (least-is (nodes n) (suits n (masked zeros ones)) (2 ^ (2 ^ n)))
-
 module _ (w : ℕ) (covered : Covered 4 (zerosIn w) (onesIn w)) where
   abbrev P : Proj
   P = masked (zerosIn w) (onesIn w)
@@ -44,7 +36,7 @@ module _ (w : ℕ) (covered : Covered 4 (zerosIn w) (onesIn w)) where
   t = pickOf (nodes 4) 4 (zerosIn w) (onesIn w)
 
   least-pick : Least (nodes 4) (suits 4 P) (2 ^ (2 ^ 4)) (some t)
-  least-pick = pick-least 4 (zerosIn w) (onesIn w) covered
+  least-pick = pickOf-least (nodes 4) 4 (zerosIn w) (onesIn w) covered
 
   abbrev cost : (inverted plain : Bool) → ℕ
   cost i p = (isOne i + isOne p) * oneNode

@@ -13,7 +13,7 @@ use Rattle.table.proofs.Below.{all-at}
 use Rattle.table.proofs.Bits.{sum-cong}
 use Rattle.table.proofs.Cells.{low-lt, high-lt}
 use Rattle.nodes.specs.Nodes.{Node, node, has, listing, price, weight, nodes}
-use Rattle.nodes.specs.Inner.Tops.{top}
+use Rattle.nodes.specs.Inner.Tops.{topPrice}
 use Rattle.nodes.proofs.Lists.{has-none, subset-weight}
 use Rattle.nodes.proofs.Listing.{listing-once}
 use Rattle.nodes.proofs.Held.{Holds, listing-within}
@@ -76,10 +76,10 @@ module _ (r : ℕ → ℕ) (i p : Bool) (t : ℕ) where
   abbrev pub framed : List Node
   framed = gathered 3 own3 (λ _. t) level2 1
 
-  tops-owned : sum 4 (λ j. cond (own1 j) (price (node 1 (q j))) 0) ≡ sum 4 (λ j. cond (eqb (r j) j) (top (q j)) 0)
-  unfolding owns top
+  tops-owned : sum 4 (λ j. cond (own1 j) (price (node 1 (q j))) 0) ≡ sum 4 (λ j. cond (eqb (r j) j) (topPrice (q j)) 0)
+  unfolding owns topPrice
   tops-owned =
-      sum-cong 4 (λ j. cond (own1 j) (price (node 1 (q j))) 0) (λ j. cond (eqb (r j) j) (top (q j)) 0)
+      sum-cong 4 (λ j. cond (own1 j) (price (node 1 (q j))) 0) (λ j. cond (eqb (r j) j) (topPrice (q j)) 0)
       (λ j l. both (eqb (r j) j) (eqb (low 1 (q j)) (high 1 (q j))) (price (node 1 (q j))))
     where
       both : (a b : Bool) (x : ℕ) → cond (a && not b) x 0 ≡ cond a (cond b 0 x) 0
@@ -87,7 +87,7 @@ module _ (r : ℕ → ℕ) (i p : Bool) (t : ℕ) where
       both true false x = refl
       both false b x = refl
 
-  pub framed-weight : weight price framed ≡ frame r + sum 4 (λ j. cond (eqb (r j) j) (top (q j)) 0) + (isOne i + isOne p)
+  pub framed-weight : weight price framed ≡ frame r + sum 4 (λ j. cond (eqb (r j) j) (topPrice (q j)) 0) + (isOne i + isOne p)
   unfolding weight price sum isOne
   framed-weight =
       let a = gathered-weight 3 own3 (λ _. t) level2 price 1 in
@@ -169,7 +169,7 @@ module _ (r : ℕ → ℕ) (i p : Bool) (t : ℕ) where
       (upper-held, quarter-held 2 (omega arith), quarter-held 3 (omega arith)),
     )
 
-    pub nodes-most : nodes 4 t ≤ frame r + sum 4 (λ j. cond (eqb (r j) j) (top (q j)) 0) + (isOne i + isOne p)
+    pub nodes-most : nodes 4 t ≤ frame r + sum 4 (λ j. cond (eqb (r j) j) (topPrice (q j)) 0) + (isOne i + isOne p)
     unfolding nodes
     nodes-most =
         let h = subset-weight price (listing 4 t []) framed (listing-once 4 t) (listing-within framed 4 t [] framed-holds (λ k g. absurd (has-none k g))) in

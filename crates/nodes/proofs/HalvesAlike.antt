@@ -14,7 +14,7 @@ use Rattle.table.specs.Inner.Pairs.{blockSpace, zerosIn, onesIn}
 use Rattle.table.specs.Inner.Ranks.{masked, tableSpace}
 use Rattle.table.specs.Inner.Blocks.{entries}
 use Rattle.table.proofs.Least.{Least, least-is}
-use Rattle.nodes.specs.Inner.Tops.{top}
+use Rattle.nodes.specs.Inner.Tops.{topPrice}
 use Rattle.nodes.specs.Inner.Ways.{oneNode, allPlaces, places, bytesOf, classIn, halvesAlike, treeLike, threeAlike, acrossAlike, leastWay}
 use Rattle.nodes.proofs.Quarters.{below4}
 use Rattle.nodes.proofs.Framed.{within}
@@ -34,11 +34,11 @@ module _ (o : Option ℕ) (i j : ℕ) where
       go (some x) = omega (arith, mul-add x i j)
 
 module _ (fit : ℕ → Bool) (i j : ℕ) (l : j ≤ allPlaces) where
-  shown-more : shown (least top fit blockSpace) (i + j) ≤ shown (least top fit blockSpace) i + oneNode
+  shown-more : shown (least topPrice fit blockSpace) (i + j) ≤ shown (least topPrice fit blockSpace) i + oneNode
   unfolding shown
-  shown-more = go (least top fit blockSpace) (least-is top fit blockSpace)
+  shown-more = go (least topPrice fit blockSpace) (least-is topPrice fit blockSpace)
     where
-      go : (o : Option ℕ) → Least top fit blockSpace o → shown o (i + j) ≤ shown o i + oneNode
+      go : (o : Option ℕ) → Least topPrice fit blockSpace o → shown o (i + j) ≤ shown o i + oneNode
       go none h = omega arith
       go (some x) h = let b : x ≤ 15 = omega (arith, h .0) in omega (arith, mul-add x i j, mul-le-mul-right j b)
 
@@ -76,7 +76,7 @@ module _ (fit : ℕ → ℕ → Bool) (third : (x : ℕ) → fit 2 x ≡ fit 0 x
 
   at-same : (js ks : List ℕ) → T (inFour js) → T (inFour ks) → Same js ks → (m : ℕ) → at js m ≡ at ks m
   at-same js ks f g s m =
-      ap (λ c. shown (least top c blockSpace) m)
+      ap (λ c. shown (least topPrice c blockSpace) m)
       (fun-ext (λ x. ap (λ b. b && within true true x) (stands-told x js f ∙ told-same js ks s (fit 0 x) (fit 1 x) ∙ sym (stands-told x ks g))))
 
   abbrev A : ℕ → ℕ

@@ -21,8 +21,8 @@ use Rattle.table.proofs.Masks.{mask-cong}
 use Rattle.table.proofs.Pairs.{Place, fromBlock, byte-place, first-place}
 use Rattle.table.proofs.Halving.{upper}
 use Rattle.nodes.specs.Nodes.{price}
-use Rattle.nodes.specs.Inner.Tops.{top, topOf}
-use Rattle.nodes.specs.Inner.Ways.{topAt, classAt, places, together, classIn, bytesOf, halvesAlike, leastWay, allNodes, fromAbove, fromBelow, notEvenZeros, notOddZeros, noPlain, noInverted}
+use Rattle.nodes.specs.Inner.Tops.{topPrice, topEntry}
+use Rattle.nodes.specs.Inner.Ways.{topEntryAt, classAt, places, together, classIn, bytesOf, halvesAlike, leastWay, allNodes, fromAbove, fromBelow, notEvenZeros, notOddZeros, noPlain, noInverted}
 use Rattle.nodes.proofs.Quarters.{below4}
 use Rattle.nodes.proofs.Framed.{uses, within}
 use Rattle.nodes.proofs.Classes.{stands, ok, shown, classValue}
@@ -103,12 +103,12 @@ module _ (w : ℕ) where
       (byte-fits x j (ltb→lt j 4 (and-left (ltb j 4) (inFour (k ∷ js)) f)))
 
 -- the entry of a quarter of a byte, of those that pass a test
-entryOf : (ℕ → Bool) → ℕ
-entryOf f = topOf (least top f blockSpace)
+bestEntry : (ℕ → Bool) → ℕ
+bestEntry f = topEntry (least topPrice f blockSpace)
 
 -- a byte restricted has the entry of the byte where some literals of the last input may not occur: tested for every byte
 unfoldable agrees : (ℕ → ℕ) → (inverted plain : Bool) → Bool
-agrees R i p = all entries (λ at. eqb (entryOf (fitAt (R at))) (entryOf (λ x. fitAt at x && within i p x)))
+agrees R i p = all entries (λ at. eqb (bestEntry (fitAt (R at))) (bestEntry (λ x. fitAt at x && within i p x)))
 
 abbrev noPlainByte : ℕ → ℕ
 noPlainByte at = noPlain at % entries
@@ -117,22 +117,22 @@ abbrev noInvertedByte : ℕ → ℕ
 noInvertedByte at = noInverted at % entries
 
 plain-agrees : T (agrees noPlainByte true false)
-unfolding agrees entryOf fitAt within uses top topOf price least nearer suits masked all bit low high
+unfolding agrees bestEntry fitAt within uses topPrice topEntry price least nearer suits masked all bit low high
 plain-agrees = tt
 
 inverted-agrees : T (agrees noInvertedByte false true)
-unfolding agrees entryOf fitAt within uses top topOf price least nearer suits masked all bit low high
+unfolding agrees bestEntry fitAt within uses topPrice topEntry price least nearer suits masked all bit low high
 inverted-agrees = tt
 
 none-agrees : T (agrees (λ at. noPlainByte (noInvertedByte at)) false false)
-unfolding agrees entryOf fitAt within uses top topOf price least nearer suits masked all bit low high
+unfolding agrees bestEntry fitAt within uses topPrice topEntry price least nearer suits masked all bit low high
 none-agrees = tt
 
 both-agrees : T (agrees (λ at. at) true true)
 unfolding agrees
 both-agrees =
-    all-intro entries (λ at. eqb (entryOf (fitAt at)) (entryOf (λ x. fitAt at x && within true true x)))
-    (λ at l. eq-test (ap entryOf (fun-ext (λ x. sym (ap (λ b. fitAt at x && b) (test-yes (within true true x) (within-both x)) ∙ and-true (fitAt at x))))))
+    all-intro entries (λ at. eqb (bestEntry (fitAt at)) (bestEntry (λ x. fitAt at x && within true true x)))
+    (λ at l. eq-test (ap bestEntry (fun-ext (λ x. sym (ap (λ b. fitAt at x && b) (test-yes (within true true x) (within-both x)) ∙ and-true (fitAt at x))))))
 
 -- the entry at the places of a class: tested for every entry
 abbrev classOf : (entry places : ℕ) → ℕ
@@ -140,17 +140,17 @@ classOf x m = bitAnd (x * threeSpace + x % threeSpace) (allNodes + m * 15)
 
 unfoldable cuts : ℕ → Bool
 cuts m =
-    eqb (classOf (topOf none) m) (shown none m) && all blockSpace (λ x. eqb (classOf (topOf (some x)) m) (shown (some x) m))
+    eqb (classOf (topEntry none) m) (shown none m) && all blockSpace (λ x. eqb (classOf (topEntry (some x)) m) (shown (some x) m))
 
-cut : (f : ℕ → Bool) (m : ℕ) → T (cuts m) → classOf (entryOf f) m ≡ shown (least top f blockSpace) m
-unfolding cuts entryOf
-cut f m t = go (least top f blockSpace) (least-is top f blockSpace)
+cut : (f : ℕ → Bool) (m : ℕ) → T (cuts m) → classOf (bestEntry f) m ≡ shown (least topPrice f blockSpace) m
+unfolding cuts bestEntry
+cut f m t = go (least topPrice f blockSpace) (least-is topPrice f blockSpace)
   where
-    go : (o : Option ℕ) → Least top f blockSpace o → classOf (topOf o) m ≡ shown o m
-    go none h = eqb→eq (classOf (topOf none) m) (shown none m) (and-left (eqb (classOf (topOf none) m) (shown none m)) _ t)
+    go : (o : Option ℕ) → Least topPrice f blockSpace o → classOf (topEntry o) m ≡ shown o m
+    go none h = eqb→eq (classOf (topEntry none) m) (shown none m) (and-left (eqb (classOf (topEntry none) m) (shown none m)) _ t)
     go (some x) h =
-        eqb→eq (classOf (topOf (some x)) m) (shown (some x) m)
-        (all-at blockSpace (λ x. eqb (classOf (topOf (some x)) m) (shown (some x) m)) (and-right (eqb (classOf (topOf none) m) (shown none m)) _ t) x (h .0))
+        eqb→eq (classOf (topEntry (some x)) m) (shown (some x) m)
+        (all-at blockSpace (λ x. eqb (classOf (topEntry (some x)) m) (shown (some x) m)) (and-right (eqb (classOf (topEntry none) m) (shown none m)) _ t) x (h .0))
 
 -- a class of quarters at places that can be cut out
 unfoldable isClass : List ℕ → Bool
@@ -162,21 +162,21 @@ module _ (w v : ℕ) (R : ℕ → ℕ) (i p : Bool) (agreed : T (agrees R i p)) 
 
   linked : ((j : ℕ) (js : List ℕ) → T (inFour (j ∷ js)) → together (bytesOf v) (j ∷ js) % entries ≡ R (together (bytesOf w) (j ∷ js) % entries))
       → (js : List ℕ) → T (isClass js) → classIn (bytesOf v) js ≡ classValue (fitIn Q) i p js
-  unfolding isClass agrees classAt topAt leastOf entryOf fitAt inFour
+  unfolding isClass agrees classAt topEntryAt leastOf bestEntry fitAt inFour
   linked e [] t = absurd (and-left false (cuts 0) t)
   linked e (j ∷ js) t =
       let f = and-left (inFour (j ∷ js)) (ltb 0 (places (j ∷ js))) (and-left (inFour (j ∷ js) && ltb 0 (places (j ∷ js))) (cuts (places (j ∷ js))) t) in
       let y = together (bytesOf w) (j ∷ js) % entries in
       ap (λ x. classOf x (places (j ∷ js)))
-      (ap (λ x. entryOf (fitAt x)) (e j js f)
-      ∙ eqb→eq (entryOf (fitAt (R y))) (entryOf (λ x. fitAt y x && within i p x))
-      (all-at entries (λ at. eqb (entryOf (fitAt (R at))) (entryOf (λ x. fitAt at x && within i p x))) agreed y (omega arith))
-      ∙ ap entryOf (fun-ext (λ x. ap (λ b. b && within i p x) (class-fits w x j js f))))
+      (ap (λ x. bestEntry (fitAt x)) (e j js f)
+      ∙ eqb→eq (bestEntry (fitAt (R y))) (bestEntry (λ x. fitAt y x && within i p x))
+      (all-at entries (λ at. eqb (bestEntry (fitAt (R at))) (bestEntry (λ x. fitAt at x && within i p x))) agreed y (omega arith))
+      ∙ ap bestEntry (fun-ext (λ x. ap (λ b. b && within i p x) (class-fits w x j js f))))
       ∙ cut (ok (fitIn Q) i p (j ∷ js)) (places (j ∷ js)) (and-right (inFour (j ∷ js) && ltb 0 (places (j ∷ js))) (cuts (places (j ∷ js))) t)
 
 -- functions that are alike on the fifteen classes have the same least way
 ways-alike : (F G : List ℕ → ℕ) → ((js : List ℕ) → T (isClass js) → F js ≡ G js) → leastWay F ≡ leastWay G
-unfolding leastWay isClass cuts inFour all shown topOf top price low high
+unfolding leastWay isClass cuts inFour all shown topEntry topPrice price low high
 ways-alike F G h =
     rw (
       h (0 ∷ []) tt,
@@ -197,7 +197,7 @@ ways-alike F G h =
     )
 
 halves-alike : (F G : List ℕ → ℕ) → ((js : List ℕ) → T (isClass js) → F js ≡ G js) → halvesAlike F ≡ halvesAlike G
-unfolding isClass cuts inFour all shown topOf top price low high
+unfolding isClass cuts inFour all shown topEntry topPrice price low high
 halves-alike F G h = rw (h (2 ∷ 0 ∷ []) tt, h (3 ∷ 1 ∷ []) tt, h (3 ∷ 2 ∷ 1 ∷ 0 ∷ []) tt)
 
 -- the four choices of literals

@@ -38,13 +38,13 @@ pub record Grown (r : ℕ) (s o : List Node) : Type 0 where
   pub fresh : (k : Node) → r ≤ k .after → T (has o k) → T (has s k)
   pub distinct : Distinct s → Distinct o
 
-pub grown-same : (r : ℕ) (s : List Node) → Grown r s s
+grown-same : (r : ℕ) (s : List Node) → Grown r s s
 grown-same r s = record { kept = λ k h. h; fresh = λ k l h. h; distinct = λ d. d }
 
-pub grown-passed : (r : ℕ) (s o : List Node) → Grown r s o → Grown (suc r) s o
+grown-passed : (r : ℕ) (s o : List Node) → Grown r s o → Grown (suc r) s o
 grown-passed r s o p = record { kept = p .kept; fresh = λ k l h. p .fresh k (omega arith) h; distinct = p .distinct }
 
-pub grown-new : (r t : ℕ) (s m o : List Node) → T (not (has s (node r t))) → Grown r s m → Grown r m o → Grown (suc r) s (node r t ∷ o)
+grown-new : (r t : ℕ) (s m o : List Node) → T (not (has s (node r t))) → Grown r s m → Grown r m o → Grown (suc r) s (node r t ∷ o)
 unfolding Distinct
 grown-new r t s m o y p q = record {
   kept = λ k h. has-later (node r t) k o (q .kept k (p .kept k h));

@@ -9,11 +9,11 @@ use Rattle.table.specs.Inner.Blocks.{entries, Covered}
 use Rattle.table.specs.Inner.Pairs.{blockSpace, pairBits, zerosIn, onesIn}
 use Rattle.table.specs.Inner.Ranks.{pickOf, rank, tableSpace}
 use Rattle.table.proofs.Halving.{join, join-lt, counted-twice}
+use Rattle.table.proofs.Masks.{pickOf-least}
 use Rattle.table.proofs.Pairs.{byte-place, first-place, zeros-lt, ones-lt, one-byte, two-bytes}
 use Rattle.table.proofs.Repeated.{covered-twice, pick-twice}
 use Rattle.table.proofs.Widths.{WidthFits}
 use Rattle.nodes.specs.Nodes.{nodes}
-use Rattle.nodes.proofs.FourInputs.{pick-least}
 use Rattle.nodes.proofs.Halved.{nodes-halves}
 
 -- a mask by its blocks
@@ -80,7 +80,7 @@ abbrev pub pick : (r w : ℕ) → ℕ
 pick r w = pickOf (nodes r) r (zerosIn w) (onesIn w)
 
 pick-lt : (r w : ℕ) → WidthFits r w → pick r w < 2 ^ (2 ^ r)
-pick-lt r w f = pick-least r (zerosIn w) (onesIn w) (f .2) .0
+pick-lt r w f = pickOf-least (nodes r) r (zerosIn w) (onesIn w) (f .2) .0
 
 -- v has the pick of w times k, with as many nodes
 record Repeats (r v s w k : ℕ) : Type 0 where

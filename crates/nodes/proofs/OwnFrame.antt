@@ -11,7 +11,7 @@ use Rattle.table.specs.Bits.{sum, any, isOne}
 use Rattle.table.specs.Cells.{low, high}
 use Rattle.table.proofs.Below.{any-at}
 use Rattle.nodes.specs.Nodes.{Node, node, has, listing, price, nodes}
-use Rattle.nodes.specs.Inner.Tops.{top}
+use Rattle.nodes.specs.Inner.Tops.{topPrice}
 use Rattle.nodes.proofs.Lists.{has-none, Distinct, subset-weight}
 use Rattle.nodes.proofs.Held.{Within, Holds, listing-holds}
 use Rattle.nodes.proofs.Gathered.{gathered-within, gathered-below, gathered-once}
@@ -109,6 +109,6 @@ module _ (r : ℕ → ℕ) (t : ℕ) (own : (j k : ℕ) → j < 4 → k < 4 → 
       halves-once)
       (λ j k l m. absurd (omega arith))
 
-  pub nodes-least : frame r + sum 4 (λ j. cond (eqb (r j) j) (top (quartersOf t j)) 0) + (isOne i + isOne p) ≤ nodes 4 t
+  pub nodes-least : frame r + sum 4 (λ j. cond (eqb (r j) j) (topPrice (quartersOf t j)) 0) + (isOne i + isOne p) ≤ nodes 4 t
   unfolding nodes
   nodes-least = omega (arith, subset-weight price (framed r i p t) listed framed-once framed-within, framed-weight r i p t)

@@ -19,11 +19,11 @@ use Rattle.table.proofs.Below.{all-intro}
 use Rattle.table.proofs.Bits.{sum-cong, sum-bound}
 use Rattle.table.proofs.Least.{Least, least-is}
 use Rattle.nodes.specs.Nodes.{nodes}
-use Rattle.nodes.specs.Inner.Tops.{top}
+use Rattle.nodes.specs.Inner.Tops.{topPrice}
 use Rattle.nodes.specs.Inner.Ways.{oneNode, places}
 use Rattle.nodes.proofs.Quarters.{quartersOf, partOf, suits-quarters, made, made-sum, made-lt, made-quarters}
 use Rattle.nodes.proofs.Framed.{apart, halfApart, may, uses, within, nodes-most}
-use Rattle.nodes.proofs.TopEntries.{top-le}
+use Rattle.nodes.proofs.TopEntries.{top-price-le}
 use Rattle.nodes.proofs.Classes.{members, stands, stands-all, ok, best, shown, classValue, value, exchange, sum-apart}
 
 -- a part of a sum
@@ -51,8 +51,8 @@ within-both x =
 pub nodes-few : (t : ℕ) → t < 2 ^ (2 ^ 4) → nodes 4 t < noTable
 nodes-few t l =
     let m = nodes-most (λ j. j) true true t (λ j b. b) (λ j b. refl) (λ j b. refl) (λ j b. within-both (quartersOf t j)) l in
-    let s = sum-bound 4 1 (λ j. cond (eqb j j) (top (quartersOf t j)) 0)
-    (λ j b. cond-has (λ y. y ≤ 1) (eqb j j) (λ _. top-le (quartersOf t j)) (λ _. omega arith)) in
+    let s = sum-bound 4 1 (λ j. cond (eqb j j) (topPrice (quartersOf t j)) 0)
+    (λ j b. cond-has (λ y. y ≤ 1) (eqb j j) (λ _. top-price-le (quartersOf t j)) (λ _. omega arith)) in
     omega (arith, m, s, one-le (apart (λ j. j)), one-le (halfApart (λ j. j) 0), one-le (halfApart (λ j. j) 1), one-le true)
 
 -- what may stand in a quarter
@@ -98,10 +98,10 @@ module _ (P : Proj) (t : ℕ) (pick : Least (nodes 4) (suits 4 P) (2 ^ (2 ^ 4)) 
 
     -- every class has a quarter: together they are a table that suits
     module _ (has : (j : ℕ) → j < 4 → r j ≡ j → o j ≡ some (x j)) where
-      taken : (j : ℕ) → j < 4 → Least top (ok (fitIn P) i p (members r (r j) 4)) blockSpace (some (x (r j)))
+      taken : (j : ℕ) → j < 4 → Least topPrice (ok (fitIn P) i p (members r (r j) 4)) blockSpace (some (x (r j)))
       taken j l =
-          subst (Least top (ok (fitIn P) i p (members r (r j) 4)) blockSpace) (has (r j) (inside j l) (again j l))
-          (least-is top (ok (fitIn P) i p (members r (r j) 4)) blockSpace)
+          subst (Least topPrice (ok (fitIn P) i p (members r (r j) 4)) blockSpace) (has (r j) (inside j l) (again j l))
+          (least-is topPrice (ok (fitIn P) i p (members r (r j) 4)) blockSpace)
 
       abbrev q : ℕ → ℕ
       q j = x (r j)
@@ -124,19 +124,19 @@ module _ (P : Proj) (t : ℕ) (pick : Least (nodes 4) (suits 4 P) (2 ^ (2 ^ 4)) 
       few : (j : ℕ) → j < 4 → T (within i p (quartersOf s j))
       few j l = rw (is j l) (and-right (stands (fitIn P) (members r (r j) 4) (q j)) (within i p (q j)) (taken j l .1))
 
-      tops : sum 4 (λ j. cond (eqb (r j) j) (top (quartersOf s j)) 0) ≡ sum 4 (λ j. cond (eqb (r j) j) (top (x j)) 0)
+      tops : sum 4 (λ j. cond (eqb (r j) j) (topPrice (quartersOf s j)) 0) ≡ sum 4 (λ j. cond (eqb (r j) j) (topPrice (x j)) 0)
       tops =
-          sum-cong 4 (λ j. cond (eqb (r j) j) (top (quartersOf s j)) 0) (λ j. cond (eqb (r j) j) (top (x j)) 0)
-          (λ j l. cond-has₂ (λ y z. y ≡ z) (eqb (r j) j) (λ e. ap top (is j l ∙ ap x (eqb→eq (r j) j e))) (λ _. refl))
+          sum-cong 4 (λ j. cond (eqb (r j) j) (topPrice (quartersOf s j)) 0) (λ j. cond (eqb (r j) j) (topPrice (x j)) 0)
+          (λ j l. cond-has₂ (λ y z. y ≡ z) (eqb (r j) j) (λ e. ap topPrice (is j l ∙ ap x (eqb→eq (r j) j e))) (λ _. refl))
 
       weighed : (j : ℕ) → j < 4
           → cond (eqb (r j) j) (classValue (fitIn P) i p (members r j 4)) 0
-          ≡ cond (eqb (r j) j) (top (x j)) 0 * oneNode + cond (eqb (r j) j) (x j * places (members r j 4)) 0
+          ≡ cond (eqb (r j) j) (topPrice (x j)) 0 * oneNode + cond (eqb (r j) j) (x j * places (members r j 4)) 0
       unfolding shown
       weighed j l = go (eqb (r j) j) (λ e. ap (λ y. shown y (places (members r j 4))) (has j l (eqb→eq (r j) j e)))
         where
-          go : (b : Bool) → (T b → classValue (fitIn P) i p (members r j 4) ≡ top (x j) * oneNode + x j * places (members r j 4))
-              → cond b (classValue (fitIn P) i p (members r j 4)) 0 ≡ cond b (top (x j)) 0 * oneNode + cond b (x j * places (members r j 4)) 0
+          go : (b : Bool) → (T b → classValue (fitIn P) i p (members r j 4) ≡ topPrice (x j) * oneNode + x j * places (members r j 4))
+              → cond b (classValue (fitIn P) i p (members r j 4)) 0 ≡ cond b (topPrice (x j)) 0 * oneNode + cond b (x j * places (members r j 4)) 0
           go true h = h tt
           go false h = refl
 
@@ -144,7 +144,7 @@ module _ (P : Proj) (t : ℕ) (pick : Least (nodes 4) (suits 4 P) (2 ^ (2 ^ 4)) 
       unfolding rank
       found =
           let m = nodes-most r i p s inside again (λ j l. is (r j) (inside j l) ∙ ap x (again j l) ∙ sym (is j l)) few (made-lt q small) in
-          let w = sum-apart (λ j. cond (eqb (r j) j) (classValue (fitIn P) i p (members r j 4)) 0) (λ j. cond (eqb (r j) j) (top (x j)) 0)
+          let w = sum-apart (λ j. cond (eqb (r j) j) (classValue (fitIn P) i p (members r j 4)) 0) (λ j. cond (eqb (r j) j) (topPrice (x j)) 0)
           (λ j. cond (eqb (r j) j) (x j * places (members r j 4)) 0) weighed in
           let a = rank-least s (made-lt q small) suited in
           omega (arith, a, m, tops, w, exchange r x inside again, made-sum q)

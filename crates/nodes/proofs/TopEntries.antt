@@ -16,32 +16,32 @@ use Rattle.table.specs.Inner.Pairs.{blockSpace}
 use Rattle.table.specs.Inner.Blocks.{entries, noEntry, threeSpace}
 use Rattle.table.proofs.Least.{Least, least-is}
 use Rattle.nodes.specs.Nodes.{price}
-use Rattle.nodes.specs.Inner.Tops.{top, topOf, Tops}
-use Rattle.nodes.specs.Inner.Ways.{topAt, classAt, allNodes, mostClass}
+use Rattle.nodes.specs.Inner.Tops.{topPrice, topEntry, Tops}
+use Rattle.nodes.specs.Inner.Ways.{topEntryAt, classAt, allNodes, mostClass}
 
 -- a quarter needs at most one selector of its own
-pub top-le : (x : ℕ) → top x ≤ 1
-unfolding top price
-top-le x = cond-has (λ y. y ≤ 1) (eqb (low 1 x) (high 1 x)) (λ _. omega arith) (λ _. omega arith)
+pub top-price-le : (x : ℕ) → topPrice x ≤ 1
+unfolding topPrice price
+top-price-le x = cond-has (λ y. y ≤ 1) (eqb (low 1 x) (high 1 x)) (λ _. omega arith) (λ _. omega arith)
 
-entry-le : (fit : ℕ → Bool) → topOf (least top fit blockSpace) ≤ noEntry
-unfolding topOf
-entry-le fit = go (least top fit blockSpace) (least-is top fit blockSpace)
+entry-le : (fit : ℕ → Bool) → topEntry (least topPrice fit blockSpace) ≤ noEntry
+unfolding topEntry
+entry-le fit = go (least topPrice fit blockSpace) (least-is topPrice fit blockSpace)
   where
-    go : (o : Option ℕ) → Least top fit blockSpace o → topOf o ≤ noEntry
+    go : (o : Option ℕ) → Least topPrice fit blockSpace o → topEntry o ≤ noEntry
     go none h = omega arith
-    go (some x) h = omega (arith, h .0, top-le x)
+    go (some x) h = omega (arith, h .0, top-price-le x)
 
-pub entry-at : {e : List ℕ} → Tops e → (at : ℕ) → (getD e (at % entries) 0 ≡ topAt at) × (getD e (at % entries) 0 ≤ noEntry)
-unfolding topAt leastOf
+pub entry-at : {e : List ℕ} → Tops e → (at : ℕ) → (getD e (at % entries) 0 ≡ topEntryAt at) × (getD e (at % entries) 0 ≤ noEntry)
+unfolding topEntryAt leastOf
 entry-at {e} t at =
     let k = at % entries in
     let d : k ≡ k / blockSpace * blockSpace + k % blockSpace = omega arith in
-    let r : getD e k 0 ≡ topAt at = ap (λ i. getD e i 0) d ∙ t .entry (k / blockSpace) (k % blockSpace) (omega arith) (omega arith) in
+    let r : getD e k 0 ≡ topEntryAt at = ap (λ i. getD e i 0) d ∙ t .entry (k / blockSpace) (k % blockSpace) (omega arith) (omega arith) in
     (r, omega (arith, r, entry-le (suits 2 (masked (k / blockSpace) (k % blockSpace)))))
 
 -- what `class` gives
-pub class-at : (at places x : ℕ) → x ≡ topAt at → x ≤ noEntry
+pub class-at : (at places x : ℕ) → x ≡ topEntryAt at → x ≤ noEntry
     → (bitAnd (x * threeSpace + x % threeSpace) (allNodes + places * 15) ≡ classAt at places)
     × (bitAnd (x * threeSpace + x % threeSpace) (allNodes + places * 15) ≤ mostClass)
 unfolding classAt

@@ -32,8 +32,8 @@ module _ (F : StageForm) (L : FormLaws F) where
   abbrev pub longestWire : ℕ
   longestWire = L .frame + 3 * L .most
 
-  abbrev pub longestSheet : ℕ
-  longestSheet = 4 + maxWires * longestWire
+  abbrev pub longestOf : ℕ
+  longestOf = 4 + maxWires * longestWire
 
   pub wire-most : (n j : ℕ) (x : F .Shape) → n ≤ maxInputs → F .WellFormed n x → length (F .wireBytes j x) ≤ longestWire
   wire-most n j x s w = omega (arith, L .wire-length j x, L .few n x s w)

@@ -20,7 +20,7 @@ use Rattle.stage.specs.Bytes.{wiresBytes, stageBytes}
 use Rattle.stage.specs.Read.{wiresAt, nothingAfter, endAt, closed, readSheet}
 use Rattle.stage.specs.Inner.Laws.{withMore, ToldWire, FormLaws}
 use Rattle.stage.proofs.Steps.{due-more, then-more}
-use Rattle.stage.proofs.Lengths.{longestWire, longestSheet, wire-most}
+use Rattle.stage.proofs.Lengths.{longestWire, longestOf, wire-most}
 use Rattle.stage.proofs.Sheets.{ToldWires, wires-told, accepted}
 
 module _ (F : StageForm) (L : FormLaws F) where
@@ -69,11 +69,11 @@ module _ (F : StageForm) (L : FormLaws F) where
       let short = wires-short n m 0 xs s (t .2) (t .3) in
       end-more (got n m xs) at rest q (omega arith)
 
-  room-most : (m : ℕ) → m ≤ maxWires → roomFor m + 2 ≤ longestSheet F L
+  room-most : (m : ℕ) → m ≤ maxWires → roomFor m + 2 ≤ longestOf F L
   room-most m h = omega (arith, mul-le-mul-right (longestWire F L) h)
 
   -- no sheet that is accepted is longer than the longest stage
-  pub none-longer : (bytes : List ℕ) (n m : ℕ) (stage : List (F .Shape)) → readSheet F bytes ≡ got n m stage → length bytes ≤ longestSheet F L
+  pub none-longer : (bytes : List ℕ) (n m : ℕ) (stage : List (F .Shape)) → readSheet F bytes ≡ got n m stage → length bytes ≤ longestOf F L
   unfolding stageBytes
   none-longer bytes n m stage e =
       let s = accepted F L bytes n m stage e in
@@ -82,7 +82,7 @@ module _ (F : StageForm) (L : FormLaws F) where
       omega (arith, room-most m (s .sizes .m-most))
 
   -- more bytes than the longest stage has tell the reply
-  pub enough : (bytes q : List ℕ) → longestSheet F L < length bytes → readSheet F (bytes ++ q) ≡ readSheet F bytes
+  pub enough : (bytes q : List ℕ) → longestOf F L < length bytes → readSheet F (bytes ++ q) ≡ readSheet F bytes
   unfolding readSheet operand
   enough [] q h = absurd (omega arith)
   enough (b ∷ []) q h = absurd (omega arith)
@@ -97,7 +97,7 @@ module _ (F : StageForm) (L : FormLaws F) where
       (closed-more n m rest q (z .n-most) room (wiresAt F m n m 0 3 rest) (wires-told F L m n m 0 3 rest))))
 
   -- reading looks at no byte past that one
-  pub front-tells : (s : List ℕ) (k : ℕ) → longestSheet F L < k → readSheet F (take k s) ≡ readSheet F s
+  pub front-tells : (s : List ℕ) (k : ℕ) → longestOf F L < k → readSheet F (take k s) ≡ readSheet F s
   front-tells s k h =
       ⊎-elim (λ t. ap (readSheet F) (take-all k s (leb→le (length s) k t)))
       (λ u.

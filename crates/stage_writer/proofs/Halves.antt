@@ -13,8 +13,8 @@ use Rattle.table.specs.Tree.{Tree, sel, reduced}
 use Rattle.table.proofs.Cells.{low-lt, high-lt}
 use Rattle.nodes.specs.Nodes.{Node, node, has, listing}
 use Rattle.stage.specs.TreeBytes.{treeBytes}
-use Rattle.diagram.specs.Written.{place, numberOf}
-use Rattle.stage_writer.proofs.Keys.{has-place}
+use Rattle.diagram.specs.Written.{nodeNumber, numberOf}
+use Rattle.stage_writer.proofs.Keys.{has-number}
 
 -- the reduced tree of a table of w inputs by the trees of the table's halves
 abbrev byHalves : (ℕ → Tree) → ℕ → ℕ → ℕ → Tree
@@ -39,7 +39,7 @@ abbrev numberBy : (ℕ → ℕ) → ℕ → ℕ → ℕ → ℕ
 numberBy number own a b = cond (eqb a b) (number a) own
 
 number-step : (ks : List Node) (w t : ℕ) → (w ≡ 0 → ⊥)
-    → numberOf ks w t ≡ numberBy (numberOf ks (w - 1)) (place ks (node (w - 1) t)) (t % 2 ^ (2 ^ (w - 1))) (t / 2 ^ (2 ^ (w - 1)))
+    → numberOf ks w t ≡ numberBy (numberOf ks (w - 1)) (nodeNumber ks (node (w - 1) t)) (t % 2 ^ (2 ^ (w - 1))) (t / 2 ^ (2 ^ (w - 1)))
 unfolding numberOf low high
 number-step ks zero t h = absurd (h refl)
 number-step ks (suc v) t h = let d : suc v - 1 ≡ v = omega arith in simp d
@@ -78,15 +78,15 @@ module _ (w t half : ℕ) (h : w ≡ 0 → ⊥) (e : half ≡ 2 ^ (2 ^ (w - 1)))
     listing-same q = simp (listing-step w t seen h, ← e, eq-eqb _ _ q)
 
     module _ (differ : t % half ≡ t / half → ⊥) where
-      pub listing-old : (place seen (node (w - 1) t) ≡ 0 → ⊥) → listing w t seen ≡ seen
-      listing-old q = simp (listing-step w t seen h, ← e, ne-eqb _ _ differ, has-place seen (node (w - 1) t), ne-eqb _ _ q)
+      pub listing-old : (nodeNumber seen (node (w - 1) t) ≡ 0 → ⊥) → listing w t seen ≡ seen
+      listing-old q = simp (listing-step w t seen h, ← e, ne-eqb _ _ differ, has-number seen (node (w - 1) t), ne-eqb _ _ q)
 
-      pub listing-new : place seen (node (w - 1) t) ≡ 0 → listing w t seen ≡ node (w - 1) t ∷ listing (w - 1) (t / half) (listing (w - 1) (t % half) seen)
-      listing-new q = simp (listing-step w t seen h, ← e, ne-eqb _ _ differ, has-place seen (node (w - 1) t), eq-eqb _ _ q)
+      pub listing-new : nodeNumber seen (node (w - 1) t) ≡ 0 → listing w t seen ≡ node (w - 1) t ∷ listing (w - 1) (t / half) (listing (w - 1) (t % half) seen)
+      listing-new q = simp (listing-step w t seen h, ← e, ne-eqb _ _ differ, has-number seen (node (w - 1) t), eq-eqb _ _ q)
 
   module _ (ks : List Node) where
     pub number-same : t % half ≡ t / half → numberOf ks w t ≡ numberOf ks (w - 1) (t % half)
     number-same q = simp (number-step ks w t h, ← e, eq-eqb _ _ q)
 
-    pub number-node : (t % half ≡ t / half → ⊥) → numberOf ks w t ≡ place ks (node (w - 1) t)
+    pub number-node : (t % half ≡ t / half → ⊥) → numberOf ks w t ≡ nodeNumber ks (node (w - 1) t)
     number-node q = simp (number-step ks w t h, ← e, ne-eqb _ _ q)

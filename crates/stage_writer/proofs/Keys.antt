@@ -15,7 +15,7 @@ use Rattle.base.proofs.Tests.{cond-has}
 use Rattle.table.specs.Inner.Ranks.{tableSpace}
 use Rattle.nodes.specs.Nodes.{Node, node, same, has}
 use Rattle.nodes.proofs.Lists.{same-eq, same-self}
-use Rattle.diagram.specs.Written.{place}
+use Rattle.diagram.specs.Written.{nodeNumber}
 use Rattle.stage_writer.specs.Inner.Keys.{nodeOf, nodesIn}
 
 -- a key stands for its node, and for no other
@@ -44,34 +44,34 @@ nodes-added keys k x h = rw (add-one k) (ap₂ _∷_ (ap nodeOf (getD-set-same k
 
 -- the latest key that is listed is the one that is looked for, or it is not
 module _ (keys : List ℕ) (key : ℕ) where
-  pub place-found : (left : ℕ) → 0 < left → getD keys (left - 1) 0 ≡ key → left - 1 + 2 ≡ place (nodesIn keys left) (nodeOf key)
-  unfolding nodesIn place
-  place-found zero h e = absurd (omega arith)
-  place-found (suc k) h e =
+  pub node-number-found : (left : ℕ) → 0 < left → getD keys (left - 1) 0 ≡ key → left - 1 + 2 ≡ nodeNumber (nodesIn keys left) (nodeOf key)
+  unfolding nodesIn nodeNumber
+  node-number-found zero h e = absurd (omega arith)
+  node-number-found (suc k) h e =
       let d : suc k - 1 ≡ k = omega arith in
       let f : getD keys k 0 ≡ key = rw d at e in
       cond-has (λ y. suc k - 1 + 2 ≡ y) (same (nodeOf key) (nodeOf (getD keys k 0)))
       (λ _. omega (arith, nodes-length keys k))
       (λ n. absurd (T-not (same (nodeOf key) (nodeOf (getD keys k 0))) n (rw f (same-self (nodeOf key)))))
 
-  pub place-before : (left : ℕ) → 0 < left → (getD keys (left - 1) 0 ≡ key → ⊥)
-      → place (nodesIn keys left) (nodeOf key) ≡ place (nodesIn keys (left - 1)) (nodeOf key)
-  unfolding nodesIn place
-  place-before zero h e = absurd (omega arith)
-  place-before (suc k) h e =
+  pub node-number-before : (left : ℕ) → 0 < left → (getD keys (left - 1) 0 ≡ key → ⊥)
+      → nodeNumber (nodesIn keys left) (nodeOf key) ≡ nodeNumber (nodesIn keys (left - 1)) (nodeOf key)
+  unfolding nodesIn nodeNumber
+  node-number-before zero h e = absurd (omega arith)
+  node-number-before (suc k) h e =
       let d : suc k - 1 ≡ k = omega arith in
       let f : getD keys k 0 ≡ key → ⊥ = rw d at e in
       rw d
-      (cond-has (λ y. y ≡ place (nodesIn keys k) (nodeOf key)) (same (nodeOf key) (nodeOf (getD keys k 0)))
+      (cond-has (λ y. y ≡ nodeNumber (nodesIn keys k) (nodeOf key)) (same (nodeOf key) (nodeOf (getD keys k 0)))
       (λ s. absurd (f (sym (same-key key (getD keys k 0) (same-eq (nodeOf key) (nodeOf (getD keys k 0)) s)))))
       (λ _. refl))
 
 -- a node is listed if it has a number
-pub has-place : (ks : List Node) (k : Node) → has ks k ≡ not (eqb (place ks k) 0)
-unfolding has place
-has-place [] k = refl
-has-place (x ∷ xs) k = by (same k x) (has-place xs k)
+pub has-number : (ks : List Node) (k : Node) → has ks k ≡ not (eqb (nodeNumber ks k) 0)
+unfolding has nodeNumber
+has-number [] k = refl
+has-number (x ∷ xs) k = by (same k x) (has-number xs k)
   where
-    by : (b : Bool) → has xs k ≡ not (eqb (place xs k) 0) → (b || has xs k) ≡ not (eqb (cond b (length xs + 2) (place xs k)) 0)
+    by : (b : Bool) → has xs k ≡ not (eqb (nodeNumber xs k) 0) → (b || has xs k) ≡ not (eqb (cond b (length xs + 2) (nodeNumber xs k)) 0)
     by true e = let d : length xs + 2 ≡ 0 → ⊥ = λ q. absurd (omega arith) in simp (ne-eqb _ _ d)
     by false e = e

@@ -13,7 +13,7 @@ ghost use lib.ListN.{length, getD};
 ghost use Rattle.sheet.specs.Limits.{maxInputs, maxPatterns};
 ghost use Rattle.nodes.specs.Nodes.{node, listing};
 ghost use Rattle.diagram.specs.Bytes.{entryBytes, entriesBytes, diagramWireBytes, longestShared};
-ghost use Rattle.diagram.specs.Written.{place, numberOf, entryOf, entriesOf, reducedDiagram};
+ghost use Rattle.diagram.specs.Written.{nodeNumber, numberOf, entryOf, entriesOf, reducedDiagram};
 ghost use Rattle.base.specs.Inner.Put.{Put};
 ghost use Rattle.stage_writer.specs.Inner.Keys.{mostNodes, nodeOf, nodesIn, Listed, Added, Keyed};
 
@@ -28,9 +28,9 @@ fn key_of(after: u8, table: u16) -> u32
 }
 
 // The number of a listed node; 0, which is a constant's and no node's, where it is not listed.
-fn place_of(keys: &[u32; MOST_NODES], count: u8, key: u32) -> u8
+fn node_number(keys: &[u32; MOST_NODES], count: u8, key: u32) -> u8
     requires { ⌜ count ≤ mostNodes ⌝ }
-    ensures { λ r. ⌜ r ≡ place (nodesIn (now (keys .entry)) count) (nodeOf key) ⌝ }
+    ensures { λ r. ⌜ r ≡ nodeNumber (nodesIn (now (keys .entry)) count) (nodeOf key) ⌝ }
 {
     let mut left = count;
     while 0 < left {
@@ -68,7 +68,7 @@ fn list_nodes(keys: &mut [u32; MOST_NODES], count: u8, w: u8, t: u16) -> u8
         return list_nodes(keys, count, v, low);
     }
     let key = key_of(v, t);
-    if place_of(keys, count, key) != 0 {
+    if node_number(keys, count, key) != 0 {
         return count;
     }
     let with_low = list_nodes(keys, count, v, low);
@@ -97,7 +97,7 @@ fn number_of(keys: &[u32; MOST_NODES], count: u8, w: u8, t: u16) -> u8
         let half = half_of(after);
         let low = part % half;
         if low != part / half {
-            return place_of(keys, count, key_of(after, part));
+            return node_number(keys, count, key_of(after, part));
         }
         left = after;
         part = low;

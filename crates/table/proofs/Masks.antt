@@ -74,6 +74,13 @@ pub pick-some : (key : ℕ → ℕ) (n zeros ones : ℕ) → Covered n zeros one
 unfolding pickOf
 pick-some key n zeros ones h = least-some key n (masked zeros ones) (λ p l. masked-has zeros ones p (h p l))
 
+-- and it is the least table between them
+pub pickOf-least : (key : ℕ → ℕ) (n zeros ones : ℕ) → Covered n zeros ones
+    → Least key (suits n (masked zeros ones)) (2 ^ (2 ^ n)) (some (pickOf key n zeros ones))
+unfolding leastOf
+pickOf-least key n zeros ones h =
+    subst (Least key (suits n (masked zeros ones)) (2 ^ (2 ^ n))) (pick-some key n zeros ones h) (least-is key (suits n (masked zeros ones)) (2 ^ (2 ^ n)))
+
 -- the projection tells the same where the masks have the same bits
 pub mask-cong : (z o y n p q v : ℕ) → bit z p ≡ bit y q → bit o p ≡ bit n q → masked z o p v ≡ masked y n q v
 unfolding masked

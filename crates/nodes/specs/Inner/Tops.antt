@@ -14,15 +14,15 @@ use Rattle.table.specs.Inner.Blocks.{threeSpace, noEntry}
 use Rattle.nodes.specs.Nodes.{node, price}
 
 -- what a quarter, a table of two inputs, counts for by the selector on the first of them, where it needs that one
-unfoldable pub top : ℕ → ℕ
-top x = cond (eqb (low 1 x) (high 1 x)) 0 (price (node 1 x))
+unfoldable pub topPrice : ℕ → ℕ
+topPrice x = cond (eqb (low 1 x) (high 1 x)) 0 (price (node 1 x))
 
 -- the top node, then the quarter twice side by side
-unfoldable pub topOf : Option ℕ → ℕ
-topOf none = noEntry
-topOf (some x) = top x * threeSpace + x * (blockSpace + 1)
+unfoldable pub topEntry : Option ℕ → ℕ
+topEntry none = noEntry
+topEntry (some x) = topPrice x * threeSpace + x * (blockSpace + 1)
 
 -- the entry of two masks stands at the place zeros * blockSpace + ones
 pub record Tops (e : List ℕ) : Type 0 where
   pub entry : (zeros ones : ℕ) → zeros < blockSpace → ones < blockSpace
-      → getD e (zeros * blockSpace + ones) 0 ≡ topOf (leastOf top 2 (masked zeros ones))
+      → getD e (zeros * blockSpace + ones) 0 ≡ topEntry (leastOf topPrice 2 (masked zeros ones))

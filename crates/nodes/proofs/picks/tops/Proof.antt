@@ -15,28 +15,28 @@ use Rattle.table.specs.Inner.Ranks.{masked}
 use Rattle.table.specs.Inner.Pairs.{blockSpace}
 use Rattle.table.specs.Inner.Blocks.{entries}
 use Rattle.nodes.specs.Nodes.{price}
-use Rattle.nodes.specs.Inner.Tops.{top, topOf, Tops}
+use Rattle.nodes.specs.Inner.Tops.{topPrice, topEntry, Tops}
 use Rattle.nodes.proofs.picks.tops.Statement.{statement}
 use Rattle.nodes.proofs.picks.tops.Tie as tie
 
-entryOf : ℕ → ℕ → ℕ
-entryOf zeros ones = topOf (leastOf top 2 (masked zeros ones))
+bestEntry : ℕ → ℕ → ℕ
+bestEntry zeros ones = topEntry (leastOf topPrice 2 (masked zeros ones))
 
 right : ℕ → ℕ → Bool
-right k x = eqb x (entryOf (k / blockSpace) (k % blockSpace))
+right k x = eqb x (bestEntry (k / blockSpace) (k % blockSpace))
 
 tested : (table : List ℕ) → length table ≡ entries → T (every right 0 table) → Tops table
-unfolding right entryOf
+unfolding right bestEntry
 tested table long t =
     record {
       entry = λ zeros ones lz lo.
           let k = zeros * blockSpace + ones in
-          eqb→eq (getD table k 0) (entryOf (k / blockSpace) (k % blockSpace)) (at right table t k (omega arith))
-          ∙ ap₂ entryOf (digits-div zeros lo) (digits-mod zeros lo);
+          eqb→eq (getD table k 0) (bestEntry (k / blockSpace) (k % blockSpace)) (at right table t k (omega arith))
+          ∙ ap₂ bestEntry (digits-div zeros lo) (digits-mod zeros lo);
     }
 
 returns : tie.Need-returns
-unfolding right entryOf top topOf price leastOf least nearer suits masked all bit low high
+unfolding right bestEntry topPrice topEntry price leastOf least nearer suits masked all bit low high
 returns c = tested _ refl tt
 
 pub tops-spec : {M : Type 1} → statement M

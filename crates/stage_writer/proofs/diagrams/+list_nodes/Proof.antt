@@ -10,7 +10,7 @@ use Rattle.stage_writer.proofs.Listing.{halves, listed-constant, listed
 use Rattle.stage_writer.proofs.common.half_of.Reads as half-of-reads
 use Rattle.stage_writer.proofs.diagrams.add_node.Reads as add-node-reads
 use Rattle.stage_writer.proofs.diagrams.key_of.Reads as key-of-reads
-use Rattle.stage_writer.proofs.diagrams.place_of.Reads as place-of-reads
+use Rattle.stage_writer.proofs.diagrams.node_number.Reads as node-number-reads
 use Rattle.stage_writer.proofs.diagrams.list_nodes.Reads as list-nodes
 use Rattle.stage_writer.proofs.diagrams.list_nodes.Kinds as kinds
 use Rattle.stage_writer.proofs.diagrams.+list_nodes.Lts-list_nodes as lts
@@ -36,8 +36,8 @@ module _ (t : ℕ) where
     list-nodes.Post,
     key-of-reads.Asked,
     key-of-reads.Learnt,
-    place-of-reads.Asked,
-    place-of-reads.Learnt,
+    node-number-reads.Asked,
+    node-number-reads.Learnt,
     add-node-reads.Asked,
     add-node-reads.Learnt,
   )
@@ -82,8 +82,8 @@ module _ (t : ℕ) where
   key-of-requires : Of lts.Need-key-of-requires
   key-of-requires c κs = search needs
 
-  place-of-requires : Of lts.Need-place-of-requires
-  place-of-requires c κs = omega (arith, pow-pos (c .before .before .before .before .before .args .w))
+  node-number-requires : Of lts.Need-node-number-requires
+  node-number-requires c κs = omega (arith, pow-pos (c .before .before .before .before .before .args .w))
 
   returns-3 : Of lts.Need-returns-3
   returns-3 c =
@@ -93,8 +93,8 @@ module _ (t : ℕ) where
       let h = e .before in
       let s = h .before .before in
       let a = s .args in
-      listed-old (a .w) (a .t) _ (h .before .if1 .left) (h .half-of .ensures) (a .keys .now) (a .count) (e .if2 .left) (k .key-of .result) (p .place-of .result)
-      (k .key-of .ensures) (p .place-of .ensures) (c .if3 .taken) (s .pre .1 .2)
+      listed-old (a .w) (a .t) _ (h .before .if1 .left) (h .half-of .ensures) (a .keys .now) (a .count) (e .if2 .left) (k .key-of .result) (p .node-number .result)
+      (k .key-of .ensures) (p .node-number .ensures) (c .if3 .taken) (s .pre .1 .2)
 
   list-nodes-requires-2 : Of lts.Need-list-nodes-requires-2
   list-nodes-requires-2 c κs =
@@ -124,8 +124,8 @@ module _ (t : ℕ) where
       let e = k .before in
       let h = e .before in
       let a = h .before .before .args in
-      listed-new (a .w) (a .t) _ (h .before .if1 .left) (h .half-of .ensures) (a .keys .now) (a .count) (e .if2 .left) (k .key-of .result) (p .place-of .result)
-      (k .key-of .ensures) (p .place-of .ensures) _ _ _ _ _ _ (i .if3 .left) (z .list-nodes2 .ensures) (o .list-nodes3 .ensures) (c .add-node .ensures)
+      listed-new (a .w) (a .t) _ (h .before .if1 .left) (h .half-of .ensures) (a .keys .now) (a .count) (e .if2 .left) (k .key-of .result) (p .node-number .result)
+      (k .key-of .ensures) (p .node-number .ensures) _ _ _ _ _ _ (i .if3 .left) (z .list-nodes2 .ensures) (o .list-nodes3 .ensures) (c .add-node .ensures)
 
   pub meets : {M : Type 1} → lts.Closed claims here list-nodes.Post M
   meets =
@@ -141,7 +141,7 @@ module _ (t : ℕ) where
       list-nodes-requires
       returns-2
       key-of-requires
-      place-of-requires
+      node-number-requires
       returns-3
       list-nodes-requires-2
       list-nodes-requires-3

@@ -4,7 +4,7 @@ use mathlib.Core.Path.{_≡_, refl, sym, ap, _∙_}
 use native.Mathlib.Omega.{arith}
 use borrow.Author.Needs.{needs}
 use lib.Pow.{pow-pos}
-use Rattle.diagram.specs.Written.{place, numberOf}
+use Rattle.diagram.specs.Written.{nodeNumber, numberOf}
 use Rattle.stage_writer.specs.Inner.Keys.{nodesIn}
 use Rattle.stage_writer.proofs.Halves.{low-fits, number-same, number-node}
 use Rattle.stage_writer.proofs.diagrams.number_of.Statement.{statement}
@@ -35,8 +35,8 @@ div-if1 c = rw (c .half-of .ensures) (pow-pos _)
 key-of-requires : tie.Need-key-of-requires Inv-loop μ-loop
 key-of-requires c κs = search needs
 
-place-of-requires : tie.Need-place-of-requires Inv-loop μ-loop
-place-of-requires c κs = omega arith
+node-number-requires : tie.Need-node-number-requires Inv-loop μ-loop
+node-number-requires c κs = omega arith
 
 returns : tie.Need-returns Inv-loop μ-loop
 returns c =
@@ -45,7 +45,7 @@ returns c =
     let l = h .before .before .loop in
     let a = h .before .before .before .args in
     let ks = nodesIn (a .keys .now) (a .count) in
-    c .place-of .ensures ∙ ap (place ks) (k .key-of .ensures)
+    c .node-number .ensures ∙ ap (nodeNumber ks) (k .key-of .ensures)
     ∙ sym (number-node (l .left) (l .part) _ (λ z. absurd (omega arith)) (h .half-of .ensures) ks (k .before .if1 .taken))
     ∙ l .inv .2
 
@@ -88,7 +88,7 @@ number-of-spec =
     rem-low
     div-if1
     key-of-requires
-    place-of-requires
+    node-number-requires
     returns
     loop-less
     loop-again

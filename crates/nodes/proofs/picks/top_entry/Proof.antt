@@ -1,9 +1,9 @@
--- `entry` meets its contract: the table has it at its place.
+-- `top_entry` meets its contract: the table has it at its place.
 use native.Mathlib.Omega.{arith}
 use Rattle.nodes.proofs.TopEntries.{entry-at}
 use borrow.Author.Needs.{needs}
-use Rattle.nodes.proofs.picks.entry.Statement.{statement}
-use Rattle.nodes.proofs.picks.entry.Tie as tie
+use Rattle.nodes.proofs.picks.top_entry.Statement.{statement}
+use Rattle.nodes.proofs.picks.top_entry.Tie as tie
 
 cast-result : tie.Need-cast-result
 cast-result c = search needs
@@ -20,6 +20,6 @@ cast-result-2 c = omega (arith, entry-at (c .before .pre) (c .before .args .at) 
 returns : tie.Need-returns
 returns c = entry-at (c .before .pre) (c .before .args .at)
 
-pub entry-spec : {M : Type 1} → statement M
-entry-spec =
+pub top-entry-spec : {M : Type 1} → statement M
+top-entry-spec =
     tie.close (tie.spec cast-result mul-result element-copy-out-result cast-result-2 returns)

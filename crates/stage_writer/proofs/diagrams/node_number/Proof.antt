@@ -1,15 +1,15 @@
--- `place_of` meets its contract. The loop's invariant: among the nodes that are left the node has the same number.
+-- `node_number` meets its contract. The loop's invariant: among the nodes that are left the node has the same number.
 use Prim.Native.Nat.{_≤_}
 use mathlib.Core.Path.{_≡_, refl, sym, _∙_}
 use native.Mathlib.Omega.{arith}
-use Rattle.diagram.specs.Written.{place}
+use Rattle.diagram.specs.Written.{nodeNumber}
 use Rattle.stage_writer.specs.Inner.Keys.{nodeOf, nodesIn}
-use Rattle.stage_writer.proofs.Keys.{place-found, place-before}
-use Rattle.stage_writer.proofs.diagrams.place_of.Statement.{statement}
-use Rattle.stage_writer.proofs.diagrams.place_of.Tie as tie
+use Rattle.stage_writer.proofs.Keys.{node-number-found, node-number-before}
+use Rattle.stage_writer.proofs.diagrams.node_number.Statement.{statement}
+use Rattle.stage_writer.proofs.diagrams.node_number.Tie as tie
 
 abbrev Inv-loop : tie.InvT-loop
-Inv-loop keys count key left₀ left = (left ≤ count) × (place (nodesIn keys left) (nodeOf key) ≡ place (nodesIn keys count) (nodeOf key))
+Inv-loop keys count key left₀ left = (left ≤ count) × (nodeNumber (nodesIn keys left) (nodeOf key) ≡ nodeNumber (nodesIn keys count) (nodeOf key))
 
 abbrev μ-loop : tie.MeasureT-loop
 μ-loop keys count key left₀ left = left
@@ -36,7 +36,7 @@ returns : tie.Need-returns Inv-loop μ-loop
 returns c =
     let l = c .before .before .before .loop in
     let a = c .before .before .before .before .args in
-    place-found (a .keys .now) (a .key) (l .left) (c .before .before .loop-test .taken) (c .if1 .taken) ∙ l .inv .1
+    node-number-found (a .keys .now) (a .key) (l .left) (c .before .before .loop-test .taken) (c .if1 .taken) ∙ l .inv .1
 
 loop-less : tie.Need-loop-less Inv-loop μ-loop
 loop-less c = omega arith
@@ -45,17 +45,17 @@ loop-again : tie.Need-loop-again Inv-loop μ-loop
 loop-again c =
     let l = c .before .before .before .loop in
     let a = c .before .before .before .before .args in
-    (omega arith, sym (place-before (a .keys .now) (a .key) (l .left) (c .before .before .loop-test .taken) (c .if1 .left)) ∙ l .inv .1)
+    (omega arith, sym (node-number-before (a .keys .now) (a .key) (l .left) (c .before .before .loop-test .taken) (c .if1 .left)) ∙ l .inv .1)
 
 returns-2 : tie.Need-returns-2 Inv-loop μ-loop
-unfolding place nodesIn
+unfolding nodeNumber nodesIn
 returns-2 c =
     let l = c .before .loop in
     let z : l .left ≡ 0 = omega arith in
     rw z at (l .inv .1)
 
-pub place-of-spec : {M : Type 1} → statement M
-place-of-spec =
+pub node-number-spec : {M : Type 1} → statement M
+node-number-spec =
     tie.close
     (tie.spec
     Inv-loop
