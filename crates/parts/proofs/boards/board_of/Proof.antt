@@ -1,4 +1,6 @@
 -- `board_of` meets its contract: the number of each kind.
+use mathlib.Core.Path.{sym, ap}
+use Rattle.table.specs.declared.BoardKind.{BoardKind}
 use Rattle.parts.specs.Inner.Boards.{boardNumber}
 use borrow.Author.Needs.{needs}
 use Rattle.parts.proofs.boards.board_of.Statement.{statement}
@@ -15,11 +17,11 @@ add-result c = search needs
 
 returns : tie.Need-returns
 unfolding boardNumber
-returns c = rw (c .enum-told .given .1)
+returns c = sym (ap (λ (kind : BoardKind). boardNumber kind (c .before .before .args .n)) (c .enum-told .given .1))
 
 returns-2 : tie.Need-returns-2
 unfolding boardNumber
-returns-2 c = rw (c .enum-told2 .given .1)
+returns-2 c = sym (ap (λ (kind : BoardKind). boardNumber kind (c .before .before .args .n)) (c .enum-told2 .given .1))
 
 pub board-of-spec : {M : Type 1} → statement M
 board-of-spec = tie.close (tie.spec enum-told enum-told-2 add-result returns returns-2)
