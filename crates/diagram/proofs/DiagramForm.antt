@@ -1,7 +1,7 @@
 -- Diagrams are a form: their wires are read as they are written, and nodes are fair to them. Their stages' lengths.
 use Prim.Native.Nat.{ℕ, _+_, _*_, _^_, _-_, _<_, _≤_}
 use mathlib.Core.Path.{_≡_, refl, sym}
-use mathlib.Core.List.{List}
+use mathlib.Core.List.{List, []}
 use native.Mathlib.Omega.{arith}
 use lib.ListN.{length, take}
 use Rattle.sheet.specs.Limits.{maxInputs, maxWires, maxPatterns}
@@ -9,18 +9,19 @@ use Rattle.table.specs.Cells.{wires, total}
 use Rattle.table.specs.Drawing.{got, drawnTable}
 use Rattle.table.specs.Inner.Drawing.{FairCount}
 use Rattle.table.proofs.Bits.{ofBits-lt, bit-ofBits}
-use Rattle.nodes.specs.Nodes.{nodes}
+use Rattle.nodes.specs.Nodes.{listing, nodes}
+use Rattle.stage.specs.TreeBytes.{sheetFrame, selectorBytes}
 use Rattle.stage.specs.Written.{stageOf}
 use Rattle.stage.specs.Inner.Laws.{FormLaws}
 use Rattle.stage.proofs.Lengths.{sheet-length, sheet-length-most}
 use Rattle.stage.proofs.Prefix.{none-longer as sheet-none-longer, front-tells as sheet-front}
 use Rattle.diagram.specs.Diagram.{Diagram, mostEntries, followDiagram}
-use Rattle.diagram.specs.Bytes.{longestShared, longestDiagrams}
+use Rattle.diagram.specs.Bytes.{diagramFrame, longestShared, longestDiagrams}
 use Rattle.diagram.specs.Written.{reducedDiagram}
 use Rattle.diagram.specs.Diagrams.{diagramForm, diagramDrawing, readDiagrams}
 use Rattle.diagram.proofs.Entries.{diagram-drives}
 use Rattle.diagram.proofs.Least.{least-diagram}
-use Rattle.diagram.proofs.Reduced.{reduced-few, reduced-formed, reduced-means, reduced-cells, reduced-entries}
+use Rattle.diagram.proofs.Reduced.{reduced-few, reduced-formed, reduced-means, reduced-cells, reduced-entries, entries-length}
 use Rattle.diagram.proofs.Reading.{wire-length, wire-told, wire-back, wire-more}
 
 -- nodes are fair to diagrams: none of a function has fewer cells, and the one that is written has as many
@@ -43,7 +44,7 @@ unfoldable pub diagram-laws : FormLaws diagramForm
 unfolding diagram-counts
 diagram-laws =
     record {
-      frame = 4;
+      frame = diagramFrame;
       selectors = λ d. length (d .entries);
       wire-length = wire-length;
       most = mostEntries;
@@ -64,11 +65,11 @@ pub front-tells : (s : List ℕ) (k : ℕ) → longestDiagrams < k → readDiagr
 unfolding diagram-laws
 front-tells s k h = sheet-front diagramForm diagram-laws s k h
 
--- the length of a stage that is written, by its wires and nodes, and its bound
+-- the length of a stage that is written, by its wires and entries, one for each node that is listed; and its bound
 pub stage-length : (n m : ℕ) (tables : List ℕ) → m ≤ length tables
-    → length (stageOf diagramForm n m tables) ≡ 4 + 4 * m + 3 * total (nodes n) m (wires tables)
-unfolding diagram-laws
-stage-length n m tables h = sheet-length diagramForm diagram-laws n (nodes n) (reduced-entries n) m tables h
+    → length (stageOf diagramForm n m tables) ≡ sheetFrame + diagramFrame * m + selectorBytes * total (λ t. length (listing n t [])) m (wires tables)
+unfolding diagram-laws reducedDiagram
+stage-length n m tables h = sheet-length diagramForm diagram-laws n (λ t. length (listing n t [])) (λ t. entries-length n (listing n t [])) m tables h
 
 pub stage-length-most : (n m : ℕ) (tables : List ℕ) → m ≤ length tables → n ≤ maxInputs → m ≤ maxWires
     → length (stageOf diagramForm n m tables) ≤ longestShared

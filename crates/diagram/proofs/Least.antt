@@ -20,11 +20,11 @@ use Rattle.diagram.specs.Diagram.{Entry, Diagram, nextNumber, followDiag
 use Rattle.diagram.proofs.Entries.{treeOf, follow-tree, diagram-ordered}
 
 -- the node that a selector on input i stands for, told by what its tree means
-unfoldable nodeOf : ℕ → ℕ → Tree → Node
-nodeOf n i x = node (n - i) (ofBits (2 ^ suc (n - i)) (λ p. follow n p x))
+unfoldable treeNode : ℕ → ℕ → Tree → Node
+treeNode n i x = node (n - i) (ofBits (2 ^ suc (n - i)) (λ p. follow n p x))
 
-node-means : (n k r : ℕ) (x : Tree) (t : ℕ) → k + suc r ≡ n → t < 2 ^ (2 ^ suc r) → Means n (suc r) x t → nodeOf n (suc k) x ≡ node r t
-unfolding nodeOf ofBits
+node-means : (n k r : ℕ) (x : Tree) (t : ℕ) → k + suc r ≡ n → t < 2 ^ (2 ^ suc r) → Means n (suc r) x t → treeNode n (suc k) x ≡ node r t
+unfolding treeNode ofBits
 node-means n k r x t at lt mx =
     let w : n - suc k ≡ r = omega arith in
     let e : ofBits (2 ^ suc r) (λ p. follow n p x) ≡ ofBits (2 ^ suc r) (bit t) =
@@ -34,16 +34,16 @@ node-means n k r x t at lt mx =
 -- the list has what the selectors of a tree stand for
 Held : ℕ → List Node → Tree → Type 0
 Held n ks (con b) = Unit {0}
-Held n ks (sel i z o) = T (has ks (nodeOf n i (sel i z o))) × Held n ks z × Held n ks o
+Held n ks (sel i z o) = T (has ks (treeNode n i (sel i z o))) × Held n ks z × Held n ks o
 
 held-later : (n : ℕ) (k : Node) (ks : List Node) (x : Tree) → Held n ks x → Held n (k ∷ ks) x
 unfolding Held
 held-later n k ks (con b) h = tt
-held-later n k ks (sel i z o) h = (has-later k (nodeOf n i (sel i z o)) ks (h .0), held-later n k ks z (h .1), held-later n k ks o (h .2))
+held-later n k ks (sel i z o) h = (has-later k (treeNode n i (sel i z o)) ks (h .0), held-later n k ks z (h .1), held-later n k ks o (h .2))
 
 -- what an entry stands for after those before it, and what all entries do
 abbrev standsFor : ℕ → List Entry → Entry → Node
-standsFor n before e = nodeOf n (e .input) (sel (e .input) (treeOf before (e .onZero)) (treeOf before (e .onOne)))
+standsFor n before e = treeNode n (e .input) (sel (e .input) (treeOf before (e .onZero)) (treeOf before (e .onOne)))
 
 nodesOf : ℕ → List Entry → List Node
 nodesOf n [] = []

@@ -5,4 +5,3 @@ pub mod Reduced
 pub mod Reading
 pub mod DiagramForm
 pub mod Forms
-pub mod Parts

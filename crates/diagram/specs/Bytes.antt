@@ -3,7 +3,7 @@ use Prim.Native.Nat.{ℕ, _+_, _*_}
 use mathlib.Core.List.{List, [], _∷_, _++_}
 use lib.ListN.{length}
 use Rattle.sheet.specs.Limits.{maxWires}
-use Rattle.stage.specs.TreeBytes.{mostCells}
+use Rattle.stage.specs.TreeBytes.{sheetFrame, selectorBytes, mostCells}
 use Rattle.diagram.specs.Diagram.{Entry, Diagram, mostEntries}
 
 abbrev pub entryBytes : Entry → List ℕ
@@ -18,10 +18,14 @@ entriesBytes (e ∷ before) = entriesBytes before ++ entryBytes e
 unfoldable pub diagramWireBytes : ℕ → Diagram → List ℕ
 diagramWireBytes j d = 0x26 ∷ j ∷ length (d .entries) ∷ entriesBytes (d .entries) ++ d .top ∷ []
 
+-- what a diagram takes besides its entries
+abbrev pub diagramFrame : ℕ
+diagramFrame = 4
+
 -- no stage that is written is longer: a table has fewer nodes than there are patterns
 abbrev pub longestShared : ℕ
-longestShared = 4 + 4 * maxWires + 3 * mostCells
+longestShared = sheetFrame + diagramFrame * maxWires + selectorBytes * mostCells
 
 -- the length of the longest stage sheet that is accepted
 abbrev pub longestDiagrams : ℕ
-longestDiagrams = 4 + 4 * maxWires + 3 * maxWires * mostEntries
+longestDiagrams = sheetFrame + diagramFrame * maxWires + selectorBytes * maxWires * mostEntries

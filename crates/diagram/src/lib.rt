@@ -2,6 +2,8 @@
 // `stage_writer` have the code.
 use sheet::Sheet;
 use stage::MOST_CELLS;
+use stage::SELECTOR_BYTES;
+use stage::SHEET_FRAME;
 
 // Numbers 0 and 1 are the constants, and the entries have those after them.
 pub const FIRST_NUMBER: u8 = 2;
@@ -9,8 +11,15 @@ pub const FIRST_NUMBER: u8 = 2;
 // A wire has no more entries: their numbers are bytes.
 pub const MOST_ENTRIES: usize = 253;
 
+// What a diagram takes besides its entries: 26, the wire's number, how many entries it has, and the top.
+pub const DIAGRAM_FRAME: usize = 4;
+
 // No sharing stage that is written has more bytes: a table has fewer nodes than there are patterns.
-pub const LONGEST_SHARED: usize = 4 + 4 * Sheet::WIRES + 3 * MOST_CELLS;
+pub const LONGEST_SHARED: usize = SHEET_FRAME
+    + DIAGRAM_FRAME * Sheet::WIRES
+    + SELECTOR_BYTES * MOST_CELLS;
 
 // No sharing stage sheet that is accepted has more bytes, whoever wrote it.
-pub const LONGEST_DIAGRAMS: usize = 4 + 4 * Sheet::WIRES + 3 * Sheet::WIRES * MOST_ENTRIES;
+pub const LONGEST_DIAGRAMS: usize = SHEET_FRAME
+    + DIAGRAM_FRAME * Sheet::WIRES
+    + SELECTOR_BYTES * Sheet::WIRES * MOST_ENTRIES;

@@ -2,13 +2,14 @@
 pub mod Lists
 pub mod Listing
 pub mod Held
+pub mod Subfunctions
 pub mod Halved
 pub mod Counts
 pub mod Gathered
 pub mod Quarters
 pub mod Framed
 pub mod OwnFrame
-pub mod TopEntries
+pub mod QuarterEntries
 pub mod Classes
 pub mod Sound
 pub mod Complete

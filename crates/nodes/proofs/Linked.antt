@@ -21,8 +21,8 @@ use Rattle.table.proofs.Masks.{mask-cong}
 use Rattle.table.proofs.Pairs.{Place, fromBlock, byte-place, first-place}
 use Rattle.table.proofs.Halving.{upper}
 use Rattle.nodes.specs.Nodes.{price}
-use Rattle.nodes.specs.Inner.Tops.{topPrice, topEntry}
-use Rattle.nodes.specs.Inner.Ways.{topEntryAt, classAt, places, together, classIn, bytesOf, halvesAlike, leastWay, allNodes, fromAbove, fromBelow, notEvenZeros, notOddZeros, noPlain, noInverted}
+use Rattle.nodes.specs.Inner.Tops.{topPrice, quarterEntry}
+use Rattle.nodes.specs.Inner.Ways.{quarterEntryAt, classAt, places, together, classIn, bytesOf, halvesAlike, leastWay, allNodes, fromAbove, fromBelow, notEvenZeros, notOddZeros, noPlain, noInverted}
 use Rattle.nodes.proofs.Quarters.{below4}
 use Rattle.nodes.proofs.Framed.{uses, within}
 use Rattle.nodes.proofs.Classes.{stands, ok, shown, classValue}
@@ -104,7 +104,7 @@ module _ (w : ℕ) where
 
 -- the entry of a quarter of a byte, of those that pass a test
 bestEntry : (ℕ → Bool) → ℕ
-bestEntry f = topEntry (least topPrice f blockSpace)
+bestEntry f = quarterEntry (least topPrice f blockSpace)
 
 -- a byte restricted has the entry of the byte where some literals of the last input may not occur: tested for every byte
 unfoldable agrees : (ℕ → ℕ) → (inverted plain : Bool) → Bool
@@ -117,15 +117,15 @@ abbrev noInvertedByte : ℕ → ℕ
 noInvertedByte at = noInverted at % entries
 
 plain-agrees : T (agrees noPlainByte true false)
-unfolding agrees bestEntry fitAt within uses topPrice topEntry price least nearer suits masked all bit low high
+unfolding agrees bestEntry fitAt within uses topPrice quarterEntry price least nearer suits masked all bit low high
 plain-agrees = tt
 
 inverted-agrees : T (agrees noInvertedByte false true)
-unfolding agrees bestEntry fitAt within uses topPrice topEntry price least nearer suits masked all bit low high
+unfolding agrees bestEntry fitAt within uses topPrice quarterEntry price least nearer suits masked all bit low high
 inverted-agrees = tt
 
 none-agrees : T (agrees (λ at. noPlainByte (noInvertedByte at)) false false)
-unfolding agrees bestEntry fitAt within uses topPrice topEntry price least nearer suits masked all bit low high
+unfolding agrees bestEntry fitAt within uses topPrice quarterEntry price least nearer suits masked all bit low high
 none-agrees = tt
 
 both-agrees : T (agrees (λ at. at) true true)
@@ -140,17 +140,17 @@ classOf x m = bitAnd (x * threeSpace + x % threeSpace) (allNodes + m * 15)
 
 unfoldable cuts : ℕ → Bool
 cuts m =
-    eqb (classOf (topEntry none) m) (shown none m) && all blockSpace (λ x. eqb (classOf (topEntry (some x)) m) (shown (some x) m))
+    eqb (classOf (quarterEntry none) m) (shown none m) && all blockSpace (λ x. eqb (classOf (quarterEntry (some x)) m) (shown (some x) m))
 
 cut : (f : ℕ → Bool) (m : ℕ) → T (cuts m) → classOf (bestEntry f) m ≡ shown (least topPrice f blockSpace) m
 unfolding cuts bestEntry
 cut f m t = go (least topPrice f blockSpace) (least-is topPrice f blockSpace)
   where
-    go : (o : Option ℕ) → Least topPrice f blockSpace o → classOf (topEntry o) m ≡ shown o m
-    go none h = eqb→eq (classOf (topEntry none) m) (shown none m) (and-left (eqb (classOf (topEntry none) m) (shown none m)) _ t)
+    go : (o : Option ℕ) → Least topPrice f blockSpace o → classOf (quarterEntry o) m ≡ shown o m
+    go none h = eqb→eq (classOf (quarterEntry none) m) (shown none m) (and-left (eqb (classOf (quarterEntry none) m) (shown none m)) _ t)
     go (some x) h =
-        eqb→eq (classOf (topEntry (some x)) m) (shown (some x) m)
-        (all-at blockSpace (λ x. eqb (classOf (topEntry (some x)) m) (shown (some x) m)) (and-right (eqb (classOf (topEntry none) m) (shown none m)) _ t) x (h .0))
+        eqb→eq (classOf (quarterEntry (some x)) m) (shown (some x) m)
+        (all-at blockSpace (λ x. eqb (classOf (quarterEntry (some x)) m) (shown (some x) m)) (and-right (eqb (classOf (quarterEntry none) m) (shown none m)) _ t) x (h .0))
 
 -- a class of quarters at places that can be cut out
 unfoldable isClass : List ℕ → Bool
@@ -162,7 +162,7 @@ module _ (w v : ℕ) (R : ℕ → ℕ) (i p : Bool) (agreed : T (agrees R i p)) 
 
   linked : ((j : ℕ) (js : List ℕ) → T (inFour (j ∷ js)) → together (bytesOf v) (j ∷ js) % entries ≡ R (together (bytesOf w) (j ∷ js) % entries))
       → (js : List ℕ) → T (isClass js) → classIn (bytesOf v) js ≡ classValue (fitIn Q) i p js
-  unfolding isClass agrees classAt topEntryAt leastOf bestEntry fitAt inFour
+  unfolding isClass agrees classAt quarterEntryAt leastOf bestEntry fitAt inFour
   linked e [] t = absurd (and-left false (cuts 0) t)
   linked e (j ∷ js) t =
       let f = and-left (inFour (j ∷ js)) (ltb 0 (places (j ∷ js))) (and-left (inFour (j ∷ js) && ltb 0 (places (j ∷ js))) (cuts (places (j ∷ js))) t) in
@@ -176,7 +176,7 @@ module _ (w v : ℕ) (R : ℕ → ℕ) (i p : Bool) (agreed : T (agrees R i p)) 
 
 -- functions that are alike on the fifteen classes have the same least way
 ways-alike : (F G : List ℕ → ℕ) → ((js : List ℕ) → T (isClass js) → F js ≡ G js) → leastWay F ≡ leastWay G
-unfolding leastWay isClass cuts inFour all shown topEntry topPrice price low high
+unfolding leastWay isClass cuts inFour all shown quarterEntry topPrice price low high
 ways-alike F G h =
     rw (
       h (0 ∷ []) tt,
@@ -197,7 +197,7 @@ ways-alike F G h =
     )
 
 halves-alike : (F G : List ℕ → ℕ) → ((js : List ℕ) → T (isClass js) → F js ≡ G js) → halvesAlike F ≡ halvesAlike G
-unfolding isClass cuts inFour all shown topEntry topPrice price low high
+unfolding isClass cuts inFour all shown quarterEntry topPrice price low high
 halves-alike F G h = rw (h (2 ∷ 0 ∷ []) tt, h (3 ∷ 1 ∷ []) tt, h (3 ∷ 2 ∷ 1 ∷ 0 ∷ []) tt)
 
 -- the four choices of literals

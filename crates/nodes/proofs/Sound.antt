@@ -23,7 +23,7 @@ use Rattle.nodes.specs.Inner.Tops.{topPrice}
 use Rattle.nodes.specs.Inner.Ways.{oneNode, places}
 use Rattle.nodes.proofs.Quarters.{quartersOf, partOf, suits-quarters, made, made-sum, made-lt, made-quarters}
 use Rattle.nodes.proofs.Framed.{apart, halfApart, may, uses, within, nodes-most}
-use Rattle.nodes.proofs.TopEntries.{top-price-le}
+use Rattle.nodes.proofs.QuarterEntries.{top-price-le}
 use Rattle.nodes.proofs.Classes.{members, stands, stands-all, ok, best, shown, classValue, value, exchange, sum-apart}
 
 -- a part of a sum

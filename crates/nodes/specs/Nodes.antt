@@ -23,7 +23,7 @@ has [] k = false
 has (x ∷ xs) k = same k x || has xs k
 
 -- What is listed once a table of so many inputs was visited, where `seen` was listed before; the latest stands first. A table whose halves are the same needs
--- no selector, and its half is visited in its place. Any other is listed once: at the end of its first visit, after what its half for 0 lists and then its half for 1.
+-- no selector, and its half is visited in its place. Any other is listed where it is not listed yet: behind all that its half for 0 lists, and then its half for 1.
 unfoldable pub listing : ℕ → ℕ → List Node → List Node
 listing zero t seen = seen
 listing (suc r) t seen =

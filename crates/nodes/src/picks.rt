@@ -22,7 +22,7 @@ ghost use Rattle.table.specs.Inner.Blocks.{noEntry, Covered};
 ghost use Rattle.table.specs.Inner.Pairs.{zerosIn, onesIn};
 ghost use Rattle.nodes.specs.Nodes.{nodes};
 ghost use Rattle.nodes.specs.Inner.Tops.{Tops};
-ghost use Rattle.nodes.specs.Inner.Ways.{topEntryAt, classAt, mostClass, allPlaces, apartAt, halfAt, classIn, four, halvesAlike, treeLike, threeAlike, crossedAlike, besideAlike, acrossAlike, leastWay, bytesOf, noPlain, noInverted, choiceCount, choiceOf};
+ghost use Rattle.nodes.specs.Inner.Ways.{quarterEntryAt, classAt, mostClass, allPlaces, apartAt, halfAt, classIn, four, halvesAlike, treeLike, threeAlike, crossedAlike, besideAlike, acrossAlike, leastWay, bytesOf, noPlain, noInverted, choiceCount, choiceOf};
 
 // The best quarter of each pair of masks, at zeros * BLOCK_SPACE + ones: THREE_SPACE where it needs a selector, and the quarter twice side by side.
 // Where some pattern is in no mask there is none: 64 selectors. What stands below a quarter is not counted.
@@ -330,9 +330,9 @@ pub fn tops() -> [u16; ENTRIES]
 }
 
 // The best quarter between the masks in the lowest byte of `at`: an entry of the table.
-fn top_entry(e: &[u16; ENTRIES], at: u32) -> u32
+fn quarter_entry(e: &[u16; ENTRIES], at: u32) -> u32
     requires { ⌜ Tops (now e) ⌝ }
-    ensures { λ r. ⌜ (r ≡ topEntryAt at) × (r ≤ noEntry) ⌝ }
+    ensures { λ r. ⌜ (r ≡ quarterEntryAt at) × (r ≤ noEntry) ⌝ }
 {
     e[(at % PLACES) as usize] as u32
 }
@@ -342,7 +342,7 @@ fn class(e: &[u16; ENTRIES], at: u32, places: u32) -> u32
     requires { ⌜ Tops (now e) × (places ≤ allPlaces) ⌝ }
     ensures { λ r. ⌜ (r ≡ classAt at places) × (r ≤ mostClass) ⌝ }
 {
-    let x = top_entry(e, at);
+    let x = quarter_entry(e, at);
     (x * THREE_SPACE + x % THREE_SPACE) & (NODES + places * DIGIT)
 }
 
@@ -481,14 +481,14 @@ fn pick4(e: &[u16; ENTRIES], pair: u32) -> u32
     let pairs = choices(pair);
     let costs = COSTS;
     let mut best = NO_PICK;
-    let mut floor: u32 = 0;
+    let mut enough: u32 = 0;
     for u in 0..CHOICES {
-        if best <= floor {
+        if best <= enough {
             return best;
         }
         let x = way(e, pairs[u as usize]);
         if u == 0 {
-            floor = x + NODE;
+            enough = x + NODE;
         }
         best = lesser(best, x + costs[u as usize]);
     }

@@ -1,4 +1,4 @@
-// The input: records that follow each other with nothing between. Each begins with a kind byte; numbers of more than one byte come low byte first.
+// The input: records that follow each other with nothing between. Each begins with a letter; numbers of more than one byte come low byte first.
 // Proved: each number, part and length is the one that the bytes say.
 // Inner functions: the main loop and the replies meet the bounds on places, which are there for the sums alone.
 use base::byte_at;
@@ -82,26 +82,26 @@ pub fn part(s: &[u8], from: usize, count: usize) -> &[u8]
 }
 
 // The call that a record is for, whichever the board: the records of the board that shares selectors have the small letters.
-pub fn call_of(kind: u8) -> u8
-    ensures { λ r. ⌜ r ≡ callOf kind ⌝ }
+pub fn call_of(letter: u8) -> u8
+    ensures { λ r. ⌜ r ≡ callOf letter ⌝ }
 {
-    match kind {
+    match letter {
         b'q' => b'Q',
         b'a' => b'A',
         b's' => b'S',
         b'w' => b'W',
         b'r' => b'R',
-        _ => kind,
+        _ => letter,
     }
 }
 
-// The bytes of the record at a place. An unknown kind byte is a record by itself.
+// The bytes of the record at a place. An unknown letter is a record by itself.
 pub fn record_length(s: &[u8], at: usize) -> usize
     requires { ⌜ at + longestRecord ≤ lastPlace ⌝ }
     ensures { λ r. ⌜ (r ≡ recordLength (now (s .entry)) at) × (1 ≤ r) × (r ≤ longestRecord) ⌝ }
 {
-    let kind = call_of(byte_at(s, at));
-    match kind {
+    let call = call_of(byte_at(s, at));
+    match call {
         b'Q' => 8 + length_at(s, at + 6),
         b'A' => 5 + length_at(s, at + 1) + length_at(s, at + 3),
         b'S' => SEARCH_RECORD,

@@ -19,7 +19,7 @@ use Rattle.table.specs.Inner.Drawing.{FairCount}
 use Rattle.table.proofs.Cells.{cells-lt}
 use Rattle.table.proofs.Trees.{follow-lt, least-tree, reduced-selectors, reduced-ordered, reduced-follow}
 use Rattle.stage.specs.Steps.{Read, taken, fault, dueNumber, due, operand}
-use Rattle.stage.specs.TreeBytes.{treeBytes, treeWireBytes, longestStage}
+use Rattle.stage.specs.TreeBytes.{treeBytes, treeWireBytes, sheetFrame, selectorBytes, treeFrame, longestStage}
 use Rattle.stage.specs.TreeRead.{treeKnown, treeAt, treeWireAt}
 use Rattle.stage.specs.Trees.{treeForm, treeDrawing, readStage}
 use Rattle.stage.specs.Written.{stageOf}
@@ -77,7 +77,7 @@ unfoldable pub tree-laws : FormLaws treeForm
 unfolding tree-counts
 tree-laws =
     record {
-      frame = 3;
+      frame = treeFrame;
       selectors = selectors;
       wire-length = λ j x. omega (arith, tree-length x);
       most = maxPatterns - 1;
@@ -102,11 +102,11 @@ pub front-tells : (s : List ℕ) (k : ℕ) → longestStage < k → readStage (t
 unfolding tree-laws
 front-tells s k h = sheet-front treeForm tree-laws s k h
 
--- the length of a stage by its wires and cells, and its bound
+-- the length of a stage by its wires and selectors, and its bound
 pub stage-length : (n m : ℕ) (tables : List ℕ) → m ≤ length tables
-    → length (stageOf treeForm n m tables) ≡ 4 + 3 * m + 3 * total (cells n) m (wires tables)
+    → length (stageOf treeForm n m tables) ≡ sheetFrame + treeFrame * m + selectorBytes * total (λ t. selectors (reduced n 0 t)) m (wires tables)
 unfolding tree-laws
-stage-length n m tables h = sheet-length treeForm tree-laws n (cells n) (λ t. reduced-selectors n 0 t) m tables h
+stage-length n m tables h = sheet-length treeForm tree-laws n (λ t. selectors (reduced n 0 t)) (λ t. refl) m tables h
 
 pub stage-length-most : (n m : ℕ) (tables : List ℕ) → m ≤ length tables → n ≤ maxInputs → m ≤ maxWires
     → length (stageOf treeForm n m tables) ≤ longestStage

@@ -19,10 +19,20 @@ treeBytes (sel k z o) = 0x22 ∷ k ∷ treeBytes z ++ treeBytes o
 abbrev pub treeWireBytes : ℕ → Tree → List ℕ
 treeWireBytes j x = 0x21 ∷ j ∷ treeBytes x
 
+-- what a sheet takes besides its wires, a selector on either board, and a tree besides its selectors
+abbrev pub sheetFrame : ℕ
+sheetFrame = 4
+
+abbrev pub selectorBytes : ℕ
+selectorBytes = 3
+
+abbrev pub treeFrame : ℕ
+treeFrame = 3
+
 -- no stage that is written has more selectors: a table needs fewer than it has patterns
 abbrev pub mostCells : ℕ
 mostCells = maxWires * (maxPatterns - 1)
 
 -- the length of the longest stage of trees
 abbrev pub longestStage : ℕ
-longestStage = 4 + 3 * maxWires + 3 * mostCells
+longestStage = sheetFrame + treeFrame * maxWires + selectorBytes * mostCells

@@ -2,8 +2,19 @@
 // `stage_writer` have the code.
 use sheet::Sheet;
 
+// What a sheet takes besides its wires: 20 and the sizes before them, and 2F after them.
+pub const SHEET_FRAME: usize = 4;
+
+// What a selector takes on either board.
+pub const SELECTOR_BYTES: usize = 3;
+
+// What a tree takes besides its selectors: 21 and the wire's number, and a byte, since it has one constant more than selectors.
+pub const TREE_FRAME: usize = 3;
+
 // What is written for a table has fewer selectors than there are patterns, so that no written stage has more than this.
 pub const MOST_CELLS: usize = Sheet::WIRES * (Sheet::MAX_PATTERNS - 1);
 
 // No stage sheet of trees that is accepted has more bytes, whoever wrote it: room for every tree's quote.
-pub const LONGEST_STAGE: usize = 4 + 3 * Sheet::WIRES + 3 * MOST_CELLS;
+pub const LONGEST_STAGE: usize = SHEET_FRAME
+    + TREE_FRAME * Sheet::WIRES
+    + SELECTOR_BYTES * MOST_CELLS;

@@ -30,12 +30,12 @@ unfolding nodesIn entriesOf entriesBytes
 entries-step n keys k = rw (add-one k)
 
 -- the entry of a node by the numbers of its halves
-pub entry-told : (n : ℕ) (before : List Node) (key half z o : ℕ) → half ≡ 2 ^ (2 ^ nodeOf key .after)
+pub entry-of-key : (n : ℕ) (before : List Node) (key half z o : ℕ) → half ≡ 2 ^ (2 ^ nodeOf key .after)
     → z ≡ numberOf before (nodeOf key .after) (nodeOf key .table % half)
     → o ≡ numberOf before (nodeOf key .after) (nodeOf key .table / half)
     → _≡_ {A = List ℕ} ((n - nodeOf key .after) ∷ z ∷ o ∷ []) (entryBytes (entryOf n before (nodeOf key)))
 unfolding low high
-entry-told n before key half z o e p q = rw (p, q, e)
+entry-of-key n before key half z o e p q = rw (p, q, e)
 
 -- what is listed of a table of n inputs are nodes of such a table
 keys-closed : (n : ℕ) (keys : List ℕ) (count : ℕ) → Closed n (nodesIn keys count) → (k : ℕ) → k < count → Keyed n (getD keys k 0)

@@ -1,32 +1,26 @@
 -- Laws of the length of a stage on either board.
 use Prim.Native.Nat.{ℕ, _+_, _*_, _≤_}
-use mathlib.Core.Path.{_≡_, refl}
-use mathlib.Core.List.{List, []}
+use mathlib.Core.Path.{_≡_}
+use mathlib.Core.List.{List}
 use native.Mathlib.Omega.{arith}
 use lib.ListN.{length}
 use Rattle.sheet.specs.Limits.{maxInputs, maxWires}
 use Rattle.table.specs.declared.BoardKind.{BoardKind}
 use Rattle.table.specs.declared.BoardKind.the-variants.{Tree, Sharing}
 use Rattle.table.specs.Cells.{wires, total}
-use Rattle.nodes.specs.Nodes.{listing}
-use Rattle.stage.specs.Trees.{treeForm}
+use Rattle.stage.specs.TreeBytes.{sheetFrame, selectorBytes}
 use Rattle.stage.specs.Written.{stageOf}
-use Rattle.stage.proofs.Lengths.{sheet-length}
-use Rattle.stage.proofs.TreeForm.{tree-laws, stage-length-most as trees-most}
+use Rattle.stage.proofs.TreeForm.{stage-length as trees-length, stage-length-most as trees-most}
 use Rattle.diagram.specs.Bytes.{longestShared}
-use Rattle.diagram.specs.Diagrams.{diagramForm}
-use Rattle.diagram.specs.Written.{reducedDiagram}
 use Rattle.diagram.specs.Forms.{formOf}
-use Rattle.diagram.proofs.Reduced.{entries-length}
-use Rattle.diagram.proofs.DiagramForm.{diagram-laws, stage-length-most as diagrams-most}
+use Rattle.diagram.proofs.DiagramForm.{stage-length as diagrams-length, stage-length-most as diagrams-most}
 use Rattle.stage_writer.specs.Inner.Wires.{frameOf, selectorsOf}
 
 -- the length by wires and selectors
 pub form-length : (kind : BoardKind) (n m : ℕ) (tables : List ℕ) → m ≤ length tables
-    → length (stageOf (formOf kind) n m tables) ≡ 4 + frameOf kind * m + 3 * total (selectorsOf kind n) m (wires tables)
-unfolding tree-laws diagram-laws reducedDiagram
-form-length Tree n m tables h = sheet-length treeForm tree-laws n (selectorsOf Tree n) (λ t. refl) m tables h
-form-length Sharing n m tables h = sheet-length diagramForm diagram-laws n (selectorsOf Sharing n) (λ t. entries-length n (listing n t [])) m tables h
+    → length (stageOf (formOf kind) n m tables) ≡ sheetFrame + frameOf kind * m + selectorBytes * total (selectorsOf kind n) m (wires tables)
+form-length Tree n m tables h = trees-length n m tables h
+form-length Sharing n m tables h = diagrams-length n m tables h
 
 -- no stage is longer than the longest of diagrams
 pub form-length-most : (kind : BoardKind) (n m : ℕ) (tables : List ℕ) → m ≤ length tables → n ≤ maxInputs → m ≤ maxWires

@@ -16,33 +16,12 @@ use Rattle.stage.specs.TreeBytes.{treeBytes}
 use Rattle.diagram.specs.Written.{nodeNumber, numberOf}
 use Rattle.stage_writer.proofs.Keys.{has-number}
 
--- the reduced tree of a table of w inputs by the trees of the table's halves
-abbrev byHalves : (ℕ → Tree) → ℕ → ℕ → ℕ → Tree
-byHalves tree k a b = cond (eqb a b) (tree a) (sel (k + 1) (tree a) (tree b))
-
-reduced-step : (w k t : ℕ) → (w ≡ 0 → ⊥) → reduced w k t ≡ byHalves (reduced (w - 1) (k + 1)) k (t % 2 ^ (2 ^ (w - 1))) (t / 2 ^ (2 ^ (w - 1)))
-unfolding reduced low high
-reduced-step zero k t h = absurd (h refl)
-reduced-step (suc v) k t h = let d : suc v - 1 ≡ v = omega arith in simp (d, add-one k)
-
--- likewise what is listed, and the number
-abbrev listedBy : (ℕ → List Node → List Node) → Node → List Node → ℕ → ℕ → List Node
-listedBy list k seen a b = cond (eqb a b) (list a seen) (cond (has seen k) seen (k ∷ list b (list a seen)))
-
-listing-step : (w t : ℕ) (seen : List Node) → (w ≡ 0 → ⊥)
-    → listing w t seen ≡ listedBy (listing (w - 1)) (node (w - 1) t) seen (t % 2 ^ (2 ^ (w - 1))) (t / 2 ^ (2 ^ (w - 1)))
-unfolding listing low high
-listing-step zero t seen h = absurd (h refl)
-listing-step (suc v) t seen h = let d : suc v - 1 ≡ v = omega arith in simp d
-
-abbrev numberBy : (ℕ → ℕ) → ℕ → ℕ → ℕ → ℕ
-numberBy number own a b = cond (eqb a b) (number a) own
-
-number-step : (ks : List Node) (w t : ℕ) → (w ≡ 0 → ⊥)
-    → numberOf ks w t ≡ numberBy (numberOf ks (w - 1)) (nodeNumber ks (node (w - 1) t)) (t % 2 ^ (2 ^ (w - 1))) (t / 2 ^ (2 ^ (w - 1)))
-unfolding numberOf low high
-number-step ks zero t h = absurd (h refl)
-number-step ks (suc v) t h = let d : suc v - 1 ≡ v = omega arith in simp d
+-- what is told of a table by its halves, at every width but 0
+halved : {A : Type 0} (f : ℕ → ℕ → A) (by : ℕ → ℕ → ℕ → ℕ → A) → ((v t : ℕ) → f (suc v) t ≡ by v t (low v t) (high v t))
+    → (w t half : ℕ) → (w ≡ 0 → ⊥) → half ≡ 2 ^ (2 ^ (w - 1)) → f w t ≡ by (w - 1) t (t % half) (t / half)
+unfolding low high
+halved f by step zero t half h e = absurd (h refl)
+halved f by step (suc v) t half h e = let d : suc v - 1 ≡ v = omega arith in rw (e, d) (step v t)
 
 -- the halves of a table are tables of one input less
 pub low-fits : (r t half : ℕ) → half ≡ 2 ^ (2 ^ r) → t % half < 2 ^ (2 ^ r)
@@ -55,11 +34,19 @@ high-fits r t half e l = rw e (high-lt r t l)
 
 module _ (w t half : ℕ) (h : w ≡ 0 → ⊥) (e : half ≡ 2 ^ (2 ^ (w - 1))) where
   module _ (k : ℕ) where
+    -- the reduced tree by the trees of the halves
+    reduced-step : reduced w k t ≡ cond (eqb (t % half) (t / half)) (reduced (w - 1) (k + 1) (t % half))
+        (sel (k + 1) (reduced (w - 1) (k + 1) (t % half)) (reduced (w - 1) (k + 1) (t / half)))
+    unfolding reduced
+    reduced-step =
+        halved (λ w t. reduced w k t) (λ v t a b. cond (eqb a b) (reduced v (k + 1) a) (sel (k + 1) (reduced v (k + 1) a) (reduced v (k + 1) b)))
+        (λ v t. simp (add-one k)) w t half h e
+
     pub reduced-same : t % half ≡ t / half → reduced w k t ≡ reduced (w - 1) (k + 1) (t % half)
-    reduced-same q = simp (reduced-step w k t h, ← e, eq-eqb _ _ q)
+    reduced-same q = simp (reduced-step, eq-eqb _ _ q)
 
     pub reduced-two : (t % half ≡ t / half → ⊥) → reduced w k t ≡ sel (k + 1) (reduced (w - 1) (k + 1) (t % half)) (reduced (w - 1) (k + 1) (t / half))
-    reduced-two q = simp (reduced-step w k t h, ← e, ne-eqb _ _ q)
+    reduced-two q = simp (reduced-step, ne-eqb _ _ q)
 
     pub same-length : t % half ≡ t / half → length (treeBytes (reduced w k t)) ≡ length (treeBytes (reduced (w - 1) (k + 1) (t % half)))
     same-length q = ap (λ (x : Tree). length (treeBytes x)) (reduced-same q)
@@ -74,19 +61,32 @@ module _ (w t half : ℕ) (h : w ≡ 0 → ⊥) (e : half ≡ 2 ^ (2 ^ (w - 1)))
         omega (arith, ap (λ (x : Tree). length (treeBytes x)) (reduced-two q), length-append z o)
 
   module _ (seen : List Node) where
+    listing-step : listing w t seen
+        ≡ cond (eqb (t % half) (t / half)) (listing (w - 1) (t % half) seen)
+        (cond (has seen (node (w - 1) t)) seen (node (w - 1) t ∷ listing (w - 1) (t / half) (listing (w - 1) (t % half) seen)))
+    unfolding listing
+    listing-step =
+        halved (λ w t. listing w t seen)
+        (λ v t a b. cond (eqb a b) (listing v a seen) (cond (has seen (node v t)) seen (node v t ∷ listing v b (listing v a seen))))
+        (λ v t. refl) w t half h e
+
     pub listing-same : t % half ≡ t / half → listing w t seen ≡ listing (w - 1) (t % half) seen
-    listing-same q = simp (listing-step w t seen h, ← e, eq-eqb _ _ q)
+    listing-same q = simp (listing-step, eq-eqb _ _ q)
 
     module _ (differ : t % half ≡ t / half → ⊥) where
       pub listing-old : (nodeNumber seen (node (w - 1) t) ≡ 0 → ⊥) → listing w t seen ≡ seen
-      listing-old q = simp (listing-step w t seen h, ← e, ne-eqb _ _ differ, has-number seen (node (w - 1) t), ne-eqb _ _ q)
+      listing-old q = simp (listing-step, ne-eqb _ _ differ, has-number seen (node (w - 1) t), ne-eqb _ _ q)
 
       pub listing-new : nodeNumber seen (node (w - 1) t) ≡ 0 → listing w t seen ≡ node (w - 1) t ∷ listing (w - 1) (t / half) (listing (w - 1) (t % half) seen)
-      listing-new q = simp (listing-step w t seen h, ← e, ne-eqb _ _ differ, has-number seen (node (w - 1) t), eq-eqb _ _ q)
+      listing-new q = simp (listing-step, ne-eqb _ _ differ, has-number seen (node (w - 1) t), eq-eqb _ _ q)
 
   module _ (ks : List Node) where
+    number-step : numberOf ks w t ≡ cond (eqb (t % half) (t / half)) (numberOf ks (w - 1) (t % half)) (nodeNumber ks (node (w - 1) t))
+    unfolding numberOf
+    number-step = halved (numberOf ks) (λ v t a b. cond (eqb a b) (numberOf ks v a) (nodeNumber ks (node v t))) (λ v t. refl) w t half h e
+
     pub number-same : t % half ≡ t / half → numberOf ks w t ≡ numberOf ks (w - 1) (t % half)
-    number-same q = simp (number-step ks w t h, ← e, eq-eqb _ _ q)
+    number-same q = simp (number-step, eq-eqb _ _ q)
 
     pub number-node : (t % half ≡ t / half → ⊥) → numberOf ks w t ≡ nodeNumber ks (node (w - 1) t)
-    number-node q = simp (number-step ks w t h, ← e, ne-eqb _ _ q)
+    number-node q = simp (number-step, ne-eqb _ _ q)

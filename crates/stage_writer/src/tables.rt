@@ -4,12 +4,15 @@ use crate::wires::frame;
 use crate::wires::selectors;
 use sheet::Sheet;
 use sheet::limits::bits_past;
+use stage::SELECTOR_BYTES;
+use stage::SHEET_FRAME;
 use table::BoardKind;
 ghost use mathlib.Core.Path.{_≡_};
 ghost use Prim.Native.Nat.{ℕ, _+_, _*_, _^_, _<_, _≤_};
 ghost use lib.ListN.{getD};
 ghost use Rattle.sheet.specs.Limits.{maxInputs, maxWires};
 ghost use Rattle.table.specs.Cells.{wires, total};
+ghost use Rattle.stage.specs.TreeBytes.{sheetFrame, selectorBytes};
 ghost use Rattle.stage.specs.Written.{firstOut};
 ghost use Rattle.stage_writer.specs.Inner.Wires.{frameOf, selectorsOf};
 
@@ -42,9 +45,9 @@ pub fn stage_selectors(kind: BoardKind, n: u8, m: u8, tables: [u16; Sheet::WIRES
     all
 }
 
-// The length of a stage of m wires: by its selectors, whether or not each of them is a cell.
+// The length of a stage of m wires.
 pub fn stage_length(kind: BoardKind, m: u8, selectors: u8) -> usize
-    ensures { λ r. ⌜ r ≡ 4 + frameOf kind * m + 3 * selectors ⌝ }
+    ensures { λ r. ⌜ r ≡ sheetFrame + frameOf kind * m + selectorBytes * selectors ⌝ }
 {
-    4 + frame(kind) * (m as usize) + 3 * (selectors as usize)
+    SHEET_FRAME + frame(kind) * (m as usize) + SELECTOR_BYTES * (selectors as usize)
 }

@@ -3,6 +3,8 @@
 use crate::diagrams::node_count;
 use crate::diagrams::put_diagram_wire;
 use crate::trees::put_tree_wire;
+use diagram::DIAGRAM_FRAME;
+use stage::TREE_FRAME;
 use table::BoardKind;
 use table::cell_counts::count;
 ghost use mathlib.Core.Path.{_≡_};
@@ -15,13 +17,7 @@ ghost use Rattle.diagram.specs.Forms.{formOf};
 ghost use Rattle.base.specs.Inner.Put.{Put};
 ghost use Rattle.stage_writer.specs.Inner.Wires.{frameOf, selectorsOf};
 
-// What a wire takes besides three bytes for each selector. A tree: 21, its number, and a byte since it has one constant more than selectors.
-const TREE_FRAME: usize = 3;
-
-// A diagram: 26, its number, how many entries it has, and the top.
-const DIAGRAM_FRAME: usize = 4;
-
-// The frame of a wire. No board's is longer than a diagram's.
+// What a wire takes besides its selectors. No board's frame is longer than a diagram's.
 pub fn frame(kind: BoardKind) -> usize
     ensures { λ r. ⌜ (r ≡ frameOf kind) × (r ≤ frameOf Sharing) ⌝ }
 {

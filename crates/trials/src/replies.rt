@@ -89,7 +89,7 @@ fn put_quoted(out: &mut [u8], at: usize, q: Quoted, buffer: &[u8]) -> usize
 
 // The lines of the quote for a sheet, with a buffer for its stage.
 fn put_quote_into(
-    board: BoardKind,
+    kind: BoardKind,
     out: &mut [u8],
     at: usize,
     sheet: &[u8],
@@ -99,12 +99,12 @@ fn put_quote_into(
     requires { ⌜ at + longestReply ≤ lastPlace ⌝ }
     ensures { λ r. ⌜ r ≤ at + longestReply ⌝ }
 {
-    let q = quote::quote_on(board, sheet, budget, buffer);
+    let q = quote::quote_on(kind, sheet, budget, buffer);
     put_quoted(out, at, q, buffer)
 }
 
 // Quote: budget (4 bytes), buffer length (1), sheet length (2), sheet.
-fn put_quote(board: BoardKind, out: &mut [u8], at: usize, s: &[u8], from: usize) -> usize
+fn put_quote(kind: BoardKind, out: &mut [u8], at: usize, s: &[u8], from: usize) -> usize
     requires { ⌜ (at + longestReply ≤ lastPlace) × (from + longestRecord ≤ lastPlace) ⌝ }
     ensures { λ r. ⌜ r ≤ at + longestReply ⌝ }
 {
@@ -112,7 +112,7 @@ fn put_quote(board: BoardKind, out: &mut [u8], at: usize, s: &[u8], from: usize)
     let room = byte_at(s, from + 5) as usize;
     let sheet = part(s, from + 8, length_at(s, from + 6));
     let mut space = [FILL; MOST_ROOM];
-    put_quote_into(board, out, at, sheet, budget, &mut space[0..room])
+    put_quote_into(kind, out, at, sheet, budget, &mut space[0..room])
 }
 
 // The line of a stage that was judged: the word of the judgement, and the stage's cells.
@@ -138,14 +138,14 @@ fn put_audited(out: &mut [u8], at: usize, audited: Audited) -> usize
 }
 
 // Audit: sheet length (2), stage length (2), sheet, stage.
-fn put_audit(board: BoardKind, out: &mut [u8], at: usize, s: &[u8], from: usize) -> usize
+fn put_audit(kind: BoardKind, out: &mut [u8], at: usize, s: &[u8], from: usize) -> usize
     requires { ⌜ (at + longestReply ≤ lastPlace) × (from + longestRecord ≤ lastPlace) ⌝ }
     ensures { λ r. ⌜ r ≤ at + longestReply ⌝ }
 {
     let sheet_length = length_at(s, from + 1);
     let sheet = part(s, from + 5, sheet_length);
     let stage = part(s, from + 5 + sheet_length, length_at(s, from + 3));
-    put_audited(out, at, quote::audit_on(board, sheet, stage))
+    put_audited(out, at, quote::audit_on(kind, sheet, stage))
 }
 
 // The line of a search that found tables.
@@ -160,14 +160,14 @@ fn put_found(out: &mut [u8], at: usize, answer: search::Answer, word: &[u8]) -> 
 }
 
 // Search: n (1), m (1), budget (4), sixteen sets (2 each).
-fn put_search(board: BoardKind, out: &mut [u8], at: usize, s: &[u8], from: usize) -> usize
+fn put_search(kind: BoardKind, out: &mut [u8], at: usize, s: &[u8], from: usize) -> usize
     requires { ⌜ (at + longestReply ≤ lastPlace) × (from + longestRecord ≤ lastPlace) ⌝ }
     ensures { λ r. ⌜ r ≤ at + longestReply ⌝ }
 {
     let n = byte_at(s, from + 1);
     let m = byte_at(s, from + 2);
     let sets = sets_at(s, from + 7);
-    let answer = search::search_on(board, Relation { n, m, sets }, u32_at(s, from + 3));
+    let answer = search::search_on(kind, Relation { n, m, sets }, u32_at(s, from + 3));
     let mark = answer.mark;
     match mark {
         Mark::Best => put_found(out, at, answer, b" best\n"),
@@ -192,7 +192,7 @@ fn put_written(out: &mut [u8], at: usize, written: Written, buffer: &[u8], most:
 
 // The line of a stage that is yet to be written.
 fn put_write_into(
-    board: BoardKind,
+    kind: BoardKind,
     out: &mut [u8],
     at: usize,
     n: u8,
@@ -203,12 +203,12 @@ fn put_write_into(
     requires { ⌜ at + longestReply ≤ lastPlace ⌝ }
     ensures { λ r. ⌜ r ≤ at + longestReply ⌝ }
 {
-    let written = write_on(board, n, m, tables, buffer);
+    let written = write_on(kind, n, m, tables, buffer);
     put_written(out, at, written, buffer, LONGEST_SHARED)
 }
 
 // Write a stage: n (1), m (1), buffer length (1), four tables (2 each).
-fn put_write(board: BoardKind, out: &mut [u8], at: usize, s: &[u8], from: usize) -> usize
+fn put_write(kind: BoardKind, out: &mut [u8], at: usize, s: &[u8], from: usize) -> usize
     requires { ⌜ (at + longestReply ≤ lastPlace) × (from + longestRecord ≤ lastPlace) ⌝ }
     ensures { λ r. ⌜ r ≤ at + longestReply ⌝ }
 {
@@ -216,7 +216,7 @@ fn put_write(board: BoardKind, out: &mut [u8], at: usize, s: &[u8], from: usize)
     let tables = tables_at(s, from + 4);
     let mut space = [FILL; MOST_ROOM];
     put_write_into(
-        board,
+        kind,
         out,
         at,
         byte_at(s, from + 1),
@@ -239,12 +239,12 @@ fn put_stage_read(out: &mut [u8], at: usize, read: StageRead) -> usize
 }
 
 // Read a stage: length (2), stage.
-fn put_read(board: BoardKind, out: &mut [u8], at: usize, s: &[u8], from: usize) -> usize
+fn put_read(kind: BoardKind, out: &mut [u8], at: usize, s: &[u8], from: usize) -> usize
     requires { ⌜ (at + longestReply ≤ lastPlace) × (from + longestRecord ≤ lastPlace) ⌝ }
     ensures { λ r. ⌜ r ≤ at + longestReply ⌝ }
 {
     let stage = part(s, from + 3, length_at(s, from + 1));
-    let read = read_on(board, stage);
+    let read = read_on(kind, stage);
     let answer = read.answer;
     match answer {
         Verdict::Accepted => put_stage_read(out, at, read),
@@ -272,7 +272,7 @@ fn put_clean(out: &mut [u8], at: usize, s: &[u8], from: usize) -> usize
     put_clean_into(out, at, sheet, &mut space[0..room])
 }
 
-// The board that a record is for, by its kind byte.
+// The board that a record is for, by its letter.
 fn kind_of(letter: u8) -> BoardKind {
     if call_of(letter) == letter {
         BoardKind::Tree
@@ -286,15 +286,15 @@ pub fn put_reply(out: &mut [u8], at: usize, s: &[u8], from: usize) -> usize
     requires { ⌜ (at + longestReply ≤ lastPlace) × (from + longestRecord ≤ lastPlace) ⌝ }
     ensures { λ r. ⌜ r ≤ at + longestReply ⌝ }
 {
-    let kind = byte_at(s, from);
-    let board = kind_of(kind);
-    let call = call_of(kind);
+    let letter = byte_at(s, from);
+    let kind = kind_of(letter);
+    let call = call_of(letter);
     match call {
-        b'Q' => put_quote(board, out, at, s, from),
-        b'A' => put_audit(board, out, at, s, from),
-        b'S' => put_search(board, out, at, s, from),
-        b'W' => put_write(board, out, at, s, from),
-        b'R' => put_read(board, out, at, s, from),
+        b'Q' => put_quote(kind, out, at, s, from),
+        b'A' => put_audit(kind, out, at, s, from),
+        b'S' => put_search(kind, out, at, s, from),
+        b'W' => put_write(kind, out, at, s, from),
+        b'R' => put_read(kind, out, at, s, from),
         b'C' => put_clean(out, at, s, from),
         _ => put_text(out, at, b"unknown kind\n"),
     }

@@ -18,11 +18,11 @@ unfoldable pub topPrice : ℕ → ℕ
 topPrice x = cond (eqb (low 1 x) (high 1 x)) 0 (price (node 1 x))
 
 -- the top node, then the quarter twice side by side
-unfoldable pub topEntry : Option ℕ → ℕ
-topEntry none = noEntry
-topEntry (some x) = topPrice x * threeSpace + x * (blockSpace + 1)
+unfoldable pub quarterEntry : Option ℕ → ℕ
+quarterEntry none = noEntry
+quarterEntry (some x) = topPrice x * threeSpace + x * (blockSpace + 1)
 
 -- the entry of two masks stands at the place zeros * blockSpace + ones
 pub record Tops (e : List ℕ) : Type 0 where
   pub entry : (zeros ones : ℕ) → zeros < blockSpace → ones < blockSpace
-      → getD e (zeros * blockSpace + ones) 0 ≡ topEntry (leastOf topPrice 2 (masked zeros ones))
+      → getD e (zeros * blockSpace + ones) 0 ≡ quarterEntry (leastOf topPrice 2 (masked zeros ones))

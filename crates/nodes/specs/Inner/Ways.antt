@@ -6,7 +6,7 @@ use Rattle.table.specs.Pick.{leastOf}
 use Rattle.table.specs.Inner.Ranks.{masked, tableSpace}
 use Rattle.table.specs.Inner.Pairs.{blockSpace, byteBits, pairBits}
 use Rattle.table.specs.Inner.Blocks.{entries, threeSpace, noEntry}
-use Rattle.nodes.specs.Inner.Tops.{topPrice, topEntry}
+use Rattle.nodes.specs.Inner.Tops.{topPrice, quarterEntry}
 
 -- a selector, in a rank
 abbrev pub oneNode : ℕ
@@ -24,13 +24,13 @@ abbrev pub allNodes : ℕ
 allNodes = 0xffff0000
 
 -- the entry of the masks in the lowest byte of `at`
-unfoldable pub topEntryAt : ℕ → ℕ
-topEntryAt at = topEntry (leastOf topPrice 2 (masked (at % entries / blockSpace) (at % entries % blockSpace)))
+unfoldable pub quarterEntryAt : ℕ → ℕ
+quarterEntryAt at = quarterEntry (leastOf topPrice 2 (masked (at % entries / blockSpace) (at % entries % blockSpace)))
 
 -- the entry at the places of a class: twice the entry has the quarter four times, and the places are cut out
 unfoldable pub classAt : (at places : ℕ) → ℕ
 classAt at places =
-    let x = topEntryAt at in
+    let x = quarterEntryAt at in
     bitAnd (x * threeSpace + x % threeSpace) (allNodes + places * (blockSpace - 1))
 
 -- no class gives more

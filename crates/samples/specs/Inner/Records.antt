@@ -29,16 +29,16 @@ partOf s from count = cond (leb (from + count) (length s)) (take count (drop fro
 
 -- the call that a record is for, whichever the board: the small letters q, a, s, w, r are for the board that shares selectors
 unfoldable pub callOf : ℕ → ℕ
-callOf kind =
-    cond (eqb kind 0x71) 0x51 (cond (eqb kind 0x61) 0x41 (cond (eqb kind 0x73) 0x53 (cond (eqb kind 0x77) 0x57 (cond (eqb kind 0x72) 0x52 kind))))
+callOf letter =
+    cond (eqb letter 0x71) 0x51 (cond (eqb letter 0x61) 0x41 (cond (eqb letter 0x73) 0x53 (cond (eqb letter 0x77) 0x57 (cond (eqb letter 0x72) 0x52 letter))))
 
--- the bytes of the record at a place, by its call: Q, A, S, W, R, C; a byte of no kind is a record by itself
+-- the bytes of the record at a place, by its call: Q, A, S, W, R, C; another byte is a record by itself
 unfoldable pub recordLength : List ℕ → ℕ → ℕ
 recordLength s at =
-    let kind = callOf (byteAt s at) in
-    cond (eqb kind 0x51) (8 + twoAt s (at + 6))
-    (cond (eqb kind 0x41) (5 + twoAt s (at + 1) + twoAt s (at + 3))
-    (cond (eqb kind 0x53) (7 + 2 * maxPatterns)
-    (cond (eqb kind 0x57) (4 + 2 * maxWires)
-    (cond (eqb kind 0x52) (3 + twoAt s (at + 1))
-    (cond (eqb kind 0x43) (5 + twoAt s (at + 3)) 1)))))
+    let call = callOf (byteAt s at) in
+    cond (eqb call 0x51) (8 + twoAt s (at + 6))
+    (cond (eqb call 0x41) (5 + twoAt s (at + 1) + twoAt s (at + 3))
+    (cond (eqb call 0x53) (7 + 2 * maxPatterns)
+    (cond (eqb call 0x57) (4 + 2 * maxWires)
+    (cond (eqb call 0x52) (3 + twoAt s (at + 1))
+    (cond (eqb call 0x43) (5 + twoAt s (at + 3)) 1)))))

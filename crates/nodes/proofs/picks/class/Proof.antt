@@ -1,11 +1,11 @@
 -- `class` meets its contract: the entry's digits at the places.
-use Rattle.nodes.proofs.TopEntries.{class-at}
+use Rattle.nodes.proofs.QuarterEntries.{class-at}
 use borrow.Author.Needs.{needs}
 use Rattle.nodes.proofs.picks.class.Statement.{statement}
 use Rattle.nodes.proofs.picks.class.Tie as tie
 
-top-entry-requires : tie.Need-top-entry-requires
-top-entry-requires c κs = search needs
+quarter-entry-requires : tie.Need-quarter-entry-requires
+quarter-entry-requires c κs = search needs
 
 mul-result : tie.Need-mul-result
 mul-result c = search needs
@@ -20,8 +20,8 @@ add-result-2 : tie.Need-add-result-2
 add-result-2 c = search needs
 
 returns : tie.Need-returns
-returns c = class-at (c .before .args .at) (c .before .args .places) (c .top-entry .result) (c .top-entry .ensures .0) (c .top-entry .ensures .1)
+returns c = class-at (c .before .args .at) (c .before .args .places) (c .quarter-entry .result) (c .quarter-entry .ensures .0) (c .quarter-entry .ensures .1)
 
 pub class-spec : {M : Type 1} → statement M
 class-spec =
-    tie.close (tie.spec top-entry-requires mul-result add-result mul-result-2 add-result-2 returns)
+    tie.close (tie.spec quarter-entry-requires mul-result add-result mul-result-2 add-result-2 returns)

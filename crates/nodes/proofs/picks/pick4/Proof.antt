@@ -17,20 +17,20 @@ use Rattle.nodes.proofs.picks.pick4.Statement.{statement}
 use Rattle.nodes.proofs.picks.pick4.Tie as tie
 
 -- what the first choice gives with one selector, once it is known
-Floor : (w floor u : ℕ) → Type 0
-Floor w floor u = ((u ≡ 0) → floor ≡ 0) × ((0 < u) → floor ≡ wayOf w + oneNode) × (floor ≤ mostClass + oneNode)
+Enough : (w enough u : ℕ) → Type 0
+Enough w enough u = ((u ≡ 0) → enough ≡ 0) × ((0 < u) → enough ≡ wayOf w + oneNode) × (enough ≤ mostClass + oneNode)
 
 -- one choice more
 more : (w u : ℕ) {b x : ℕ} → b ≡ leastChosen w u → x ≡ chosen w u → min b x ≡ leastChosen w (u + 1)
 more w u eb ex = let e : suc u ≡ u + 1 = omega arith in ap₂ min eb ex ∙ ap (leastChosen w) e
 
--- it stops after two choices at the earliest: before the first there is no floor, and the first is above its own
-early : (w : ℕ) → Covered 4 (zerosIn w) (onesIn w) → (b floor u : ℕ) → (u ≤ choiceCount) × (b ≡ leastChosen w u) × Floor w floor u → b ≤ floor
+-- it stops after two choices at the earliest: before the first nothing is enough, and the first itself is not
+early : (w : ℕ) → Covered 4 (zerosIn w) (onesIn w) → (b enough u : ℕ) → (u ≤ choiceCount) × (b ≡ leastChosen w u) × Enough w enough u → b ≤ enough
     → b ≡ rank (nodes 4) (pickOf (nodes 4) 4 (zerosIn w) (onesIn w))
-unfolding Floor
-early w h b floor zero i l = absurd (omega (arith, i .1, i .2 .0 refl))
-early w h b floor (suc zero) i l = absurd (omega (arith, i .1, i .2 .1 (omega arith), i .2 .2))
-early w h b floor (suc (suc u)) i l = picked-early w h b (suc (suc u)) (omega arith) (i .0) (i .1) (omega (arith, i .2 .1 (omega arith)))
+unfolding Enough
+early w h b enough zero i l = absurd (omega (arith, i .1, i .2 .0 refl))
+early w h b enough (suc zero) i l = absurd (omega (arith, i .1, i .2 .1 (omega arith), i .2 .2))
+early w h b enough (suc (suc u)) i l = picked-early w h b (suc (suc u)) (omega arith) (i .0) (i .1) (omega (arith, i .2 .1 (omega arith)))
 
 -- the costs of the choices
 costs-at : (u : ℕ) → u < choiceCount → getD (2 * oneNode ∷ 0 ∷ oneNode ∷ oneNode ∷ []) u 0 ≡ costOf u
@@ -40,25 +40,25 @@ cost-le : (u : ℕ) → u < choiceCount → costOf u ≤ 2 * oneNode
 cost-le = below4 (λ u. costOf u ≤ 2 * oneNode) (omega arith) (omega arith) (omega arith) (omega arith)
 
 abbrev Inv-loop : tie.InvT-loop
-Inv-loop e pair pairs costs best₀ floor₀ u₀ best floor u = (u ≤ choiceCount) × (best ≡ leastChosen pair u) × Floor pair floor u
+Inv-loop e pair pairs costs best₀ enough₀ u₀ best enough u = (u ≤ choiceCount) × (best ≡ leastChosen pair u) × Enough pair enough u
 
 abbrev μ-loop : tie.MeasureT-loop
-μ-loop e pair pairs costs best₀ floor₀ u₀ best floor u = choiceCount - u
+μ-loop e pair pairs costs best₀ enough₀ u₀ best enough u = choiceCount - u
 
 choices-requires : tie.Need-choices-requires Inv-loop μ-loop
 choices-requires c κs = search needs
 
 loop-holds : tie.Need-loop-holds Inv-loop μ-loop
-unfolding Floor
+unfolding Enough
 loop-holds c = (omega arith, refl, (λ e. refl, λ l. absurd (omega arith), omega arith))
 
 returns : tie.Need-returns Inv-loop μ-loop
-unfolding Floor
+unfolding Enough
 returns c =
     let l = c .before .before in
     let i = l .before .before in
     let w = i .args .pair in
-    early w (i .pre .1) (l .loop .best) (l .loop .floor) (l .loop .u) (l .loop .inv) (omega arith)
+    early w (i .pre .1) (l .loop .best) (l .loop .enough) (l .loop .u) (l .loop .inv) (omega arith)
 
 cast-way : tie.Need-cast-way Inv-loop μ-loop
 cast-way c = search needs
@@ -72,8 +72,8 @@ array-read-way c = search needs
 way-requires : tie.Need-way-requires Inv-loop μ-loop
 way-requires c κs = search needs
 
-add-floor : tie.Need-add-floor Inv-loop μ-loop
-add-floor c = search needs
+add-enough : tie.Need-add-enough Inv-loop μ-loop
+add-enough c = search needs
 
 cast-lesser : tie.Need-cast-lesser Inv-loop μ-loop
 cast-lesser c = search needs
@@ -97,7 +97,7 @@ loop-less : tie.Need-loop-less Inv-loop μ-loop
 loop-less c = search needs
 
 loop-again : tie.Need-loop-again Inv-loop μ-loop
-unfolding Floor
+unfolding Enough
 loop-again c =
     let joined = c .before in
     let way = joined .before in
@@ -137,7 +137,7 @@ pick4-spec =
     mul-way
     array-read-way
     way-requires
-    add-floor
+    add-enough
     cast-lesser
     mul-lesser
     array-read-lesser

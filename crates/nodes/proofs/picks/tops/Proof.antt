@@ -15,12 +15,12 @@ use Rattle.table.specs.Inner.Ranks.{masked}
 use Rattle.table.specs.Inner.Pairs.{blockSpace}
 use Rattle.table.specs.Inner.Blocks.{entries}
 use Rattle.nodes.specs.Nodes.{price}
-use Rattle.nodes.specs.Inner.Tops.{topPrice, topEntry, Tops}
+use Rattle.nodes.specs.Inner.Tops.{topPrice, quarterEntry, Tops}
 use Rattle.nodes.proofs.picks.tops.Statement.{statement}
 use Rattle.nodes.proofs.picks.tops.Tie as tie
 
 bestEntry : ℕ → ℕ → ℕ
-bestEntry zeros ones = topEntry (leastOf topPrice 2 (masked zeros ones))
+bestEntry zeros ones = quarterEntry (leastOf topPrice 2 (masked zeros ones))
 
 right : ℕ → ℕ → Bool
 right k x = eqb x (bestEntry (k / blockSpace) (k % blockSpace))
@@ -36,7 +36,7 @@ tested table long t =
     }
 
 returns : tie.Need-returns
-unfolding right bestEntry topPrice topEntry price leastOf least nearer suits masked all bit low high
+unfolding right bestEntry topPrice quarterEntry price leastOf least nearer suits masked all bit low high
 returns c = tested _ refl tt
 
 pub tops-spec : {M : Type 1} → statement M

@@ -1,4 +1,4 @@
--- `record_length` meets its contract: each arm is the case of `recordLength` for its kind.
+-- `record_length` meets its contract: each arm is the case of `recordLength` for its call.
 use Prim.Native.Nat.{ℕ, _+_, _≤_}
 use mathlib.Core.Path.{_≡_, ap, _∙_}
 use native.Mathlib.Omega.{arith}

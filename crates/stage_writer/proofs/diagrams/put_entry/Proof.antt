@@ -5,7 +5,7 @@ use borrow.Author.Needs.{needs}
 use lib.Pow.{pow-pos}
 use Rattle.stage_writer.specs.Inner.Keys.{nodesIn}
 use Rattle.stage_writer.proofs.Halves.{low-fits, high-fits}
-use Rattle.stage_writer.proofs.Entries.{entry-told}
+use Rattle.stage_writer.proofs.Entries.{entry-of-key}
 use Rattle.stage_writer.proofs.diagrams.put_entry.Statement.{statement}
 use Rattle.stage_writer.proofs.diagrams.put_entry.Tie as tie
 
@@ -52,7 +52,7 @@ returns c =
     let z = o .before in
     let h = z .before in
     let a = h .before .before .before .args in
-    rw (sym (entry-told (a .n) (nodesIn (a .keys .now) (a .k)) _ _ _ _ (h .half-of .ensures) (z .number-of .ensures) (o .number-of2 .ensures))) (p .put-three .ensures)
+    rw (sym (entry-of-key (a .n) (nodesIn (a .keys .now) (a .k)) _ _ _ _ (h .half-of .ensures) (z .number-of .ensures) (o .number-of2 .ensures))) (p .put-three .ensures)
 
 pub put-entry-spec : {M : Type 1} → statement M
 put-entry-spec =

@@ -1,9 +1,9 @@
--- `top_entry` meets its contract: the table has it at its place.
+-- `quarter_entry` meets its contract: the table has it at its place.
 use native.Mathlib.Omega.{arith}
-use Rattle.nodes.proofs.TopEntries.{entry-at}
+use Rattle.nodes.proofs.QuarterEntries.{entry-at}
 use borrow.Author.Needs.{needs}
-use Rattle.nodes.proofs.picks.top_entry.Statement.{statement}
-use Rattle.nodes.proofs.picks.top_entry.Tie as tie
+use Rattle.nodes.proofs.picks.quarter_entry.Statement.{statement}
+use Rattle.nodes.proofs.picks.quarter_entry.Tie as tie
 
 cast-result : tie.Need-cast-result
 cast-result c = search needs
@@ -20,6 +20,6 @@ cast-result-2 c = omega (arith, entry-at (c .before .pre) (c .before .args .at) 
 returns : tie.Need-returns
 returns c = entry-at (c .before .pre) (c .before .args .at)
 
-pub top-entry-spec : {M : Type 1} → statement M
-top-entry-spec =
+pub quarter-entry-spec : {M : Type 1} → statement M
+quarter-entry-spec =
     tie.close (tie.spec cast-result mul-result element-copy-out-result cast-result-2 returns)

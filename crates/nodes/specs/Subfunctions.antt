@@ -1,9 +1,9 @@
--- Document 02, E2, to the letter: the subfunctions of a table that need a selector. What `listing` lists are just these, each once (proofs/Parts).
+-- Document 02, E2, to the letter: the subfunctions of a table that need a selector. What `listing` lists are just these, each once (proofs/Subfunctions).
 use Prim.Native.Nat.{ℕ, zero, suc}
 use mathlib.Core.Path.{_≡_}
 use mathlib.Core.Logic.{_⊎_}
 use Rattle.table.specs.Cells.{low, high}
 use Rattle.nodes.specs.Nodes.{Node}
 
 -- a table of r inputs is left of a table of n inputs once the first of these have values
 unfoldable pub PartOf : (n t r u : ℕ) → Type 0

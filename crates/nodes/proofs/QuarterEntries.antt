@@ -16,32 +16,32 @@ use Rattle.table.specs.Inner.Pairs.{blockSpace}
 use Rattle.table.specs.Inner.Blocks.{entries, noEntry, threeSpace}
 use Rattle.table.proofs.Least.{Least, least-is}
 use Rattle.nodes.specs.Nodes.{price}
-use Rattle.nodes.specs.Inner.Tops.{topPrice, topEntry, Tops}
-use Rattle.nodes.specs.Inner.Ways.{topEntryAt, classAt, allNodes, mostClass}
+use Rattle.nodes.specs.Inner.Tops.{topPrice, quarterEntry, Tops}
+use Rattle.nodes.specs.Inner.Ways.{quarterEntryAt, classAt, allNodes, mostClass}
 
 -- a quarter needs at most one selector of its own
 pub top-price-le : (x : ℕ) → topPrice x ≤ 1
 unfolding topPrice price
 top-price-le x = cond-has (λ y. y ≤ 1) (eqb (low 1 x) (high 1 x)) (λ _. omega arith) (λ _. omega arith)
 
-entry-le : (fit : ℕ → Bool) → topEntry (least topPrice fit blockSpace) ≤ noEntry
-unfolding topEntry
+entry-le : (fit : ℕ → Bool) → quarterEntry (least topPrice fit blockSpace) ≤ noEntry
+unfolding quarterEntry
 entry-le fit = go (least topPrice fit blockSpace) (least-is topPrice fit blockSpace)
   where
-    go : (o : Option ℕ) → Least topPrice fit blockSpace o → topEntry o ≤ noEntry
+    go : (o : Option ℕ) → Least topPrice fit blockSpace o → quarterEntry o ≤ noEntry
     go none h = omega arith
     go (some x) h = omega (arith, h .0, top-price-le x)
 
-pub entry-at : {e : List ℕ} → Tops e → (at : ℕ) → (getD e (at % entries) 0 ≡ topEntryAt at) × (getD e (at % entries) 0 ≤ noEntry)
-unfolding topEntryAt leastOf
+pub entry-at : {e : List ℕ} → Tops e → (at : ℕ) → (getD e (at % entries) 0 ≡ quarterEntryAt at) × (getD e (at % entries) 0 ≤ noEntry)
+unfolding quarterEntryAt leastOf
 entry-at {e} t at =
     let k = at % entries in
     let d : k ≡ k / blockSpace * blockSpace + k % blockSpace = omega arith in
-    let r : getD e k 0 ≡ topEntryAt at = ap (λ i. getD e i 0) d ∙ t .entry (k / blockSpace) (k % blockSpace) (omega arith) (omega arith) in
+    let r : getD e k 0 ≡ quarterEntryAt at = ap (λ i. getD e i 0) d ∙ t .entry (k / blockSpace) (k % blockSpace) (omega arith) (omega arith) in
     (r, omega (arith, r, entry-le (suits 2 (masked (k / blockSpace) (k % blockSpace)))))
 
 -- what `class` gives
-pub class-at : (at places x : ℕ) → x ≡ topEntryAt at → x ≤ noEntry
+pub class-at : (at places x : ℕ) → x ≡ quarterEntryAt at → x ≤ noEntry
     → (bitAnd (x * threeSpace + x % threeSpace) (allNodes + places * 15) ≡ classAt at places)
     × (bitAnd (x * threeSpace + x % threeSpace) (allNodes + places * 15) ≤ mostClass)
 unfolding classAt

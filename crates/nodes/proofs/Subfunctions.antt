@@ -6,11 +6,11 @@ use mathlib.Core.List.{List, []}
 use native.Mathlib.Omega.{arith}
 use lib.Dec.{T}
 use Rattle.table.specs.Cells.{low, high}
 use Rattle.nodes.specs.Nodes.{Node, node, has, listing}
 use Rattle.nodes.proofs.Lists.{has-none, has-cases}
 use Rattle.nodes.proofs.Listing.{visits}
 use Rattle.nodes.proofs.Held.{Holds, listing-holds}
-use Rattle.diagram.specs.Inner.Parts.{PartOf, Needed}
+use Rattle.nodes.specs.Subfunctions.{PartOf, Needed}
 
 -- a visit lists nothing else
 listed-was : (n t : ℕ) (s : List Node) (k : Node) → T (has (listing n t s) k) → T (has s k) ⊎ Needed n t k

@@ -1,2 +1,0 @@
--- What only laws use.
-pub mod Parts
