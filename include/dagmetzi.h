@@ -51,7 +51,7 @@ enum {
     DAGMETZI_OUT_OF_RANGE = 3,   /* an operand; of a relation: its sizes (place 0), or a set (place: the pattern) */
     DAGMETZI_TRAILING = 4,       /* something stands behind the end; place: there */
     DAGMETZI_OUT_OF_TURN = 5,    /* a command, or a stage's wire, where another is due */
-    DAGMETZI_NO_SIGNAL = 6,      /* a signal that is not made yet; of a list: an entry that is not there yet, or no top */
+    DAGMETZI_NO_SIGNAL = 6,      /* a signal that is not made yet; of a list: an entry or the top names a number that is not there */
     DAGMETZI_REPEATED = 7,       /* the pattern has a value already, or is impossible already */
     DAGMETZI_TOO_MANY = 8,       /* the 33rd gate or the 9th output */
     DAGMETZI_MISSING_ROW = 9,    /* a pattern with no value that is not impossible; place: the lowest */
