@@ -11,7 +11,7 @@ use Rattle.base.proofs.Tests.{cond-has, cond-has₂, test-no, neither}
 use Rattle.sheet.specs.Limits.{countOut}
 use Rattle.sheet.proofs.Sizes.{count-in, count-fits}
 use Rattle.stage.specs.Steps.{Read, taken, fault, andThen, judged, dueNumber, due, operand, turnNumber}
-use Rattle.stage.specs.Inner.Laws.{withMore, ToldWire}
+use Rattle.stage.specs.Inner.Laws.{withMore, Told, ToldWire}
 use Rattle.stage.proofs.Steps.{judged-has, judged-has₂, due-has, due-more, turn-is, turn-comes, then-more}
 use Rattle.diagram.specs.Diagram.{Entry, entry, Diagram, nextNumber, inputAt, FitsAfter, EntriesFit, mostEntries, WellFormed}
 use Rattle.diagram.specs.Bytes.{entryBytes, entriesBytes, diagramWireBytes}
@@ -69,9 +69,8 @@ unfolding diagramWireBytes
 wire-length j d = omega (arith, length-append (entriesBytes (d .entries)) (d .top ∷ []), entries-bytes-length (d .entries))
 
 -- what is taken as an entry are its three bytes, and it may follow those before it
-abbrev pub ToldEntry : ℕ → List Entry → ℕ → List ℕ → Read Entry → Type 0
-ToldEntry n before at bytes (taken e next rest) = (bytes ≡ entryBytes e ++ rest) × (next ≡ at + 3) × FitsAfter n before e
-ToldEntry n before at bytes (fault f) = Unit {0}
+abbrev pub ToldEntry : (n : ℕ) (before : List Entry) (at : ℕ) → List ℕ → Read Entry → Type 0
+ToldEntry n before = Told entryBytes (FitsAfter n before)
 
 pub entry-told : (n : ℕ) (before : List Entry) (at : ℕ) (bytes : List ℕ) → ToldEntry n before at bytes (entryAt n before at bytes)
 unfolding entryAt operand
