@@ -13,12 +13,16 @@ use Rattle.stage_reader.specs.Inner.Tables.{selectOf}
 abbrev pub mostNumbers : ℕ
 mostNumbers = firstNumber + mostEntries
 
+-- an array tells what each number below k has
+abbrev pub Tells : (has : ℕ → ℕ) (k : ℕ) → List ℕ → Type 0
+Tells has k l = (x : ℕ) → x < k → getD l x 0 ≡ has x
+
 -- The arrays tell every number so far. The code keeps them and not the entries, so contracts speak of any entries that they tell.
 abbrev pub InputsTell : (n : ℕ) → List Entry → (inputs : List ℕ) → Type 0
-InputsTell n es inputs = (x : ℕ) → x < nextNumber es → getD inputs x 0 ≡ inputAt n es x
+InputsTell n es = Tells (inputAt n es) (nextNumber es)
 
 abbrev pub TablesTell : (n : ℕ) → List Entry → (tables : List ℕ) → Type 0
-TablesTell n es tables = (x : ℕ) → x < nextNumber es → getD tables x 0 ≡ drawnTable diagramDrawing n (diagram es x)
+TablesTell n es = Tells (λ x. drawnTable diagramDrawing n (diagram es x)) (nextNumber es)
 
 -- the entry that stands at a place of the sheet
 abbrev pub entryThere : List ℕ → ℕ → Entry
