@@ -1,11 +1,11 @@
 -- Laws of reading a tree at a place of a slice, by what stands there.
 use Prim.Native.Nat.{ℕ, _+_, _<_, _≤_}
 use mathlib.Core.Path.{_≡_, _∙_}
-use mathlib.Core.Bool.{false, cond}
+use mathlib.Core.Bool.{true, false, cond}
 use mathlib.Core.List.{List}
 use lib.Dec.{leb}
 use lib.ListN.{length, getD, drop}
-use borrow.Author.Tests.{eq-eqb, ne-eqb, lt-ltb, le-ltb}
+use borrow.Author.Tests.{ne-eqb}
 use Rattle.base.specs.declared.Refusal.{Refusal}
 use Rattle.base.specs.Refusals.{refusalAt, cutShort, outOfRange, notAscending}
 use Rattle.sheet.specs.Limits.{countOut}
@@ -56,18 +56,14 @@ module _ (s : List ℕ) (n k at : ℕ) where
     unfolding selectorAt
     selector-opens = operand-goes fault at _ s (at + 1) there ∙ rw (two-more at)
 
-    pub selector-none : getD s (at + 1) 0 ≡ 0 → selectorAt (treeAt n) n k at (drop (at + 1) s) ≡ fault (refusalAt outOfRange at)
-    selector-none e = selector-opens ∙ rw (eq-eqb _ _ e)
+    pub selector-out : countOut (getD s (at + 1) 0) n ≡ true → selectorAt (treeAt n) n k at (drop (at + 1) s) ≡ fault (refusalAt outOfRange at)
+    selector-out e = selector-opens ∙ rw e
 
-    module _ (some : getD s (at + 1) 0 ≡ 0 → ⊥) where
-      pub selector-past : n < getD s (at + 1) 0 → selectorAt (treeAt n) n k at (drop (at + 1) s) ≡ fault (refusalAt outOfRange at)
-      selector-past h = selector-opens ∙ rw (ne-eqb _ _ some, lt-ltb _ _ h)
-
-      pub selector-input : getD s (at + 1) 0 ≤ n
-          → selectorAt (treeAt n) n k at (drop (at + 1) s)
-          ≡ cond (leb (getD s (at + 1) 0) k) (fault (refusalAt notAscending at))
-          (branchesAt (treeAt n (getD s (at + 1) 0)) (getD s (at + 1) 0) (at + 2) (drop (at + 2) s))
-      selector-input h = selector-opens ∙ rw (ne-eqb _ _ some, le-ltb _ _ h)
+    pub selector-input : countOut (getD s (at + 1) 0) n ≡ false
+        → selectorAt (treeAt n) n k at (drop (at + 1) s)
+        ≡ cond (leb (getD s (at + 1) 0) k) (fault (refusalAt notAscending at))
+        (branchesAt (treeAt n (getD s (at + 1) 0)) (getD s (at + 1) 0) (at + 2) (drop (at + 2) s))
+    selector-input e = selector-opens ∙ rw e
 
 -- a wire, by its number
 module _ (s : List ℕ) (n m j at f : ℕ) (told : f ≡ dueNumber treeKnown 0x21 (drop at s)) where

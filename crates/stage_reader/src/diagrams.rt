@@ -8,6 +8,7 @@ use base::Refusal;
 use diagram::FIRST_NUMBER;
 use diagram::MOST_ENTRIES;
 use sheet::limits::all_ones;
+use sheet::limits::count_out;
 use table::BoardKind;
 ghost use mathlib.Core.Path.{_≡_};
 ghost use mathlib.Core.List.{List};
@@ -37,10 +38,7 @@ fn entry_refusal(n: u8, own: u8, i: u8, zero: u8, one: u8, inputs: &[u8; NUMBERS
     requires { ⌜ own < mostNumbers ⌝ }
     ensures { λ r. ⌜ ((es : List Entry) → nextNumber es ≡ own → InputsTell n es (now (inputs .entry)) → r ≡ entryRefusal n es (entry i zero one)) ⌝ }
 {
-    if i == 0 {
-        return Refusal::OUT_OF_RANGE;
-    }
-    if n < i {
+    if count_out(i, n) {
         return Refusal::OUT_OF_RANGE;
     }
     if own <= zero {

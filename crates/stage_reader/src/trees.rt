@@ -7,6 +7,7 @@ use crate::steps::WireStep;
 use crate::tables::select;
 use base::Refusal;
 use sheet::limits::all_ones;
+use sheet::limits::count_out;
 use table::BoardKind;
 ghost use mathlib.Core.Path.{_≡_};
 ghost use Prim.Native.Nat.{_+_, _<_, _≤_};
@@ -51,10 +52,7 @@ fn read_selector(s: &[u8], at: usize, n: u8, k: u8) -> WireStep
         return WireStep::Refused(Refusal::at(Refusal::CUT_SHORT, at));
     }
     let i = s[input_at];
-    if i == 0 {
-        return WireStep::Refused(Refusal::at(Refusal::OUT_OF_RANGE, at));
-    }
-    if n < i {
+    if count_out(i, n) {
         return WireStep::Refused(Refusal::at(Refusal::OUT_OF_RANGE, at));
     }
     if i <= k {
