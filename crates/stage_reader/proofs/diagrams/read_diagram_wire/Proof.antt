@@ -33,6 +33,11 @@ start c = from (room c .before .before)
 abbrev count-at : tie.After-turn-number → ℕ
 count-at c = getD (start c .args .s .now) (start c .args .at + 2) 0
 
+turn-told : (c : tie.After-turn-number)
+    → c .turn-number .result
+    ≡ turnNumber (start c .args .m) (start c .args .j) (getD (start c .args .s .now) (start c .args .at + 1) 0) (ltb mostEntries (count-at c))
+turn-told c = c .turn-number .ensures
+
 opens : (c : tie.After-turn-number)
     → diagramWireAt (start c .args .n) (start c .args .m) (start c .args .j) (start c .args .at) (drop (start c .args .at) (start c .args .s .now))
     ≡ judged fault (start c .args .at)
@@ -87,7 +92,7 @@ at-requires-3 c κs = search needs
 returns-3 : tie.Need-returns-3
 returns-3 c =
     let t = c .before .before in
-    let stops = judged-stops fault _ _ _ (t .turn-number .ensures) _ _ (c .before .if3 .taken) (c .at3 .ensures) in
+    let stops = judged-stops fault _ _ _ (turn-told t) _ _ (c .before .if3 .taken) (c .at3 .ensures) in
     step-refused diagramDrawing _ _ _ _ (opens t ∙ stops) refl
 
 add-read-diagram : tie.Need-add-read-diagram
@@ -97,7 +102,7 @@ read-diagram-requires : tie.Need-read-diagram-requires
 read-diagram-requires c κs =
     let t = c .before in
     let a = start t .args in
-    let turn = turn-is (a .m) (a .j) _ (ltb mostEntries (count-at t)) (sym (t .turn-number .ensures) ∙ c .if3 .left) in
+    let turn = turn-is (a .m) (a .j) _ (ltb mostEntries (count-at t)) (sym (turn-told t) ∙ c .if3 .left) in
     (start t .pre, ltb-false mostEntries (count-at t) (turn .2), omega (arith, there (room t)))
 
 returns-4 : tie.Need-returns-4
@@ -105,7 +110,7 @@ returns-4 c =
     let t = c .before .before in
     let a = start t .args in
     let read = andThen (entriesAt (count-at t) (a .n) (a .at + 3) (drop (a .at + 3) (a .s .now))) topAt in
-    rw (opens t, judged-goes fault (a .at) _ _ (t .turn-number .ensures) read (c .before .if3 .left)) (c .read-diagram .ensures)
+    rw (opens t, judged-goes fault (a .at) _ _ (turn-told t) read (c .before .if3 .left)) (c .read-diagram .ensures)
 
 pub read-diagram-wire-spec : {M : Type 1} → statement M
 read-diagram-wire-spec =

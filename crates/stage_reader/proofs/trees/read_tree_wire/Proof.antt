@@ -21,6 +21,10 @@ from c = c .before .before
 abbrev start : tie.After-turn-number → tie.Start
 start c = from (c .before .before .before .before)
 
+turn-told : (c : tie.After-turn-number)
+    → c .turn-number .result ≡ turnNumber (start c .args .m) (start c .args .j) (getD (start c .args .s .now) (start c .args .at + 1) 0) false
+turn-told c = c .turn-number .ensures
+
 opens : (c : tie.After-turn-number)
     → treeWireAt (start c .args .n) (start c .args .m) (start c .args .j) (start c .args .at) (drop (start c .args .at) (start c .args .s .now))
     ≡ judged fault (start c .args .at) (turnNumber (start c .args .m) (start c .args .j) (getD (start c .args .s .now) (start c .args .at + 1) 0) false)
@@ -66,7 +70,7 @@ at-requires-3 c κs = search needs
 returns-3 : tie.Need-returns-3
 returns-3 c =
     let t = c .before .before in
-    let stops = judged-stops fault _ _ _ (t .turn-number .ensures) _ _ (c .before .if3 .taken) (c .at3 .ensures) in
+    let stops = judged-stops fault _ _ _ (turn-told t) _ _ (c .before .if3 .taken) (c .at3 .ensures) in
     step-refused treeDrawing _ _ _ _ (opens t ∙ stops) refl
 
 add-read-tree : tie.Need-add-read-tree
@@ -80,7 +84,7 @@ returns-4 c =
     let t = c .before .before in
     let a = start t .args in
     let read = treeAt (a .n) 0 (a .at + 2) (drop (a .at + 2) (a .s .now)) in
-    rw (opens t, judged-goes fault (a .at) _ _ (t .turn-number .ensures) read (c .before .if3 .left)) (c .read-tree .ensures)
+    rw (opens t, judged-goes fault (a .at) _ _ (turn-told t) read (c .before .if3 .left)) (c .read-tree .ensures)
 
 pub read-tree-wire-spec : {M : Type 1} → statement M
 read-tree-wire-spec =
