@@ -1,19 +1,18 @@
 -- Laws of reading a wire that is a diagram: what is taken are the bytes of a well-formed diagram, these bytes are taken, and bytes behind them change nothing.
 use Prim.Native.Nat.{ℕ, zero, suc, _+_, _*_, _<_, _≤_}
 use mathlib.Core.Path.{_≡_, refl, sym, ap, ap₂, subst, _∙_}
-use mathlib.Core.Bool.{cond, _||_}
+use mathlib.Core.Bool.{_||_}
 use mathlib.Core.List.{List, [], _∷_, _++_, append-assoc}
 use native.Mathlib.Omega.{arith}
-use lib.Dec.{T, leb, ltb, eqb, eqb→eq}
+use lib.Dec.{leb, ltb}
 use lib.ListN.{length, length-append}
-use borrow.Author.Tests.{eq-eqb, lt-leb, le-ltb, leb-false, ltb-false}
-use Rattle.base.specs.Refusals.{refusalAt, outOfRange, outOfTurn}
+use borrow.Author.Tests.{lt-leb, le-ltb, leb-false, ltb-false}
 use Rattle.base.proofs.Tests.{cond-has, cond-has₂, test-no, neither}
 use Rattle.sheet.specs.Limits.{countOut}
 use Rattle.sheet.proofs.Sizes.{count-in, count-fits}
-use Rattle.stage.specs.Steps.{Read, taken, fault, andThen, dueNumber, due, operand}
-use Rattle.stage.specs.Inner.Laws.{withMore, ToldWire}
-use Rattle.stage.proofs.Steps.{due-has, due-more, then-more}
+use Rattle.stage.specs.Steps.{Read, taken, fault, andThen, judged, dueNumber, due, operand, turnNumber}
+use Rattle.stage.specs.Inner.Laws.{withMore, Told, ToldWire}
+use Rattle.stage.proofs.Steps.{judged-has, judged-has₂, due-has, due-more, turn-is, turn-comes, then-more}
 use Rattle.diagram.specs.Diagram.{Entry, entry, Diagram, nextNumber, inputAt, FitsAfter, EntriesFit, mostEntries, WellFormed}
 use Rattle.diagram.specs.Bytes.{entryBytes, entriesBytes, diagramWireBytes}
 use Rattle.diagram.specs.Read.{diagramKnown, entryRefusal, entryAt, entriesAt, topAt, diagramWireAt}
@@ -21,14 +20,14 @@ use Rattle.diagram.specs.Diagrams.{diagramForm}
 
 -- an entry is not refused just where it may follow those before it
 module _ (n : ℕ) (before : List Entry) (e : Entry) where
-  pub unrefused-fits : T (eqb (entryRefusal n before e) 0) → FitsAfter n before e
+  pub unrefused-fits : entryRefusal n before e ≡ 0 → FitsAfter n before e
   unfolding entryRefusal
   unrefused-fits =
-      cond-has Fits (countOut (e .input) n) (λ _ h. absurd h)
+      cond-has Fits (countOut (e .input) n) (λ _ h. absurd (omega (arith, h)))
       (λ a.
-      cond-has Fits (leb next (e .onZero) || leb next (e .onOne)) (λ _ h. absurd h)
+      cond-has Fits (leb next (e .onZero) || leb next (e .onOne)) (λ _ h. absurd (omega (arith, h)))
       (λ b.
-      cond-has Fits (leb (inputAt n before (e .onZero)) (e .input) || leb (inputAt n before (e .onOne)) (e .input)) (λ _ h. absurd h)
+      cond-has Fits (leb (inputAt n before (e .onZero)) (e .input) || leb (inputAt n before (e .onOne)) (e .input)) (λ _ h. absurd (omega (arith, h)))
       (λ c _.
       let i = count-in (e .input) n (test-no (countOut (e .input) n) a) in
       let lower = neither (leb next (e .onZero)) (leb next (e .onOne)) (test-no _ b) in
@@ -46,7 +45,7 @@ module _ (n : ℕ) (before : List Entry) (e : Entry) where
       next = nextNumber before
 
       Fits : ℕ → Type 0
-      Fits v = T (eqb v 0) → FitsAfter n before e
+      Fits v = v ≡ 0 → FitsAfter n before e
 
   pub fits-unrefused : FitsAfter n before e → entryRefusal n before e ≡ 0
   unfolding entryRefusal
@@ -70,9 +69,8 @@ unfolding diagramWireBytes
 wire-length j d = omega (arith, length-append (entriesBytes (d .entries)) (d .top ∷ []), entries-bytes-length (d .entries))
 
 -- what is taken as an entry are its three bytes, and it may follow those before it
-abbrev pub ToldEntry : ℕ → List Entry → ℕ → List ℕ → Read Entry → Type 0
-ToldEntry n before at bytes (taken e next rest) = (bytes ≡ entryBytes e ++ rest) × (next ≡ at + 3) × FitsAfter n before e
-ToldEntry n before at bytes (fault f) = Unit {0}
+abbrev pub ToldEntry : (n : ℕ) (before : List Entry) (at : ℕ) → List ℕ → Read Entry → Type 0
+ToldEntry n before = Told entryBytes (FitsAfter n before)
 
 pub entry-told : (n : ℕ) (before : List Entry) (at : ℕ) (bytes : List ℕ) → ToldEntry n before at bytes (entryAt n before at bytes)
 unfolding entryAt operand
@@ -80,9 +78,8 @@ entry-told n before at [] = tt
 entry-told n before at (i ∷ []) = tt
 entry-told n before at (i ∷ z ∷ []) = tt
 entry-told n before at (i ∷ z ∷ o ∷ rest) =
-    cond-has (ToldEntry n before at (i ∷ z ∷ o ∷ rest)) (eqb (entryRefusal n before (entry i z o)) 0)
+    judged-has (ToldEntry n before at (i ∷ z ∷ o ∷ rest)) fault at (entryRefusal n before (entry i z o)) (λ _. tt)
     (λ h. (refl, refl, unrefused-fits n before (entry i z o) h))
-    (λ _. tt)
 
 -- the first c entries
 abbrev pub ToldEntries : (c n at : ℕ) → List ℕ → Read (List Entry) → Type 0
@@ -146,17 +143,15 @@ wire-told n m j at bytes =
         → ToldWire diagramForm n j at (0x26 ∷ rest)
         (operand fault at
         (λ i. operand fault at
-        (λ c rest. cond (leb m i || ltb mostEntries c) (fault (refusalAt outOfRange at))
-        (cond (eqb i j) (andThen (entriesAt c n (at + 3) rest) topAt) (fault (refusalAt outOfTurn at)))))
+        (λ c rest. judged fault at (turnNumber m j i (ltb mostEntries c)) (andThen (entriesAt c n (at + 3) rest) topAt)))
         rest)
     number [] = tt
     number (i ∷ []) = tt
     number (i ∷ c ∷ rest) =
-        cond-has (ToldWire diagramForm n j at (0x26 ∷ i ∷ c ∷ rest)) (leb m i || ltb mostEntries c) (λ _. tt)
-        (λ s.
-        cond-has (ToldWire diagramForm n j at (0x26 ∷ i ∷ c ∷ rest)) (eqb i j)
-        (λ e. rw (eqb→eq i j e) (list-told c n j at rest (ltb-false mostEntries c (neither (leb m i) (ltb mostEntries c) (test-no _ s) .1))))
-        (λ _. tt))
+        judged-has (ToldWire diagramForm n j at (0x26 ∷ i ∷ c ∷ rest)) fault at (turnNumber m j i (ltb mostEntries c)) (λ _. tt)
+        (λ e.
+        let turn = turn-is m j i (ltb mostEntries c) e in
+        rw (turn .0) (list-told c n j at rest (ltb-false mostEntries c (turn .2))))
 
 -- the bytes of a well-formed diagram are taken as that diagram
 entries-back : (es : List Entry) (n at : ℕ) (q : List ℕ) → EntriesFit n es
@@ -175,9 +170,7 @@ wire-back n m j at d q l w =
     let len : at + 3 + 3 * length es + 1 ≡ at + length (0x26 ∷ j ∷ length es ∷ entriesBytes es ++ d .top ∷ []) =
     omega (arith, length-append (entriesBytes es) (d .top ∷ []), entries-bytes-length es) in
     rw (
-      lt-leb m j l,
-      le-ltb mostEntries (length es) (w .few),
-      eq-eqb j j refl,
+      turn-comes m j (ltb mostEntries (length es)) l (le-ltb mostEntries (length es) (w .few)),
       append-assoc (entriesBytes es) (d .top ∷ []) q,
       entries-back es n (at + 3) (d .top ∷ q) (w .fit),
       lt-leb (nextNumber es) (d .top) (omega (arith, w .top-there)),
@@ -192,7 +185,7 @@ entry-more n before at [] q h = absurd (omega arith)
 entry-more n before at (i ∷ []) q h = absurd (omega arith)
 entry-more n before at (i ∷ z ∷ []) q h = absurd (omega arith)
 entry-more n before at (i ∷ z ∷ o ∷ rest) q h =
-    cond-has₂ (λ (x y : Read Entry). x ≡ withMore q y) (eqb (entryRefusal n before (entry i z o)) 0) (λ _. refl) (λ _. refl)
+    judged-has₂ (λ (x y : Read Entry). x ≡ withMore q y) fault fault at (entryRefusal n before (entry i z o)) (λ _. refl) (λ _. refl)
 
 entries-more : (c n at : ℕ) (bytes q : List ℕ) → 3 * c ≤ length bytes → entriesAt c n at (bytes ++ q) ≡ withMore q (entriesAt c n at bytes)
 unfolding entriesAt withMore
@@ -227,11 +220,8 @@ wire-more n m j at (b ∷ []) q h = absurd (omega arith)
 wire-more n m j at (b ∷ i ∷ []) q h = absurd (omega arith)
 wire-more n m j at (b ∷ i ∷ c ∷ rest) q h =
     due-more Same diagramKnown fault 0x26 at _ (λ _. refl) b (i ∷ c ∷ rest) q
-    (cond-has₂ Same (leb m i || ltb mostEntries c) (λ _. refl)
-    (λ s.
-    cond-has₂ Same (eqb i j)
-    (λ _. list-more c n (at + 3) rest q (omega (arith, ltb-false mostEntries c (neither (leb m i) (ltb mostEntries c) (test-no _ s) .1))))
-    (λ _. refl)))
+    (judged-has₂ Same fault fault at (turnNumber m j i (ltb mostEntries c)) (λ _. refl)
+    (λ e. list-more c n (at + 3) rest q (omega (arith, ltb-false mostEntries c (turn-is m j i (ltb mostEntries c) e .2)))))
   where
     Same : Read Diagram → Read Diagram → Type 0
     Same x y = x ≡ withMore q y

@@ -4,9 +4,9 @@ use Prim.Native.Nat.{ℕ, zero, suc, _+_}
 use mathlib.Core.Bool.{Bool, cond, _||_}
 use mathlib.Core.List.{List, [], _∷_}
 use lib.Dec.{ltb, leb, eqb}
-use Rattle.base.specs.Refusals.{refusalAt, outOfRange, outOfTurn, noSignal, notAscending}
+use Rattle.base.specs.Refusals.{refusalAt, outOfRange, noSignal, notAscending}
 use Rattle.sheet.specs.Limits.{countOut}
-use Rattle.stage.specs.Steps.{Read, taken, fault, andThen, due, operand}
+use Rattle.stage.specs.Steps.{Read, taken, fault, andThen, judged, due, operand, turnNumber}
 use Rattle.diagram.specs.Diagram.{Entry, entry, Diagram, diagram, nextNumber, inputAt, mostEntries}
 
 -- the first bytes of the sheet's commands
@@ -27,9 +27,7 @@ entryAt n before at =
     operand fault at
     (λ i. operand fault at
     (λ z. operand fault at
-    (λ o rest.
-    cond (eqb (entryRefusal n before (entry i z o)) 0) (taken (entry i z o) (at + 3) rest)
-    (fault (refusalAt (entryRefusal n before (entry i z o)) at)))))
+    (λ o rest. judged fault at (entryRefusal n before (entry i z o)) (taken (entry i z o) (at + 3) rest))))
 
 -- the first c entries: those before the last, and the last after them
 unfoldable pub entriesAt : ℕ → ℕ → ℕ → List ℕ → Read (List Entry)
@@ -48,6 +46,4 @@ diagramWireAt n m j at =
     due diagramKnown fault 0x26 at
     (operand fault at
     (λ i. operand fault at
-    (λ c rest.
-    cond (leb m i || ltb mostEntries c) (fault (refusalAt outOfRange at))
-    (cond (eqb i j) (andThen (entriesAt c n (at + 3) rest) topAt) (fault (refusalAt outOfTurn at))))))
+    (λ c rest. judged fault at (turnNumber m j i (ltb mostEntries c)) (andThen (entriesAt c n (at + 3) rest) topAt))))

@@ -53,7 +53,7 @@ pub fn bits_past(k: u8, x: u16) -> bool
 }
 
 // A count outside 1 to most.
-fn count_out(x: u8, most: u8) -> bool
+pub fn count_out(x: u8, most: u8) -> bool
     ensures { λ r. ⌜ r ≡ countOut x most ⌝ }
 {
     if x == 0 { true } else { most < x }

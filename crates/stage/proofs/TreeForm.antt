@@ -1,15 +1,11 @@
 -- Trees are a form: their wires are read as they are written, and cells are fair to them. Their stages' lengths.
 use Prim.Native.Nat.{ℕ, _+_, _*_, _-_, _<_, _≤_}
 use mathlib.Core.Path.{_≡_, refl, sym, ap, _∙_}
-use mathlib.Core.Bool.{cond}
+use mathlib.Core.Bool.{false}
 use mathlib.Core.List.{List, [], _∷_, _++_}
 use native.Mathlib.Omega.{arith}
 use native.Mathlib.Nat.{mod-eq-of-lt, zero-add}
-use lib.Dec.{leb, eqb, eqb→eq}
 use lib.ListN.{length, take}
-use borrow.Author.Tests.{eq-eqb, lt-leb}
-use Rattle.base.specs.Refusals.{refusalAt, outOfRange, outOfTurn}
-use Rattle.base.proofs.Tests.{cond-has}
 use Rattle.sheet.specs.Limits.{maxInputs, maxWires, maxPatterns}
 use Rattle.table.specs.Bits.{bit}
 use Rattle.table.specs.Cells.{cells, wires, total}
@@ -18,13 +14,13 @@ use Rattle.table.specs.Tree.{Tree, Ordered, selectors, reduced}
 use Rattle.table.specs.Inner.Drawing.{FairCount}
 use Rattle.table.proofs.Cells.{cells-lt}
 use Rattle.table.proofs.Trees.{follow-lt, least-tree, reduced-selectors, reduced-ordered, reduced-follow}
-use Rattle.stage.specs.Steps.{Read, taken, fault, dueNumber, due, operand}
+use Rattle.stage.specs.Steps.{Read, taken, fault, judged, dueNumber, due, operand, turnNumber}
 use Rattle.stage.specs.TreeBytes.{treeBytes, treeWireBytes, sheetFrame, selectorBytes, treeFrame, longestStage}
 use Rattle.stage.specs.TreeRead.{treeKnown, treeAt, treeWireAt}
 use Rattle.stage.specs.Trees.{treeForm, treeDrawing, readStage}
 use Rattle.stage.specs.Written.{stageOf}
 use Rattle.stage.specs.Inner.Laws.{ToldWire, FormLaws}
-use Rattle.stage.proofs.Steps.{due-has}
+use Rattle.stage.proofs.Steps.{judged-has, due-has, turn-is, turn-comes}
 use Rattle.stage.proofs.Lengths.{sheet-length, sheet-length-most}
 use Rattle.stage.proofs.Prefix.{none-longer as sheet-none-longer, front-tells as sheet-front}
 use Rattle.stage.proofs.TreeReading.{ToldTree, tree-told, tree-back, tree-length}
@@ -43,23 +39,18 @@ wire-told n m j at bytes =
   where
     number : (rest : List ℕ)
         → ToldWire treeForm n j at (0x21 ∷ rest)
-        (operand fault at
-        (λ i rest. cond (leb m i) (fault (refusalAt outOfRange at)) (cond (eqb i j) (treeAt n 0 (at + 2) rest) (fault (refusalAt outOfTurn at))))
-        rest)
+        (operand fault at (λ i rest. judged fault at (turnNumber m j i false) (treeAt n 0 (at + 2) rest)) rest)
     number [] = tt
     number (i ∷ rest) =
-        cond-has (ToldWire treeForm n j at (0x21 ∷ i ∷ rest)) (leb m i) (λ _. tt)
-        (λ _.
-        cond-has (ToldWire treeForm n j at (0x21 ∷ i ∷ rest)) (eqb i j)
-        (λ e. rw (eqb→eq i j e) (tree-of-wire n j at rest (treeAt n 0 (at + 2) rest) (tree-told n 0 (at + 2) rest)))
-        (λ _. tt))
+        judged-has (ToldWire treeForm n j at (0x21 ∷ i ∷ rest)) fault at (turnNumber m j i false) (λ _. tt)
+        (λ e. rw (turn-is m j i false e .0) (tree-of-wire n j at rest (treeAt n 0 (at + 2) rest) (tree-told n 0 (at + 2) rest)))
 
 pub wire-back : (n m j at : ℕ) (x : Tree) (q : List ℕ) → j < m → Ordered n 0 x
     → treeWireAt n m j at (treeWireBytes j x ++ q) ≡ taken x (at + length (treeWireBytes j x)) q
 unfolding treeWireAt due dueNumber operand
 wire-back n m j at x q l o =
     let len : at + 2 + length (treeBytes x) ≡ at + length (treeWireBytes j x) = omega arith in
-    rw (lt-leb m j l, eq-eqb j j refl) (tree-back x n 0 (at + 2) q (omega arith) o ∙ ap (λ y. taken x y q) len)
+    rw (turn-comes m j false l refl) (tree-back x n 0 (at + 2) q (omega arith) o ∙ ap (λ y. taken x y q) len)
 
 -- the count of cells is fair to trees: none of a function has fewer selectors, and the reduced one has as many
 unfoldable pub tree-counts : (n : ℕ) → FairCount treeDrawing n (cells n)

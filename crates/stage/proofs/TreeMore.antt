@@ -1,6 +1,7 @@
 -- Laws of reading a tree with more bytes behind it: they change nothing once enough bytes for any tree are there.
 use Prim.Native.Nat.{ℕ, zero, suc, _+_, _*_, _^_, _-_, _<_, _≤_}
 use mathlib.Core.Path.{_≡_, refl, ap, subst, _∙_}
+use mathlib.Core.Bool.{false}
 use mathlib.Core.List.{List, [], _∷_, _++_}
 use native.Mathlib.Omega.{arith}
 use lib.Dec.{leb, eqb, nleb→lt}
@@ -10,11 +11,11 @@ use Rattle.base.proofs.Tests.{cond-has₂, test-no}
 use Rattle.sheet.specs.Limits.{countOut}
 use Rattle.sheet.proofs.Sizes.{count-in}
 use Rattle.table.specs.Tree.{Tree, Ordered}
-use Rattle.stage.specs.Steps.{Read, taken, fault, operand}
+use Rattle.stage.specs.Steps.{Read, taken, fault, operand, turnNumber}
 use Rattle.stage.specs.TreeBytes.{treeBytes}
 use Rattle.stage.specs.TreeRead.{treeKnown, branchesAt, selectorAt, treeFrom, treeAt, treeWireAt}
 use Rattle.stage.specs.Inner.Laws.{withMore}
-use Rattle.stage.proofs.Steps.{due-more, then-more}
+use Rattle.stage.proofs.Steps.{judged-has₂, due-more, then-more}
 use Rattle.stage.proofs.TreeReading.{Branch, ToldTree, tree-is, tree-told, tree-length}
 use Rattle.stage.proofs.TreeTables.{selectors-lt}
 
@@ -81,8 +82,8 @@ wire-more n m j at [] q h = absurd (omega arith)
 wire-more n m j at (b ∷ []) q h = absurd (omega (arith, pow-pos n))
 wire-more n m j at (b ∷ i ∷ rest) q h =
     due-more Same treeKnown fault 0x21 at _ (λ _. refl) b (i ∷ rest) q
-    (cond-has₂ Same (leb m i) (λ _. refl)
-    (λ _. cond-has₂ Same (eqb i j) (λ _. tree-more n n 0 (omega arith) (omega arith) (at + 2) rest q (omega arith)) (λ _. refl)))
+    (judged-has₂ Same fault fault at (turnNumber m j i false) (λ _. refl)
+    (λ _. tree-more n n 0 (omega arith) (omega arith) (at + 2) rest q (omega arith)))
   where
     Same : Read Tree → Read Tree → Type 0
     Same x y = x ≡ withMore q y

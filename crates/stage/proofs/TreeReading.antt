@@ -15,6 +15,7 @@ use Rattle.table.specs.Tree.{Tree, con, sel, Ordered, selectors}
 use Rattle.stage.specs.Steps.{Read, taken, fault, andThen, misplaced, operand}
 use Rattle.stage.specs.TreeBytes.{treeBytes}
 use Rattle.stage.specs.TreeRead.{treeKnown, branchesAt, selectorAt, treeFrom, treeWithin, treeAt}
+use Rattle.stage.specs.Inner.Laws.{Told}
 use Rattle.sheet.proofs.Sizes.{count-in, count-fits}
 
 -- a tree takes a byte, and three more for each selector
@@ -60,9 +61,8 @@ tree-is n k l at bytes =
     bytes
 
 -- what is taken are the bytes of an ordered tree, and the place moves past them
-abbrev pub ToldTree : ℕ → ℕ → ℕ → List ℕ → Read Tree → Type 0
-ToldTree n k at bytes (taken x next rest) = (bytes ≡ treeBytes x ++ rest) × (next ≡ at + length (treeBytes x)) × Ordered n k x
-ToldTree n k at bytes (fault f) = Unit {0}
+abbrev pub ToldTree : (n k at : ℕ) → List ℕ → Read Tree → Type 0
+ToldTree n k = Told treeBytes (Ordered n k)
 
 abbrev TellsAt : ℕ → ℕ → (ℕ → List ℕ → Read Tree) → Type 0
 TellsAt n k read = (at : ℕ) (bytes : List ℕ) → ToldTree n k at bytes (read at bytes)

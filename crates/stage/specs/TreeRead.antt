@@ -1,12 +1,12 @@
 -- Document 01, "Stage sheet" and "Refusals": reading a wire that is a decision tree. For one command the refusals come in the order 2, 5, 1, 3, 11.
 use Prim.Native.Nat.{ℕ, zero, suc, _+_, _-_}
-use mathlib.Core.Bool.{Bool, cond, _||_}
+use mathlib.Core.Bool.{Bool, false, cond, _||_}
 use mathlib.Core.List.{List, [], _∷_}
 use lib.Dec.{leb, eqb}
-use Rattle.base.specs.Refusals.{refusalAt, cutShort, outOfRange, outOfTurn, notAscending}
+use Rattle.base.specs.Refusals.{refusalAt, cutShort, outOfRange, notAscending}
 use Rattle.sheet.specs.Limits.{countOut}
 use Rattle.table.specs.Tree.{Tree, con, sel}
-use Rattle.stage.specs.Steps.{Read, taken, fault, andThen, misplaced, due, operand}
+use Rattle.stage.specs.Steps.{Read, taken, fault, andThen, judged, misplaced, due, operand, turnNumber}
 
 -- the first bytes of the sheet's commands
 abbrev pub treeKnown : ℕ → Bool
@@ -46,6 +46,4 @@ treeAt n k at bytes = treeWithin (suc (n - k)) n k at bytes
 unfoldable pub treeWireAt : ℕ → ℕ → ℕ → ℕ → List ℕ → Read Tree
 treeWireAt n m j at =
     due treeKnown fault 0x21 at
-    (operand fault at
-    (λ i rest.
-    cond (leb m i) (fault (refusalAt outOfRange at)) (cond (eqb i j) (treeAt n 0 (at + 2) rest) (fault (refusalAt outOfTurn at)))))
+    (operand fault at (λ i rest. judged fault at (turnNumber m j i false) (treeAt n 0 (at + 2) rest)))

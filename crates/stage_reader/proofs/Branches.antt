@@ -7,31 +7,24 @@ use lib.ListN.{drop}
 use Rattle.base.specs.declared.Refusal.{Refusal}
 use Rattle.sheet.specs.Limits.{maxInputs, maxPatterns}
 use Rattle.table.specs.Tree.{Tree, sel, Ordered, selectors}
-use Rattle.stage.specs.Steps.{Read, taken, fault, andThen}
+use Rattle.stage.specs.Steps.{Read, andThen}
 use Rattle.stage.specs.TreeBytes.{treeBytes}
 use Rattle.stage.specs.TreeRead.{branchesAt, treeAt}
 use Rattle.stage.specs.Trees.{treeDrawing, tableOf}
-use Rattle.stage.proofs.TreeReading.{ToldTree, tree-told}
+use Rattle.stage.proofs.TreeReading.{tree-told}
 use Rattle.stage.proofs.TreeTables.{table-lt, selectors-few}
 use Rattle.stage_reader.specs.Inner.Tables.{selectOf}
 use Rattle.stage_reader.specs.Inner.Wires.{takenWire, refusedWire, stepOf}
 use Rattle.stage_reader.proofs.Selecting.{table-select}
-use Rattle.stage_reader.proofs.Taken.{after-part, fell, GoesOn, Took, took}
+use Rattle.stage_reader.proofs.Taken.{fell, Took, took}
 
 -- the tree at a place, read
 abbrev there : List ℕ → ℕ → ℕ → ℕ → Read Tree
 there s n k at = treeAt n k at (drop at s)
 
-goes-on : (s : List ℕ) (n k at : ℕ) → GoesOn treeDrawing (Ordered n k) s (there s n k at)
-goes-on s n k at = go (there s n k at) (tree-told n k at (drop at s))
-  where
-    go : (y : Read Tree) → ToldTree n k at (drop at s) y → GoesOn treeDrawing (Ordered n k) s y
-    go (fault f) h = tt
-    go (taken x next rest) h = (after-part s at next (treeBytes x) rest (h .0) (h .1), h .2)
-
 tree-took : (s : List ℕ) (n k at t c next : ℕ) → takenWire t c next ≡ stepOf treeDrawing n (there s n k at)
     → Took treeDrawing (Ordered n k) (there s n k at) s n t c next
-tree-took s n k at t c next e = took treeDrawing (Ordered n k) s n t c next (there s n k at) (goes-on s n k at) e
+tree-took s n k at t c next e = took treeDrawing (Ordered n k) treeBytes s n at t c next (there s n k at) (tree-told n k at (drop at s)) e
 
 -- the bounds of what the reader of trees hands back
 pub tree-bounds : (s : List ℕ) (n k at t c next : ℕ) → k ≤ n → n ≤ maxInputs → takenWire t c next ≡ stepOf treeDrawing n (there s n k at)

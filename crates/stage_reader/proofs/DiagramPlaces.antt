@@ -1,17 +1,16 @@
 -- Laws of reading a diagram at a place of a slice, by what stands there.
 use Prim.Native.Nat.{ℕ, _+_, _-_, _<_, _≤_}
-use mathlib.Core.Path.{_≡_, sym, _∙_}
+use mathlib.Core.Path.{_≡_, _∙_}
 use mathlib.Core.Logic.{⊎-elim}
-use mathlib.Core.Bool.{cond, _||_}
 use mathlib.Core.List.{List}
 use native.Mathlib.Omega.{arith}
-use lib.Dec.{leb, ltb, eqb, leb→le, nleb→lt}
+use lib.Dec.{leb, ltb, leb→le, nleb→lt}
 use lib.ListN.{length, getD, drop}
-use borrow.Author.Tests.{lt-leb, le-leb, lt-ltb, le-ltb}
+use borrow.Author.Tests.{lt-leb, le-leb}
 use Rattle.base.specs.declared.Refusal.{Refusal}
-use Rattle.base.specs.Refusals.{refusalAt, cutShort, outOfRange, outOfTurn, noSignal}
+use Rattle.base.specs.Refusals.{refusalAt, cutShort, noSignal}
 use Rattle.base.proofs.Tests.{decide}
-use Rattle.stage.specs.Steps.{taken, fault, andThen, dueNumber}
+use Rattle.stage.specs.Steps.{taken, fault, andThen, judged, dueNumber, turnNumber}
 use Rattle.diagram.specs.Diagram.{Entry, diagram, nextNumber, mostEntries}
 use Rattle.diagram.specs.Read.{diagramKnown, entryRefusal, entryAt, entriesAt, topAt, diagramWireAt}
 use Rattle.stage_reader.specs.Inner.Numbers.{entryThere, entryBy}
@@ -50,7 +49,7 @@ module _ (s : List ℕ) (es : List Entry) (at : ℕ) where
 module _ (s : List ℕ) (n m j at f : ℕ) (told : f ≡ dueNumber diagramKnown 0x26 (drop at s)) where
   pub wire-refused : (g : Refusal) → (f ≡ 0 → ⊥) → g ≡ refusalAt f at → diagramWireAt n m j at (drop at s) ≡ fault g
   unfolding diagramWireAt
-  wire-refused g h e = sym (due-refused diagramKnown s 0x26 at f told fault _ g h e)
+  wire-refused g h e = due-refused diagramKnown s 0x26 at f told fault _ g h e
 
   module _ (due-there : f ≡ 0) where
     pub wire-cut : length s - at < 3 → diagramWireAt n m j at (drop at s) ≡ fault (refusalAt cutShort at)
@@ -59,21 +58,9 @@ module _ (s : List ℕ) (n m j at f : ℕ) (told : f ≡ dueNumber diagramKnown 
         due-goes diagramKnown s 0x26 at f told fault _ due-there
         ∙ two-stop fault _ s at (omega (arith, due-within diagramKnown s 0x26 at f told due-there))
 
-    module _ (there : at + 3 ≤ length s) where
-      wire-opens : diagramWireAt n m j at (drop at s)
-          ≡ cond (leb m (getD s (at + 1) 0) || ltb mostEntries (getD s (at + 2) 0)) (fault (refusalAt outOfRange at))
-          (cond (eqb (getD s (at + 1) 0) j) (andThen (entriesAt (getD s (at + 2) 0) n (at + 3) (drop (at + 3) s)) topAt) (fault (refusalAt outOfTurn at)))
-      unfolding diagramWireAt
-      wire-opens = due-goes diagramKnown s 0x26 at f told fault _ due-there ∙ two-go fault _ s at there
-
-      pub wire-past : m ≤ getD s (at + 1) 0 → diagramWireAt n m j at (drop at s) ≡ fault (refusalAt outOfRange at)
-      wire-past h = wire-opens ∙ rw (le-leb _ _ h)
-
-      module _ (wire-in : getD s (at + 1) 0 < m) where
-        pub wire-long : mostEntries < getD s (at + 2) 0 → diagramWireAt n m j at (drop at s) ≡ fault (refusalAt outOfRange at)
-        wire-long h = wire-opens ∙ rw (lt-leb _ _ wire-in, lt-ltb _ _ h)
-
-        pub wire-number : getD s (at + 2) 0 ≤ mostEntries
-            → diagramWireAt n m j at (drop at s)
-            ≡ cond (eqb (getD s (at + 1) 0) j) (andThen (entriesAt (getD s (at + 2) 0) n (at + 3) (drop (at + 3) s)) topAt) (fault (refusalAt outOfTurn at))
-        wire-number h = wire-opens ∙ rw (lt-leb _ _ wire-in, le-ltb _ _ h)
+    pub wire-opens : at + 3 ≤ length s
+        → diagramWireAt n m j at (drop at s)
+        ≡ judged fault at (turnNumber m j (getD s (at + 1) 0) (ltb mostEntries (getD s (at + 2) 0)))
+        (andThen (entriesAt (getD s (at + 2) 0) n (at + 3) (drop (at + 3) s)) topAt)
+    unfolding diagramWireAt
+    wire-opens there = due-goes diagramKnown s 0x26 at f told fault _ due-there ∙ two-go fault _ s at there

@@ -13,14 +13,14 @@ use Rattle.sheet.specs.Limits.{maxWires}
 use Rattle.table.specs.Bits.{tabulate}
 use Rattle.table.specs.Drawing.{StageSheet, got, noStage, drawnTable, drawnCells}
 use Rattle.stage.specs.Form.{StageForm}
-use Rattle.stage.specs.Inner.Laws.{FormLaws, ToldWire}
+use Rattle.stage.specs.Inner.Laws.{FormLaws}
 use Rattle.stage.specs.Read.{wiresAt, endAt, closed, drawing}
 use Rattle.stage.specs.Reply.{StageReply, stageTables, refusedReply, replyToStage}
 use Rattle.stage.specs.Steps.{Read, taken, fault, andThen}
 use Rattle.stage.proofs.Sheets.{ToldWires, wires-told}
 use Rattle.stage_reader.specs.Inner.Wires.{takenWire, refusedWire, stepOf}
 use Rattle.stage_reader.proofs.Ends.{end-map, byVerdict, end-verdict}
-use Rattle.stage_reader.proofs.Taken.{Took, GoesOn, after-part, took, fell}
+use Rattle.stage_reader.proofs.Taken.{Took, took, fell}
 
 module _ (F : StageForm) where
   -- wire j of a slice, and what is left to read from it on
@@ -84,16 +84,10 @@ module _ (F : StageForm) where
 
 module _ (F : StageForm) (L : FormLaws F) where
   -- what drives a wire that was read
-  wire-goes-on : (s : List ℕ) (n m j at : ℕ) → GoesOn (drawing F) (F .WellFormed n) s (wireThere F s n m j at)
-  wire-goes-on s n m j at = go (wireThere F s n m j at) (L .told n m j at (drop at s))
-    where
-      go : (y : Read (F .Shape)) → ToldWire F n j at (drop at s) y → GoesOn (drawing F) (F .WellFormed n) s y
-      go (fault f) h = tt
-      go (taken x next rest) h = (after-part s at next (F .wireBytes j x) rest (h .0) (h .1), h .2)
-
   pub wire-took : (s : List ℕ) (n m j at t c next : ℕ) → takenWire t c next ≡ stepOf (drawing F) n (wireThere F s n m j at)
       → Took (drawing F) (F .WellFormed n) (wireThere F s n m j at) s n t c next
-  wire-took s n m j at t c next e = took (drawing F) (F .WellFormed n) s n t c next (wireThere F s n m j at) (wire-goes-on s n m j at) e
+  wire-took s n m j at t c next e =
+      took (drawing F) (F .WellFormed n) (F .wireBytes j) s n at t c next (wireThere F s n m j at) (L .told n m j at (drop at s)) e
 
   pub from-nothing : (s : List ℕ) (n m : ℕ) → m ≤ maxWires
       → replyWith F (replicate maxWires 0) 0 0 (closed F n m (wiresAt F m n m 0 3 (drop 3 s)))

@@ -18,9 +18,20 @@ use Rattle.stage.proofs.TreeTables.{table-lt}
 use Rattle.diagram.specs.Diagram.{Entry, diagram, nextNumber, inputAt, followEntry, FitsAfter, EntriesFit, mostEntries}
 use Rattle.diagram.specs.Diagrams.{diagramDrawing}
 use Rattle.diagram.proofs.Entries.{treeOf, follow-tree, diagram-ordered}
-use Rattle.stage_reader.specs.Inner.Numbers.{mostNumbers, InputsTell, TablesTell, Selects, tableBy}
+use Rattle.stage_reader.specs.Inner.Numbers.{mostNumbers, Tells, InputsTell, TablesTell, Selects, tableBy}
 use Rattle.stage_reader.specs.Inner.Tables.{selectOf}
 use Rattle.stage_reader.proofs.Selecting.{table-zero, table-one, table-select}
+
+-- an array that tells what each number has tells one number more, that of the next entry, once what this has is in its place
+tells-more : (es : List Entry) (e : Entry) (before after : ℕ → ℕ) (l : List ℕ) (v : ℕ) → Tells before (nextNumber es) l → nextNumber es < length l
+    → v ≡ after (nextNumber es) → ((x : ℕ) → (x ≡ nextNumber es → ⊥) → before x ≡ after x) → Tells after (nextNumber (e ∷ es)) (set l (nextNumber es) v)
+tells-more es e before after l v tell room latest earlier x h =
+    ⊎-elim
+    (λ same. rw same (getD-set-same l (nextNumber es) v 0 room ∙ latest))
+    (λ lower.
+    let other : x ≡ nextNumber es → ⊥ = λ d. omega (arith, d, lower) in
+    getD-set-other l (nextNumber es) x v 0 other ∙ tell x lower ∙ earlier x other)
+    (below-suc {k = nextNumber es} (omega arith))
 
 -- what a number drives is what its tree drives
 number-table : (n : ℕ) (es : List Entry) (x : ℕ) → drawnTable diagramDrawing n (diagram es x) ≡ tableOf n (treeOf es x)
@@ -91,24 +102,11 @@ module _ (n : ℕ) (es : List Entry) (few : length es ≤ mostEntries) (fit : En
           ∙ sym (number-table n (e ∷ es) (nextNumber es))
 
       pub tables-more : nextNumber es < length tables → TablesTell n (e ∷ es) (set tables (nextNumber es) (tableBy n tables e))
-      tables-more room x l =
-          ⊎-elim
-          (λ same. rw same (getD-set-same tables (nextNumber es) (tableBy n tables e) 0 room ∙ latest-table))
-          (λ lower.
-          let other : x ≡ nextNumber es → ⊥ = λ d. omega (arith, d, lower) in
-          getD-set-other tables (nextNumber es) x (tableBy n tables e) 0 other
-          ∙ tell x lower
-          ∙ number-table n es x
-          ∙ ap (tableOf n) (sym (earlier-tree n es e x other))
-          ∙ sym (number-table n (e ∷ es) x))
-          (below-suc {k = nextNumber es} (omega arith))
+      tables-more room =
+          tells-more es e _ _ tables (tableBy n tables e) tell room latest-table
+          (λ x other. number-table n es x ∙ ap (tableOf n) (sym (earlier-tree n es e x other)) ∙ sym (number-table n (e ∷ es) x))
 
 pub inputs-more : (n : ℕ) (es : List Entry) (inputs : List ℕ) → InputsTell n es inputs → nextNumber es < length inputs
     → (e : Entry) → InputsTell n (e ∷ es) (set inputs (nextNumber es) (e .input))
-inputs-more n es inputs tell room e x l =
-    ⊎-elim
-    (λ same. rw same (getD-set-same inputs (nextNumber es) (e .input) 0 room ∙ sym (latest-input n es e)))
-    (λ lower.
-    let other : x ≡ nextNumber es → ⊥ = λ d. omega (arith, d, lower) in
-    getD-set-other inputs (nextNumber es) x (e .input) 0 other ∙ tell x lower ∙ sym (earlier-input n es e x other))
-    (below-suc {k = nextNumber es} (omega arith))
+inputs-more n es inputs tell room e =
+    tells-more es e _ _ inputs (e .input) tell room (sym (latest-input n es e)) (λ x other. sym (earlier-input n es e x other))

@@ -16,7 +16,7 @@ use Rattle.base.proofs.Tests.{decide}
 use Rattle.sheet.specs.Limits.{sizesOut}
 use Rattle.table.specs.Drawing.{noStage}
 use Rattle.stage.specs.Form.{StageForm}
-use Rattle.stage.specs.Steps.{dueNumber, due, operand}
+use Rattle.stage.specs.Steps.{judged, dueNumber, due, operand}
 use Rattle.stage.specs.Read.{wiresAt, closed, readSheet}
 
 module _ (s : List ℕ) (at : ℕ) where
@@ -25,6 +25,14 @@ module _ (s : List ℕ) (at : ℕ) where
 
   pub no-byte : length s ≤ at → drop at s ≡ []
   no-byte h = drop-of-length-le s h
+
+-- what is judged, by the number of the refusal as the code has it
+module _ {A : Type 0} (stop : Refusal → A) (at f g : ℕ) (told : f ≡ g) (next : A) where
+  pub judged-stops : (r : Refusal) → (f ≡ 0 → ⊥) → r ≡ refusalAt f at → judged stop at g next ≡ stop r
+  judged-stops r h e = rw (← told, ne-eqb f 0 h) (ap stop (sym e))
+
+  pub judged-goes : f ≡ 0 → judged stop at g next ≡ next
+  judged-goes h = rw (← told, eq-eqb f 0 h)
 
 -- a command that is due, told by the number of its refusal
 module _ (known : ℕ → Bool) (s : List ℕ) (want at f : ℕ) (told : f ≡ dueNumber known want (drop at s)) where
@@ -37,13 +45,13 @@ module _ (known : ℕ → Bool) (s : List ℕ) (want at f : ℕ) (told : f ≡ d
       (decide (leb (length s) at))
 
   module _ {A : Type 0} (stop : Refusal → A) (next : List ℕ → A) where
-    pub due-refused : (g : Refusal) → (f ≡ 0 → ⊥) → g ≡ refusalAt f at → stop g ≡ due known stop want at next (drop at s)
+    pub due-refused : (r : Refusal) → (f ≡ 0 → ⊥) → r ≡ refusalAt f at → due known stop want at next (drop at s) ≡ stop r
     unfolding due
-    due-refused g h e = rw (← told, ne-eqb f 0 h) (ap stop e)
+    due-refused r h e = judged-stops stop at f _ told _ r h e
 
     pub due-goes : f ≡ 0 → due known stop want at next (drop at s) ≡ next (drop (at + 1) s)
     unfolding due
-    due-goes h = rw (← told, eq-eqb f 0 h, drop-drop 1 at s)
+    due-goes h = judged-goes stop at f _ told _ h ∙ ap next (drop-drop 1 at s)
 
 -- an operand
 module _ {A : Type 0} (stop : Refusal → A) (at : ℕ) (next : ℕ → List ℕ → A) (s : List ℕ) (p : ℕ) where
@@ -80,7 +88,7 @@ module _ {A : Type 0} (stop : Refusal → A) (next : ℕ → ℕ → List ℕ �
 module _ (F : StageForm) (s : List ℕ) (f : ℕ) (told : f ≡ dueNumber (F .known) 0x20 s) where
   pub head-refused : (g : Refusal) → (f ≡ 0 → ⊥) → g ≡ refusalAt f 0 → readSheet F s ≡ noStage g
   unfolding readSheet
-  head-refused g h e = sym (due-refused (F .known) s 0x20 0 f told noStage _ g h e)
+  head-refused g h e = due-refused (F .known) s 0x20 0 f told noStage _ g h e
 
   module _ (due-there : f ≡ 0) where
     pub head-cut : length s < 3 → readSheet F s ≡ noStage (refusalAt cutShort 0)

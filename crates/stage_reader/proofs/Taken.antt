@@ -10,6 +10,7 @@ use Rattle.base.specs.declared.Refusal.{Refusal}
 use Rattle.base.proofs.Cases.{same-refusal}
 use Rattle.table.specs.Drawing.{Drawing, drawnTable}
 use Rattle.stage.specs.Steps.{Read, taken, fault}
+use Rattle.stage.specs.Inner.Laws.{Told}
 use Rattle.stage_reader.specs.Inner.Wires.{WireReply, takenWire, refusedWire, stepOf}
 
 -- a table, the cells and the place after them, as the code hands them over
@@ -17,7 +18,7 @@ abbrev pub handed : ℕ × (ℕ × (ℕ × Unit {0})) → WireReply
 handed x = takenWire (x .0) (x .1 .0) (x .1 .1 .0)
 
 -- the bytes after a part of a slice are those at the place after it
-pub after-part : (s : List ℕ) (at next : ℕ) (x rest : List ℕ) → drop at s ≡ x ++ rest → next ≡ at + length x → rest ≡ drop next s
+after-part : (s : List ℕ) (at next : ℕ) (x rest : List ℕ) → drop at s ≡ x ++ rest → next ≡ at + length x → rest ≡ drop next s
 after-part s at next x rest e f =
     sym (drop-append-seam x rest) ∙ ap (λ (l : List ℕ). drop (length x) l) (sym e) ∙ drop-drop (length x) at s ∙ ap (λ (p : ℕ). drop p s) (sym f)
 
@@ -36,11 +37,6 @@ module _ (D : Drawing) where
   fell n f (taken x past rest) e = never f _ _ _ (sym e)
 
   module _ (P : D .Shape → Type 0) where
-    -- what is read from a slice goes on at the slice's place, and has what it should have
-    abbrev pub GoesOn : List ℕ → Read (D .Shape) → Type 0
-    GoesOn s (taken x next rest) = (rest ≡ drop next s) × P x
-    GoesOn s (fault f) = Unit {0}
-
     -- what was taken behind what is handed back
     pub record Took (y : Read (D .Shape)) (s : List ℕ) (n t c next : ℕ) : Type 0 where
       pub shape : D .Shape
@@ -49,10 +45,12 @@ module _ (D : Drawing) where
       pub cells : c ≡ D .cells shape
       pub formed : P shape
 
-    pub took : (s : List ℕ) (n t c next : ℕ) (y : Read (D .Shape)) → GoesOn s y → takenWire t c next ≡ stepOf D n y → Took y s n t c next
+    -- what is told by its bytes goes on at the slice's place after them, which is handed back
+    pub took : (bytesOf : D .Shape → List ℕ) (s : List ℕ) (n at t c next : ℕ) (y : Read (D .Shape)) → Told bytesOf P at (drop at s) y
+        → takenWire t c next ≡ stepOf D n y → Took y s n t c next
     unfolding stepOf
-    took s n t c next (fault f) h e = never f t c next e
-    took s n t c next (taken x past rest) h e =
+    took bytesOf s n at t c next (fault f) h e = never f t c next e
+    took bytesOf s n at t c next (taken x past rest) h e =
         let p : next ≡ past = ap (λ (r : WireReply). r .next) e in
-        let q : rest ≡ drop next s = h .0 ∙ ap (λ (p : ℕ). drop p s) (sym p) in
-        record { shape = x; is = cc; table = ap (λ (r : WireReply). r .table) e; cells = ap (λ (r : WireReply). r .cells) e; formed = h .1 }
+        let q : rest ≡ drop next s = after-part s at next (bytesOf x) rest (h .0) (p ∙ h .1) in
+        record { shape = x; is = cc; table = ap (λ (r : WireReply). r .table) e; cells = ap (λ (r : WireReply). r .cells) e; formed = h .2 }

@@ -1,16 +1,16 @@
 -- Laws of reading a tree at a place of a slice, by what stands there.
 use Prim.Native.Nat.{ℕ, _+_, _<_, _≤_}
-use mathlib.Core.Path.{_≡_, sym, _∙_}
-use mathlib.Core.Bool.{cond}
+use mathlib.Core.Path.{_≡_, _∙_}
+use mathlib.Core.Bool.{true, false, cond}
 use mathlib.Core.List.{List}
-use lib.Dec.{leb, eqb}
+use lib.Dec.{leb}
 use lib.ListN.{length, getD, drop}
-use borrow.Author.Tests.{eq-eqb, ne-eqb, lt-leb, le-leb, lt-ltb, le-ltb}
+use borrow.Author.Tests.{ne-eqb}
 use Rattle.base.specs.declared.Refusal.{Refusal}
-use Rattle.base.specs.Refusals.{refusalAt, cutShort, outOfRange, outOfTurn, notAscending}
+use Rattle.base.specs.Refusals.{refusalAt, cutShort, outOfRange, notAscending}
 use Rattle.sheet.specs.Limits.{countOut}
 use Rattle.table.specs.Tree.{con}
-use Rattle.stage.specs.Steps.{taken, fault, misplaced, dueNumber}
+use Rattle.stage.specs.Steps.{taken, fault, judged, misplaced, dueNumber, turnNumber}
 use Rattle.stage.specs.TreeRead.{treeKnown, branchesAt, selectorAt, treeFrom, treeAt, treeWireAt}
 use Rattle.stage.proofs.TreeReading.{tree-is}
 use Rattle.stage_reader.proofs.Places.{byte-there, no-byte, due-refused, due-goes, operand-stops, operand-goes, two-more}
@@ -56,40 +56,27 @@ module _ (s : List ℕ) (n k at : ℕ) where
     unfolding selectorAt
     selector-opens = operand-goes fault at _ s (at + 1) there ∙ rw (two-more at)
 
-    pub selector-none : getD s (at + 1) 0 ≡ 0 → selectorAt (treeAt n) n k at (drop (at + 1) s) ≡ fault (refusalAt outOfRange at)
-    selector-none e = selector-opens ∙ rw (eq-eqb _ _ e)
+    pub selector-out : countOut (getD s (at + 1) 0) n ≡ true → selectorAt (treeAt n) n k at (drop (at + 1) s) ≡ fault (refusalAt outOfRange at)
+    selector-out e = selector-opens ∙ rw e
 
-    module _ (some : getD s (at + 1) 0 ≡ 0 → ⊥) where
-      pub selector-past : n < getD s (at + 1) 0 → selectorAt (treeAt n) n k at (drop (at + 1) s) ≡ fault (refusalAt outOfRange at)
-      selector-past h = selector-opens ∙ rw (ne-eqb _ _ some, lt-ltb _ _ h)
-
-      pub selector-input : getD s (at + 1) 0 ≤ n
-          → selectorAt (treeAt n) n k at (drop (at + 1) s)
-          ≡ cond (leb (getD s (at + 1) 0) k) (fault (refusalAt notAscending at))
-          (branchesAt (treeAt n (getD s (at + 1) 0)) (getD s (at + 1) 0) (at + 2) (drop (at + 2) s))
-      selector-input h = selector-opens ∙ rw (ne-eqb _ _ some, le-ltb _ _ h)
+    pub selector-input : countOut (getD s (at + 1) 0) n ≡ false
+        → selectorAt (treeAt n) n k at (drop (at + 1) s)
+        ≡ cond (leb (getD s (at + 1) 0) k) (fault (refusalAt notAscending at))
+        (branchesAt (treeAt n (getD s (at + 1) 0)) (getD s (at + 1) 0) (at + 2) (drop (at + 2) s))
+    selector-input e = selector-opens ∙ rw e
 
 -- a wire, by its number
 module _ (s : List ℕ) (n m j at f : ℕ) (told : f ≡ dueNumber treeKnown 0x21 (drop at s)) where
   pub wire-refused : (g : Refusal) → (f ≡ 0 → ⊥) → g ≡ refusalAt f at → treeWireAt n m j at (drop at s) ≡ fault g
   unfolding treeWireAt
-  wire-refused g h e = sym (due-refused treeKnown s 0x21 at f told fault _ g h e)
+  wire-refused g h e = due-refused treeKnown s 0x21 at f told fault _ g h e
 
   module _ (due-there : f ≡ 0) where
     pub wire-cut : length s ≤ at + 1 → treeWireAt n m j at (drop at s) ≡ fault (refusalAt cutShort at)
     unfolding treeWireAt
     wire-cut h = due-goes treeKnown s 0x21 at f told fault _ due-there ∙ operand-stops fault at _ s (at + 1) h
 
-    module _ (there : at + 1 < length s) where
-      wire-opens : treeWireAt n m j at (drop at s)
-          ≡ cond (leb m (getD s (at + 1) 0)) (fault (refusalAt outOfRange at))
-          (cond (eqb (getD s (at + 1) 0) j) (treeAt n 0 (at + 2) (drop (at + 2) s)) (fault (refusalAt outOfTurn at)))
-      unfolding treeWireAt
-      wire-opens = due-goes treeKnown s 0x21 at f told fault _ due-there ∙ operand-goes fault at _ s (at + 1) there ∙ rw (two-more at)
-
-      pub wire-past : m ≤ getD s (at + 1) 0 → treeWireAt n m j at (drop at s) ≡ fault (refusalAt outOfRange at)
-      wire-past h = wire-opens ∙ rw (le-leb _ _ h)
-
-      pub wire-number : getD s (at + 1) 0 < m
-          → treeWireAt n m j at (drop at s) ≡ cond (eqb (getD s (at + 1) 0) j) (treeAt n 0 (at + 2) (drop (at + 2) s)) (fault (refusalAt outOfTurn at))
-      wire-number h = wire-opens ∙ rw (lt-leb _ _ h)
+    pub wire-opens : at + 1 < length s
+        → treeWireAt n m j at (drop at s) ≡ judged fault at (turnNumber m j (getD s (at + 1) 0) false) (treeAt n 0 (at + 2) (drop (at + 2) s))
+    unfolding treeWireAt
+    wire-opens there = due-goes treeKnown s 0x21 at f told fault _ due-there ∙ operand-goes fault at _ s (at + 1) there ∙ rw (two-more at)

@@ -1,12 +1,14 @@
 // The diagrams of a stage sheet, each read to its truth table and its cells. What a number drives and which input it tests is looked up in two arrays.
 // Inner functions: `read_on` has tested the sizes before it calls them.
 use crate::due::due_number;
+use crate::due::turn_number;
 use crate::steps::WireStep;
 use crate::tables::select;
 use base::Refusal;
 use diagram::FIRST_NUMBER;
 use diagram::MOST_ENTRIES;
 use sheet::limits::all_ones;
+use sheet::limits::count_out;
 use table::BoardKind;
 ghost use mathlib.Core.Path.{_≡_};
 ghost use mathlib.Core.List.{List};
@@ -36,10 +38,7 @@ fn entry_refusal(n: u8, own: u8, i: u8, zero: u8, one: u8, inputs: &[u8; NUMBERS
     requires { ⌜ own < mostNumbers ⌝ }
     ensures { λ r. ⌜ ((es : List Entry) → nextNumber es ≡ own → InputsTell n es (now (inputs .entry)) → r ≡ entryRefusal n es (entry i zero one)) ⌝ }
 {
-    if i == 0 {
-        return Refusal::OUT_OF_RANGE;
-    }
-    if n < i {
+    if count_out(i, n) {
         return Refusal::OUT_OF_RANGE;
     }
     if own <= zero {
@@ -163,16 +162,10 @@ pub fn read_diagram_wire(s: &[u8], at: usize, j: u8, n: u8, m: u8) -> WireStep
     if s.len() - at < HEAD_BYTES {
         return WireStep::Refused(Refusal::at(Refusal::CUT_SHORT, at));
     }
-    let i = s[at + 1];
     let count = s[at + 2];
-    if m <= i {
-        return WireStep::Refused(Refusal::at(Refusal::OUT_OF_RANGE, at));
-    }
-    if MOST < count {
-        return WireStep::Refused(Refusal::at(Refusal::OUT_OF_RANGE, at));
-    }
-    if i != j {
-        return WireStep::Refused(Refusal::at(Refusal::OUT_OF_TURN, at));
+    let g = turn_number(m, j, s[at + 1], MOST < count);
+    if g != 0 {
+        return WireStep::Refused(Refusal::at(g, at));
     }
     read_diagram(s, at + HEAD_BYTES, n, count)
 }

@@ -2,10 +2,12 @@
 // Inner functions: `read_on` has tested the sizes before it calls them.
 use crate::due::due_number;
 use crate::due::misplaced_number;
+use crate::due::turn_number;
 use crate::steps::WireStep;
 use crate::tables::select;
 use base::Refusal;
 use sheet::limits::all_ones;
+use sheet::limits::count_out;
 use table::BoardKind;
 ghost use mathlib.Core.Path.{_≡_};
 ghost use Prim.Native.Nat.{_+_, _<_, _≤_};
@@ -50,10 +52,7 @@ fn read_selector(s: &[u8], at: usize, n: u8, k: u8) -> WireStep
         return WireStep::Refused(Refusal::at(Refusal::CUT_SHORT, at));
     }
     let i = s[input_at];
-    if i == 0 {
-        return WireStep::Refused(Refusal::at(Refusal::OUT_OF_RANGE, at));
-    }
-    if n < i {
+    if count_out(i, n) {
         return WireStep::Refused(Refusal::at(Refusal::OUT_OF_RANGE, at));
     }
     if i <= k {
@@ -92,7 +91,7 @@ fn read_branches(s: &[u8], at: usize, n: u8, i: u8) -> WireStep
     }
 }
 
-// 21 j and the tree of wire j.
+// 21 j and the tree of wire j: a command with no other operand that could be out of range.
 pub fn read_tree_wire(s: &[u8], at: usize, j: u8, n: u8, m: u8) -> WireStep
     requires { ⌜ n ≤ maxInputs ⌝ }
     ensures { λ r. ⌜ wireReply r ≡ stepOf treeDrawing n (treeWireAt n m j at (drop at (now (s .entry)))) ⌝ }
@@ -105,12 +104,9 @@ pub fn read_tree_wire(s: &[u8], at: usize, j: u8, n: u8, m: u8) -> WireStep
     if s.len() <= wire_at {
         return WireStep::Refused(Refusal::at(Refusal::CUT_SHORT, at));
     }
-    let i = s[wire_at];
-    if m <= i {
-        return WireStep::Refused(Refusal::at(Refusal::OUT_OF_RANGE, at));
-    }
-    if i != j {
-        return WireStep::Refused(Refusal::at(Refusal::OUT_OF_TURN, at));
+    let g = turn_number(m, j, s[wire_at], false);
+    if g != 0 {
+        return WireStep::Refused(Refusal::at(g, at));
     }
     read_tree(s, at + 2, n, 0)
 }

@@ -14,11 +14,14 @@ unfoldable pub withMore : {A : Type 0} → List ℕ → Read A → Read A
 withMore q (taken x at rest) = taken x at (rest ++ q)
 withMore q (fault f) = fault f
 
--- what is taken as wire j are the bytes of a well-formed drawing, and the place moves past them
+-- what is taken are the bytes of a shape that is well formed, and the place moves past them
+abbrev pub Told : {A : Type 0} (bytesOf : A → List ℕ) (Formed : A → Type 0) (at : ℕ) → List ℕ → Read A → Type 0
+Told bytesOf Formed at bytes (taken x next rest) = (bytes ≡ bytesOf x ++ rest) × (next ≡ at + length (bytesOf x)) × Formed x
+Told bytesOf Formed at bytes (fault f) = Unit {0}
+
+-- the same of wire j
 abbrev pub ToldWire : (F : StageForm) (n j at : ℕ) → List ℕ → Read (F .Shape) → Type 0
-ToldWire F n j at bytes (taken x next rest) =
-    (bytes ≡ F .wireBytes j x ++ rest) × (next ≡ at + length (F .wireBytes j x)) × F .WellFormed n x
-ToldWire F n j at bytes (fault f) = Unit {0}
+ToldWire F n j = Told (F .wireBytes j) (F .WellFormed n)
 
 pub record FormLaws (F : StageForm) : Type 0 where
   -- a wire's bytes: its frame, and three for each selector

@@ -1,5 +1,5 @@
 use Prim.Native.Nat.{_+_, _<_, _≤_}
-use mathlib.Core.Path.{_≡_, ap}
+use mathlib.Core.Path.{_≡_, sym, ap}
 use native.Mathlib.Omega.{arith}
 use borrow.Author.Needs.{needs}
 use lib.ListN.{length, drop}
@@ -32,7 +32,7 @@ returns : tie.Need-returns
 unfolding endAt
 returns c =
     let d = c .before .before in
-    due-refused (formOf (from d .args .kind) .known) (from d .args .s .now) 0x2F (from d .args .at) _ (d .due-number .ensures) refusedCase _ _ (c .before .if1 .taken) (c .at .ensures)
+    sym (due-refused (formOf (from d .args .kind) .known) (from d .args .s .now) 0x2F (from d .args .at) _ (d .due-number .ensures) refusedCase _ _ (c .before .if1 .taken) (c .at .ensures))
 
 add-if2 : tie.Need-add-if2
 add-if2 c =

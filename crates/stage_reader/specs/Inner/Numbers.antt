@@ -1,13 +1,10 @@
 -- The numbers of a diagram as the stage reader looks them up: what each drives and which input it tests.
 use Prim.Native.Nat.{ℕ, _+_, _^_, _<_, _≤_}
 use mathlib.Core.Path.{_≡_}
-use mathlib.Core.Bool.{cond}
 use mathlib.Core.List.{List}
-use lib.Dec.{eqb}
 use lib.ListN.{getD, drop}
-use Rattle.base.specs.Refusals.{refusalAt}
 use Rattle.table.specs.Drawing.{drawnTable}
-use Rattle.stage.specs.Steps.{Read, taken, fault}
+use Rattle.stage.specs.Steps.{Read, taken, fault, judged}
 use Rattle.diagram.specs.Diagram.{Entry, entry, diagram, firstNumber, nextNumber, inputAt, mostEntries}
 use Rattle.diagram.specs.Diagrams.{diagramDrawing}
 use Rattle.stage_reader.specs.Inner.Tables.{selectOf}
@@ -16,12 +13,16 @@ use Rattle.stage_reader.specs.Inner.Tables.{selectOf}
 abbrev pub mostNumbers : ℕ
 mostNumbers = firstNumber + mostEntries
 
+-- an array tells what each number below k has
+abbrev pub Tells : (has : ℕ → ℕ) (k : ℕ) → List ℕ → Type 0
+Tells has k l = (x : ℕ) → x < k → getD l x 0 ≡ has x
+
 -- The arrays tell every number so far. The code keeps them and not the entries, so contracts speak of any entries that they tell.
 abbrev pub InputsTell : (n : ℕ) → List Entry → (inputs : List ℕ) → Type 0
-InputsTell n es inputs = (x : ℕ) → x < nextNumber es → getD inputs x 0 ≡ inputAt n es x
+InputsTell n es = Tells (inputAt n es) (nextNumber es)
 
 abbrev pub TablesTell : (n : ℕ) → List Entry → (tables : List ℕ) → Type 0
-TablesTell n es tables = (x : ℕ) → x < nextNumber es → getD tables x 0 ≡ drawnTable diagramDrawing n (diagram es x)
+TablesTell n es = Tells (λ x. drawnTable diagramDrawing n (diagram es x)) (nextNumber es)
 
 -- the entry that stands at a place of the sheet
 abbrev pub entryThere : List ℕ → ℕ → Entry
@@ -29,7 +30,7 @@ entryThere s at = entry (getD s at 0) (getD s (at + 1) 0) (getD s (at + 2) 0)
 
 -- what the number of its refusal makes of it
 abbrev pub entryBy : ℕ → List ℕ → ℕ → Read Entry
-entryBy f s at = cond (eqb f 0) (taken (entryThere s at) (at + 3) (drop (at + 3) s)) (fault (refusalAt f at))
+entryBy f s at = judged fault at f (taken (entryThere s at) (at + 3) (drop (at + 3) s))
 
 -- an entry whose table can be made of those in the array: it tests one of the n inputs, and names numbers below its own that have tables of n inputs
 pub record Selects (n own : ℕ) (tables : List ℕ) (e : Entry) : Type 0 where

@@ -1,18 +1,18 @@
--- `read_diagram_wire` meets its contract: each test in its order, then the entries and the top.
+-- `read_diagram_wire` meets its contract: its head judged, then the entries and the top.
 use Prim.Native.Nat.{ℕ, _+_, _≤_}
-use mathlib.Core.Path.{_≡_, refl, _∙_}
-use mathlib.Core.Bool.{cond}
+use mathlib.Core.Path.{_≡_, refl, sym, _∙_}
 use native.Mathlib.Omega.{arith}
 use borrow.Author.Needs.{needs}
-use borrow.Author.Tests.{eq-eqb, ne-eqb}
-use lib.Dec.{eqb}
+use borrow.Author.Tests.{ltb-false}
+use lib.Dec.{ltb}
 use lib.ListN.{length, getD, drop}
-use Rattle.base.specs.Refusals.{refusalAt, outOfTurn}
-use Rattle.stage.specs.Steps.{fault, andThen}
+use Rattle.stage.specs.Steps.{fault, andThen, judged, turnNumber}
+use Rattle.stage.proofs.Steps.{turn-is}
+use Rattle.diagram.specs.Diagram.{mostEntries}
 use Rattle.diagram.specs.Diagrams.{diagramDrawing}
 use Rattle.diagram.specs.Read.{diagramKnown, entriesAt, topAt, diagramWireAt}
-use Rattle.stage_reader.proofs.Places.{due-within}
-use Rattle.stage_reader.proofs.DiagramPlaces.{wire-refused, wire-cut, wire-past, wire-long, wire-number}
+use Rattle.stage_reader.proofs.Places.{judged-stops, judged-goes, due-within}
+use Rattle.stage_reader.proofs.DiagramPlaces.{wire-refused, wire-cut, wire-opens}
 use Rattle.stage_reader.proofs.Taken.{step-refused}
 use Rattle.stage_reader.proofs.diagrams.read_diagram_wire.Statement.{statement}
 use Rattle.stage_reader.proofs.diagrams.read_diagram_wire.Tie as tie
@@ -20,37 +20,32 @@ use Rattle.stage_reader.proofs.diagrams.read_diagram_wire.Tie as tie
 abbrev from : tie.After-due-number → tie.Start
 from c = c .before .before
 
--- the byte 26 stands there, and two more behind it
-within : (c : tie.Else1) → from (c .before) .args .at + 1 ≤ length (from (c .before) .args .s .now)
-within c =
-    let a = from (c .before) .args in
-    omega (arith, due-within diagramKnown (a .s .now) 0x26 (a .at) _ (c .before .due-number .ensures) (c .if1 .left))
-
 there : (c : tie.Else2) → from (c .before .before) .args .at + 3 ≤ length (from (c .before .before) .args .s .now)
 there c = omega (arith, c .if2 .left)
 
--- a wire that the sheet has, and not too many entries: whether it is the next wire decides
-abbrev room : tie.Else4 → tie.Else2
-room c = c .before .before .before .before
+-- a command that is whole: the turn of its wire decides
+abbrev room : tie.After-turn-number → tie.Else2
+room c = c .before .before .before
 
-abbrev start : tie.Else4 → tie.Start
+abbrev start : tie.After-turn-number → tie.Start
 start c = from (room c .before .before)
 
-abbrev number-at : tie.Else4 → ℕ
-number-at c = getD (start c .args .s .now) (start c .args .at + 1) 0
-
-abbrev count-at : tie.Else4 → ℕ
+abbrev count-at : tie.After-turn-number → ℕ
 count-at c = getD (start c .args .s .now) (start c .args .at + 2) 0
 
-decided : (c : tie.Else4)
+turn-told : (c : tie.After-turn-number)
+    → c .turn-number .result
+    ≡ turnNumber (start c .args .m) (start c .args .j) (getD (start c .args .s .now) (start c .args .at + 1) 0) (ltb mostEntries (count-at c))
+turn-told c = c .turn-number .ensures
+
+opens : (c : tie.After-turn-number)
     → diagramWireAt (start c .args .n) (start c .args .m) (start c .args .j) (start c .args .at) (drop (start c .args .at) (start c .args .s .now))
-    ≡ cond (eqb (number-at c) (start c .args .j))
+    ≡ judged fault (start c .args .at)
+    (turnNumber (start c .args .m) (start c .args .j) (getD (start c .args .s .now) (start c .args .at + 1) 0) (ltb mostEntries (count-at c)))
     (andThen (entriesAt (count-at c) (start c .args .n) (start c .args .at + 3) (drop (start c .args .at + 3) (start c .args .s .now))) topAt)
-    (fault (refusalAt outOfTurn (start c .args .at)))
-decided c =
-    let e2 = room c in
-    let e1 = e2 .before in
-    wire-number _ _ _ _ _ _ (e1 .before .due-number .ensures) (e1 .if1 .left) (there e2) (c .before .if3 .left) (c .if4 .left)
+opens c =
+    let e1 = room c .before in
+    wire-opens _ _ _ _ _ _ (e1 .before .due-number .ensures) (e1 .if1 .left) (there (room c))
 
 due-number-requires : tie.Need-due-number-requires
 due-number-requires c κs = search needs
@@ -64,7 +59,9 @@ returns c =
     step-refused diagramDrawing _ _ _ _ (wire-refused _ _ _ _ _ _ (d .due-number .ensures) _ (c .before .if1 .taken) (c .at .ensures)) refl
 
 sub-if2 : tie.Need-sub-if2
-sub-if2 c = omega (arith, within c)
+sub-if2 c =
+    let a = from (c .before) .args in
+    omega (arith, due-within diagramKnown (a .s .now) 0x26 (a .at) _ (c .before .due-number .ensures) (c .if1 .left))
 
 at-requires-2 : tie.Need-at-requires-2
 at-requires-2 c κs = search needs
@@ -74,59 +71,46 @@ returns-2 c =
     let e1 = c .before .before in
     step-refused diagramDrawing _ _ _ _ (wire-cut _ _ _ _ _ _ (e1 .before .due-number .ensures) (e1 .if1 .left) (c .before .if2 .taken)) (c .at2 .ensures)
 
-add-i : tie.Need-add-i
-add-i c = search needs
-
-shared-slice-read-i : tie.Need-shared-slice-read-i
-shared-slice-read-i c = search needs
-
 add-count : tie.Need-add-count
 add-count c = search needs
 
 shared-slice-read-count : tie.Need-shared-slice-read-count
 shared-slice-read-count c = search needs
 
+add-turn-number : tie.Need-add-turn-number
+add-turn-number c = search needs
+
+shared-slice-read-turn-number : tie.Need-shared-slice-read-turn-number
+shared-slice-read-turn-number c = search needs
+
+turn-number-requires : tie.Need-turn-number-requires
+turn-number-requires c κs = search needs
+
 at-requires-3 : tie.Need-at-requires-3
 at-requires-3 c κs = search needs
 
 returns-3 : tie.Need-returns-3
 returns-3 c =
-    let e2 = c .before .before .before .before in
-    let e1 = e2 .before in
-    let past = wire-past _ _ _ _ _ _ (e1 .before .due-number .ensures) (e1 .if1 .left) (there e2) (c .before .if3 .taken) in
-    step-refused diagramDrawing _ _ _ _ past (c .at3 .ensures)
-
-at-requires-4 : tie.Need-at-requires-4
-at-requires-4 c κs = search needs
-
-returns-4 : tie.Need-returns-4
-returns-4 c =
-    let e3 = c .before .before in
-    let e2 = e3 .before .before .before in
-    let e1 = e2 .before in
-    let long = wire-long _ _ _ _ _ _ (e1 .before .due-number .ensures) (e1 .if1 .left) (there e2) (e3 .if3 .left) (c .before .if4 .taken) in
-    step-refused diagramDrawing _ _ _ _ long (c .at4 .ensures)
-
-at-requires-5 : tie.Need-at-requires-5
-at-requires-5 c κs = search needs
-
-returns-5 : tie.Need-returns-5
-returns-5 c =
-    let e4 = c .before .before in
-    let other : number-at e4 ≡ start e4 .args .j → ⊥ = c .before .if5 .taken in
-    step-refused diagramDrawing _ _ _ _ (decided e4 ∙ rw (ne-eqb _ _ other)) (c .at5 .ensures)
+    let t = c .before .before in
+    let stops = judged-stops fault _ _ _ (turn-told t) _ _ (c .before .if3 .taken) (c .at3 .ensures) in
+    step-refused diagramDrawing _ _ _ _ (opens t ∙ stops) refl
 
 add-read-diagram : tie.Need-add-read-diagram
 add-read-diagram c = search needs
 
 read-diagram-requires : tie.Need-read-diagram-requires
-read-diagram-requires c κs = search needs
+read-diagram-requires c κs =
+    let t = c .before in
+    let a = start t .args in
+    let turn = turn-is (a .m) (a .j) _ (ltb mostEntries (count-at t)) (sym (turn-told t) ∙ c .if3 .left) in
+    (start t .pre, ltb-false mostEntries (count-at t) (turn .2), omega (arith, there (room t)))
 
-returns-6 : tie.Need-returns-6
-returns-6 c =
-    let e4 = c .before .before in
-    let same : number-at e4 ≡ start e4 .args .j = omega (arith, c .before .if5 .left) in
-    rw (decided e4, eq-eqb _ _ same) (c .read-diagram .ensures)
+returns-4 : tie.Need-returns-4
+returns-4 c =
+    let t = c .before .before in
+    let a = start t .args in
+    let read = andThen (entriesAt (count-at t) (a .n) (a .at + 3) (drop (a .at + 3) (a .s .now))) topAt in
+    rw (opens t, judged-goes fault (a .at) _ _ (turn-told t) read (c .before .if3 .left)) (c .read-diagram .ensures)
 
 pub read-diagram-wire-spec : {M : Type 1} → statement M
 read-diagram-wire-spec =
@@ -138,16 +122,13 @@ read-diagram-wire-spec =
     sub-if2
     at-requires-2
     returns-2
-    add-i
-    shared-slice-read-i
     add-count
     shared-slice-read-count
+    add-turn-number
+    shared-slice-read-turn-number
+    turn-number-requires
     at-requires-3
     returns-3
-    at-requires-4
-    returns-4
-    at-requires-5
-    returns-5
     add-read-diagram
     read-diagram-requires
-    returns-6)
+    returns-4)

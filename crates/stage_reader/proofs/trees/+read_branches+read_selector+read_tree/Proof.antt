@@ -5,21 +5,22 @@ use native.Mathlib.Omega.{arith}
 use borrow.Author.Needs.{needs}
 use borrow.Fn.Kinds.{In, Out}
 use borrow.Fn.PlainCycle.{Measures, is, falls, and}
-use mathlib.Core.Bool.{cond}
+use mathlib.Core.Bool.{true, false, cond}
 use borrow.Author.Tests.{le-leb, lt-leb}
 use lib.Dec.{leb}
 use lib.ListN.{getD, drop}
 use Rattle.base.specs.Refusals.{refusalAt, notAscending}
 use Rattle.base.proofs.Refusal.at.Reads as at-reads
-use Rattle.sheet.specs.Limits.{maxPatterns}
+use Rattle.sheet.specs.Limits.{maxPatterns, countOut}
+use Rattle.sheet.proofs.Sizes.{count-in}
 use Rattle.sheet.proofs.limits.all_ones.Reads as all-ones-reads
+use Rattle.sheet.proofs.limits.count_out.Reads as count-out-reads
 use Rattle.table.specs.Tree.{selectors}
 use Rattle.stage.specs.Steps.{fault}
 use Rattle.stage.specs.TreeRead.{branchesAt, selectorAt, treeAt}
 use Rattle.stage.specs.Trees.{treeDrawing}
 use Rattle.stage_reader.specs.Inner.Wires.{wireReply, stepOf}
-use Rattle.stage_reader.proofs.TreePlaces.{tree-cut, tree-selects, tree-zero, tree-one, tree-misplaced, selector-cut, selector-none, selector-past}
-use Rattle.stage_reader.proofs.TreePlaces.{selector-input}
+use Rattle.stage_reader.proofs.TreePlaces.{tree-cut, tree-selects, tree-zero, tree-one, tree-misplaced, selector-cut, selector-out, selector-input}
 use Rattle.stage_reader.proofs.Selecting.{table-zero, table-one}
 use Rattle.stage_reader.proofs.Taken.{handed, step-refused}
 use Rattle.stage_reader.proofs.Branches.{tree-bounds, first-fault, second-fault, both-taken}
@@ -153,7 +154,7 @@ module _ (t : ℕ) where
 
   -- a selector
   abbrev selector-claims : selector-lts.Claims
-  selector-claims = (at-reads.Asked, at-reads.Learnt, below 3 branches.Pre, branches.Post)
+  selector-claims = (at-reads.Asked, at-reads.Learnt, count-out-reads.Asked, count-out-reads.Learnt, below 3 branches.Pre, branches.Post)
 
   abbrev Selector : (selector-lts.Claims → In 1 kinds.ps → Out 1 kinds.ps kinds.r → Type 0) → Type 0
   Selector N = N selector-claims (here 1 selector.Pre) selector.Post
@@ -170,55 +171,55 @@ module _ (t : ℕ) where
   selector-read-i : Selector selector-lts.Need-shared-slice-read-i
   selector-read-i c = omega arith
 
+  selector-count-out-requires : Selector selector-lts.Need-count-out-requires
+  selector-count-out-requires c κs = search needs
+
   selector-at-requires-2 : Selector selector-lts.Need-at-requires-2
   selector-at-requires-2 c κs = search needs
 
+  abbrev from-selector : Selector selector-lts.After-count-out → Selector selector-lts.Start
+  from-selector c = c .before .before .before .before
+
+  abbrev input-at : Selector selector-lts.After-count-out → ℕ
+  input-at c = getD (from-selector c .args .s .now) (from-selector c .args .at + 1) 0
+
   selector-returns-2 : Selector selector-lts.Need-returns-2
   selector-returns-2 c =
-      let i2 = c .before in
-      step-refused treeDrawing _ _ _ _ (selector-none _ _ _ _ (i2 .before .before .if1 .left) (i2 .if2 .taken)) (c .at2 .ensures)
+      let o = c .before .before in
+      let out : countOut (input-at o) (from-selector o .args .n) ≡ true = sym (o .count-out .ensures) ∙ c .before .if2 .taken in
+      step-refused treeDrawing _ _ _ _ (selector-out _ _ _ _ (o .before .before .if1 .left) out) (c .at2 .ensures)
 
   selector-at-requires-3 : Selector selector-lts.Need-at-requires-3
   selector-at-requires-3 c κs = search needs
 
+  -- an input of the sheet: whether it comes after the parent's decides
+  in-range : (c : Selector selector-lts.Else2) → countOut (input-at (c .before)) (from-selector (c .before) .args .n) ≡ false
+  in-range c = sym (c .before .count-out .ensures) ∙ c .if2 .left
+
+  ascends : (c : Selector selector-lts.Else2)
+      → selectorAt (treeAt (from-selector (c .before) .args .n)) (from-selector (c .before) .args .n) (from-selector (c .before) .args .k)
+      (from-selector (c .before) .args .at) (drop (from-selector (c .before) .args .at + 1) (from-selector (c .before) .args .s .now))
+      ≡ cond (leb (input-at (c .before)) (from-selector (c .before) .args .k)) (fault (refusalAt notAscending (from-selector (c .before) .args .at)))
+      (branchesAt (treeAt (from-selector (c .before) .args .n) (input-at (c .before))) (input-at (c .before)) (from-selector (c .before) .args .at + 2)
+      (drop (from-selector (c .before) .args .at + 2) (from-selector (c .before) .args .s .now)))
+  ascends c = selector-input _ _ _ _ (c .before .before .before .if1 .left) (in-range c)
+
   selector-returns-3 : Selector selector-lts.Need-returns-3
   selector-returns-3 c =
-      let i3 = c .before in
-      let i2 = i3 .before in
-      step-refused treeDrawing _ _ _ _ (selector-past _ _ _ _ (i2 .before .before .if1 .left) (i2 .if2 .left) (i3 .if3 .taken)) (c .at3 .ensures)
-
-  selector-at-requires-4 : Selector selector-lts.Need-at-requires-4
-  selector-at-requires-4 c κs = search needs
-
-  -- an input of the sheet: whether it comes after the parent's decides
-  abbrev from-selector : Selector selector-lts.Else3 → Selector selector-lts.Start
-  from-selector c = c .before .before .before .before .before
-
-  abbrev input-at : Selector selector-lts.Else3 → ℕ
-  input-at c = getD (from-selector c .args .s .now) (from-selector c .args .at + 1) 0
-
-  ascends : (c : Selector selector-lts.Else3)
-      → selectorAt (treeAt (from-selector c .args .n)) (from-selector c .args .n) (from-selector c .args .k) (from-selector c .args .at)
-      (drop (from-selector c .args .at + 1) (from-selector c .args .s .now))
-      ≡ cond (leb (input-at c) (from-selector c .args .k)) (fault (refusalAt notAscending (from-selector c .args .at)))
-      (branchesAt (treeAt (from-selector c .args .n) (input-at c)) (input-at c) (from-selector c .args .at + 2)
-      (drop (from-selector c .args .at + 2) (from-selector c .args .s .now)))
-  ascends c = selector-input _ _ _ _ (c .before .before .before .if1 .left) (c .before .if2 .left) (c .if3 .left)
-
-  selector-returns-4 : Selector selector-lts.Need-returns-4
-  selector-returns-4 c =
-      let i3 = c .before .before in
-      let not-above : input-at i3 ≤ from-selector i3 .args .k = c .before .if4 .taken in
-      step-refused treeDrawing _ _ _ _ (ascends i3 ∙ rw (le-leb _ _ not-above)) (c .at4 .ensures)
+      let e2 = c .before .before in
+      let not-above : input-at (e2 .before) ≤ from-selector (e2 .before) .args .k = c .before .if3 .taken in
+      step-refused treeDrawing _ _ _ _ (ascends e2 ∙ rw (le-leb _ _ not-above)) (c .at3 .ensures)
 
   selector-add-read-branches : Selector selector-lts.Need-add-read-branches
   selector-add-read-branches c = omega arith
 
   selector-branches-requires : Selector selector-lts.Need-read-branches-requires
-  selector-branches-requires c κs = omega arith
+  selector-branches-requires c κs =
+      let e2 = c .before in
+      omega (arith, count-in (input-at (e2 .before)) (from-selector (e2 .before) .args .n) (in-range e2))
 
-  selector-returns-5 : Selector selector-lts.Need-returns-5
-  selector-returns-5 c = rw (ascends (c .before .before), lt-leb _ _ (c .before .if4 .left)) (c .read-branches .ensures)
+  selector-returns-4 : Selector selector-lts.Need-returns-4
+  selector-returns-4 c = rw (ascends (c .before .before), lt-leb _ _ (c .before .if3 .left)) (c .read-branches .ensures)
 
   pub selector-meets : {M : Type 1} → selector-lts.Closed selector-claims (here 1 selector.Pre) selector.Post M
   selector-meets =
@@ -230,15 +231,14 @@ module _ (t : ℕ) where
       selector-at-requires
       selector-returns
       selector-read-i
+      selector-count-out-requires
       selector-at-requires-2
       selector-returns-2
       selector-at-requires-3
       selector-returns-3
-      selector-at-requires-4
-      selector-returns-4
       selector-add-read-branches
       selector-branches-requires
-      selector-returns-5
+      selector-returns-4
 
   -- a tree
   abbrev tree-claims : tree-lts.Claims

@@ -1,18 +1,15 @@
--- `read_tree_wire` meets its contract: each test in its order, then the tree.
-use Prim.Native.Nat.{ℕ, _+_}
+-- `read_tree_wire` meets its contract: its head judged, then the tree.
+use Prim.Native.Nat.{_+_}
 use mathlib.Core.Path.{_≡_, refl, _∙_}
+use mathlib.Core.Bool.{false}
 use native.Mathlib.Omega.{arith}
 use borrow.Author.Needs.{needs}
-use lib.Dec.{eqb}
 use lib.ListN.{getD, drop}
-use mathlib.Core.Bool.{cond}
-use borrow.Author.Tests.{eq-eqb, ne-eqb}
-use Rattle.base.specs.Refusals.{refusalAt, outOfTurn}
-use Rattle.stage.specs.Steps.{fault}
+use Rattle.stage.specs.Steps.{fault, judged, turnNumber}
 use Rattle.stage.specs.TreeRead.{treeKnown, treeAt, treeWireAt}
 use Rattle.stage.specs.Trees.{treeDrawing}
-use Rattle.stage_reader.proofs.Places.{due-within}
-use Rattle.stage_reader.proofs.TreePlaces.{wire-refused, wire-cut, wire-past, wire-number}
+use Rattle.stage_reader.proofs.Places.{judged-stops, judged-goes, due-within}
+use Rattle.stage_reader.proofs.TreePlaces.{wire-refused, wire-cut, wire-opens}
 use Rattle.stage_reader.proofs.Taken.{step-refused}
 use Rattle.stage_reader.proofs.trees.read_tree_wire.Statement.{statement}
 use Rattle.stage_reader.proofs.trees.read_tree_wire.Tie as tie
@@ -20,22 +17,22 @@ use Rattle.stage_reader.proofs.trees.read_tree_wire.Tie as tie
 abbrev from : tie.After-due-number → tie.Start
 from c = c .before .before
 
--- a wire that the sheet has: whether it is the next one decides
-abbrev start : tie.Else3 → tie.Start
+-- a command that is whole: the turn of its wire decides
+abbrev start : tie.After-turn-number → tie.Start
 start c = from (c .before .before .before .before)
 
-abbrev number-at : tie.Else3 → ℕ
-number-at c = getD (start c .args .s .now) (start c .args .at + 1) 0
+turn-told : (c : tie.After-turn-number)
+    → c .turn-number .result ≡ turnNumber (start c .args .m) (start c .args .j) (getD (start c .args .s .now) (start c .args .at + 1) 0) false
+turn-told c = c .turn-number .ensures
 
-decided : (c : tie.Else3)
+opens : (c : tie.After-turn-number)
     → treeWireAt (start c .args .n) (start c .args .m) (start c .args .j) (start c .args .at) (drop (start c .args .at) (start c .args .s .now))
-    ≡ cond (eqb (number-at c) (start c .args .j))
+    ≡ judged fault (start c .args .at) (turnNumber (start c .args .m) (start c .args .j) (getD (start c .args .s .now) (start c .args .at + 1) 0) false)
     (treeAt (start c .args .n) 0 (start c .args .at + 2) (drop (start c .args .at + 2) (start c .args .s .now)))
-    (fault (refusalAt outOfTurn (start c .args .at)))
-decided c =
+opens c =
     let e2 = c .before .before in
     let e1 = e2 .before in
-    wire-number _ _ _ _ _ _ (e1 .before .due-number .ensures) (e1 .if1 .left) (e2 .if2 .left) (c .if3 .left)
+    wire-opens _ _ _ _ _ _ (e1 .before .due-number .ensures) (e1 .if1 .left) (e2 .if2 .left)
 
 due-number-requires : tie.Need-due-number-requires
 due-number-requires c κs = search needs
@@ -61,26 +58,20 @@ returns-2 c =
     let e1 = c .before .before in
     step-refused treeDrawing _ _ _ _ (wire-cut _ _ _ _ _ _ (e1 .before .due-number .ensures) (e1 .if1 .left) (c .before .if2 .taken)) (c .at2 .ensures)
 
-shared-slice-read-i : tie.Need-shared-slice-read-i
-shared-slice-read-i c = search needs
+shared-slice-read-turn-number : tie.Need-shared-slice-read-turn-number
+shared-slice-read-turn-number c = search needs
+
+turn-number-requires : tie.Need-turn-number-requires
+turn-number-requires c κs = search needs
 
 at-requires-3 : tie.Need-at-requires-3
 at-requires-3 c κs = search needs
 
 returns-3 : tie.Need-returns-3
 returns-3 c =
-    let e2 = c .before .before .before in
-    let e1 = e2 .before in
-    step-refused treeDrawing _ _ _ _ (wire-past _ _ _ _ _ _ (e1 .before .due-number .ensures) (e1 .if1 .left) (e2 .if2 .left) (c .before .if3 .taken)) (c .at3 .ensures)
-
-at-requires-4 : tie.Need-at-requires-4
-at-requires-4 c κs = search needs
-
-returns-4 : tie.Need-returns-4
-returns-4 c =
-    let e3 = c .before .before in
-    let other : number-at e3 ≡ start e3 .args .j → ⊥ = c .before .if4 .taken in
-    step-refused treeDrawing _ _ _ _ (decided e3 ∙ rw (ne-eqb _ _ other)) (c .at4 .ensures)
+    let t = c .before .before in
+    let stops = judged-stops fault _ _ _ (turn-told t) _ _ (c .before .if3 .taken) (c .at3 .ensures) in
+    step-refused treeDrawing _ _ _ _ (opens t ∙ stops) refl
 
 add-read-tree : tie.Need-add-read-tree
 add-read-tree c = search needs
@@ -88,11 +79,12 @@ add-read-tree c = search needs
 read-tree-requires : tie.Need-read-tree-requires
 read-tree-requires c κs = search needs
 
-returns-5 : tie.Need-returns-5
-returns-5 c =
-    let e3 = c .before .before in
-    let same : number-at e3 ≡ start e3 .args .j = omega (arith, c .before .if4 .left) in
-    rw (decided e3, eq-eqb _ _ same) (c .read-tree .ensures)
+returns-4 : tie.Need-returns-4
+returns-4 c =
+    let t = c .before .before in
+    let a = start t .args in
+    let read = treeAt (a .n) 0 (a .at + 2) (drop (a .at + 2) (a .s .now)) in
+    rw (opens t, judged-goes fault (a .at) _ _ (turn-told t) read (c .before .if3 .left)) (c .read-tree .ensures)
 
 pub read-tree-wire-spec : {M : Type 1} → statement M
 read-tree-wire-spec =
@@ -104,11 +96,10 @@ read-tree-wire-spec =
     add-wire-at
     at-requires-2
     returns-2
-    shared-slice-read-i
+    shared-slice-read-turn-number
+    turn-number-requires
     at-requires-3
     returns-3
-    at-requires-4
-    returns-4
     add-read-tree
     read-tree-requires
-    returns-5)
+    returns-4)
