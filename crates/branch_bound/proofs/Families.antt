@@ -20,7 +20,7 @@ use Rattle.relation.proofs.Decide.{value-cong}
 use Rattle.relation.proofs.Families.{drawnTables, family-stage, family-compatible, family-total, least-drives, least-family, least-total}
 use Rattle.branch_bound.specs.Search.{Board, totalOn, floor, run}
 use Rattle.branch_bound.specs.SearchPromise.{Fair, Promise}
-use Rattle.table.specs.declared.BoardKind.{BoardKind}
+use Rattle.nodes.specs.declared.BoardKind.{BoardKind}
 use Rattle.branch_bound.specs.Boards.{boardOf}
 use Rattle.branch_bound.specs.Smallest.{Smallest}
 use Rattle.branch_bound.proofs.Treating.{run-promise}

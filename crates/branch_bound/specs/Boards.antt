@@ -1,7 +1,7 @@
 -- The boards: document 01's, whose cells are the selectors of trees, and document 02's (E2), whose cells are the nodes of diagrams. On either, of equal cells
 -- the smaller table is picked.
 use Prim.Native.Nat.{ℕ}
-use Rattle.table.specs.declared.BoardKind.{BoardKind}
+use Rattle.nodes.specs.declared.BoardKind.{BoardKind}
 use Rattle.nodes.specs.Counts.{countOf}
 use Rattle.branch_bound.specs.Search.{Board}
 

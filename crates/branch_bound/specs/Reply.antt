@@ -9,7 +9,7 @@ use Rattle.relation.specs.declared.Relation.{Relation}
 use Rattle.relation.specs.Source.{Rel}
 use Rattle.relation.specs.Handed.{relationOf, checkOf}
 use Rattle.branch_bound.specs.declared.State.{State}
-use Rattle.table.specs.declared.BoardKind.{BoardKind}
+use Rattle.nodes.specs.declared.BoardKind.{BoardKind}
 use Rattle.branch_bound.specs.Search.{Board, floor, run}
 use Rattle.branch_bound.specs.Boards.{boardOf}
 

@@ -3,7 +3,7 @@
 use Prim.Native.Nat.{ℕ}
 use mathlib.Core.Bool.{cond}
 use mathlib.Core.List.{List, [], _∷_}
-use Rattle.table.specs.declared.BoardKind.{BoardKind}
+use Rattle.nodes.specs.declared.BoardKind.{BoardKind}
 use Rattle.base.specs.Cases.{Case, isRefused}
 use Rattle.branch_bound.specs.Reply.{SearchReply, searchOf}
 use Rattle.quote.specs.Cases.{QuoteReply}

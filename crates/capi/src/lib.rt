@@ -1,13 +1,13 @@
 // The library for C and Rust: the search, the quote and the audit, on either board, and clean copies, over numbers and slices. `include/dagmetzi.h` declares
 // what is exported here.
 use clean::clean;
+use nodes::BoardKind;
 use sheet::Sheet;
-use table::BoardKind;
 use told::written_length;
 use told::written_told;
 ghost use mathlib.Core.Path.{_≡_};
 ghost use lib.ListN.{length};
-ghost use Rattle.table.specs.declared.BoardKind.the-variants.{Tree, Sharing};
+ghost use Rattle.nodes.specs.declared.BoardKind.the-variants.{Tree, Sharing};
 ghost use Rattle.stage.specs.Trees.{treeDrawing};
 ghost use Rattle.diagram.specs.Diagrams.{diagramDrawing};
 ghost use Rattle.quote.specs.Quote.{quotedOf, bufferQuoted};

@@ -28,7 +28,7 @@ use Rattle.reader.specs.Inner.WasRead.{WasRead}
 use Rattle.unit.proofs.Alike.{same-formed}
 use Rattle.unit.proofs.Rivals.{commands-only}
 use Rattle.reader.proofs.Placed.{placed-all}
-use Rattle.table.specs.declared.BoardKind.{BoardKind}
+use Rattle.nodes.specs.declared.BoardKind.{BoardKind}
 use Rattle.quote.specs.Quote.{quotedOf, bufferQuoted}
 use Rattle.clean.specs.Copy.{copyCommands, copyBytes, longestCopy}
 use Rattle.clean.specs.Cleaned.{cleanedFrom, cleanedOf, bufferCleanedFrom, bufferCleaned}

@@ -14,7 +14,7 @@ use Rattle.sheet.specs.Gathered.{gathered, limitOn}
 use Rattle.sheet.specs.Judged.{holds}
 use Rattle.sheet.specs.Limits.{allOnes}
 use Rattle.reader.specs.Reading.{readingOf}
-use Rattle.table.specs.declared.BoardKind.{BoardKind}
+use Rattle.nodes.specs.declared.BoardKind.{BoardKind}
 use Rattle.quote.specs.Quote.{quotedOf, bufferQuoted}
 use Rattle.clean.specs.Copy.{copyLength, longestCopy}
 use Rattle.clean.specs.Cleaned.{cleanedOf, bufferCleaned}

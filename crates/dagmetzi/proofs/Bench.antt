@@ -16,7 +16,7 @@ use Rattle.relation.specs.Inner.Source.{fits}
 use Rattle.relation.specs.Handed.{relationOf, widePattern, checkOf}
 use Rattle.branch_bound.specs.Reply.{bestOutcome, stoppedOutcome, SearchReply, markOf, answerOf, refusedWith, searchTested, searchOf}
 use Rattle.branch_bound.specs.Search.{replyTables, pick, picks, floor, left, quick, start, split, expand, charge, treat, visit, searchPart, run}
-use Rattle.table.specs.declared.BoardKind.the-variants.{Tree}
+use Rattle.nodes.specs.declared.BoardKind.the-variants.{Tree}
 use Rattle.branch_bound.specs.Boards.{boardOf}
 use Rattle.reader.specs.Reading.{readingOf}
 use Rattle.reader.proofs.Rows.{sheetA}

@@ -7,13 +7,13 @@ use crate::messages;
 use diagram::LONGEST_DIAGRAMS;
 use libc::STDIN_FILENO;
 use libc::STDOUT_FILENO;
+use nodes::BoardKind;
 use printed::LONGEST_SHEET;
 use printed::audit_reply;
 use printed::clean_reply;
 use printed::quote_reply;
 use report::LONGEST_COPY_LINE;
 use report::LONGEST_REPORT;
-use table::BoardKind;
 
 // One byte more than the longest sheet is enough to tell one that is too long (printed/proofs/Printing, `quote-front`, `audit-front`, `clean-front`).
 const SHEET_ROOM: usize = LONGEST_SHEET + 1;

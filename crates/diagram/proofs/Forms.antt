@@ -5,8 +5,8 @@ use mathlib.Core.List.{List}
 use native.Mathlib.Omega.{arith}
 use lib.ListN.{take}
 use Rattle.sheet.specs.Limits.{maxInputs}
-use Rattle.table.specs.declared.BoardKind.{BoardKind}
-use Rattle.table.specs.declared.BoardKind.the-variants.{Tree, Sharing}
+use Rattle.nodes.specs.declared.BoardKind.{BoardKind}
+use Rattle.nodes.specs.declared.BoardKind.the-variants.{Tree, Sharing}
 use Rattle.table.specs.Inner.Drawing.{FairCount}
 use Rattle.nodes.specs.Counts.{countOf}
 use Rattle.stage.specs.Read.{readSheet}

@@ -1,6 +1,6 @@
 -- The form of stage sheets and the drawings, by the board.
-use Rattle.table.specs.declared.BoardKind.{BoardKind}
-use Rattle.table.specs.declared.BoardKind.the-variants.{Tree, Sharing}
+use Rattle.nodes.specs.declared.BoardKind.{BoardKind}
+use Rattle.nodes.specs.declared.BoardKind.the-variants.{Tree, Sharing}
 use Rattle.table.specs.Drawing.{Drawing}
 use Rattle.stage.specs.Form.{StageForm}
 use Rattle.stage.specs.Read.{drawing}

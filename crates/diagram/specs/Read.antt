@@ -1,5 +1,5 @@
 -- Document 02, E2, with document 01's "Refusals": reading a wire that is a decision diagram. For 26 j c the refusals come in the order 2, 5, 1, 3, and 5 for a
--- wire that is not the next one; its place is where the command starts. Each entry, and then the top, is tested by itself and has a place of its own.
+-- wire that is not the next one; its place is where the command starts. An entry and the top have places of their own, and each is judged before the next is looked at.
 use Prim.Native.Nat.{ℕ, zero, suc, _+_}
 use mathlib.Core.Bool.{Bool, cond, _||_}
 use mathlib.Core.List.{List, [], _∷_}

@@ -2,8 +2,8 @@
 use Prim.Native.Nat.{ℕ}
 use mathlib.Core.Path.{_≡_, refl}
 use mathlib.Core.Logic.{inl}
-use Rattle.table.specs.declared.BoardKind.{BoardKind}
-use Rattle.table.specs.declared.BoardKind.the-variants.{Tree, Sharing}
+use Rattle.nodes.specs.declared.BoardKind.{BoardKind}
+use Rattle.nodes.specs.declared.BoardKind.the-variants.{Tree, Sharing}
 use Rattle.table.proofs.Cells.{constant-cells}
 use Rattle.nodes.specs.Counts.{countOf}
 use Rattle.nodes.proofs.Halved.{nodes-zero}

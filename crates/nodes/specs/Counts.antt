@@ -1,7 +1,7 @@
 -- The cells of a table, by the board that it is built on.
 use Prim.Native.Nat.{ℕ}
-use Rattle.table.specs.declared.BoardKind.{BoardKind}
-use Rattle.table.specs.declared.BoardKind.the-variants.{Tree, Sharing}
+use Rattle.nodes.specs.declared.BoardKind.{BoardKind}
+use Rattle.nodes.specs.declared.BoardKind.the-variants.{Tree, Sharing}
 use Rattle.table.specs.Cells.{cells}
 use Rattle.nodes.specs.Nodes.{nodes}
 

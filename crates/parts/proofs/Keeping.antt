@@ -11,7 +11,7 @@ use lib.Pow.{pow-pos}
 use Rattle.base.proofs.Tests.{cond-has}
 use Rattle.sheet.specs.Limits.{maxWires}
 use Rattle.table.specs.Bits.{bit}
-use Rattle.table.specs.declared.BoardKind.{BoardKind}
+use Rattle.nodes.specs.declared.BoardKind.{BoardKind}
 use Rattle.table.specs.Cells.{total}
 use Rattle.table.specs.Pick.{suits, orZero}
 use Rattle.table.specs.Inner.Ranks.{masked, pickOf, rank}

@@ -13,7 +13,7 @@ use lib.Seq.{getD-set-same, getD-set-other}
 use Rattle.base.proofs.Tests.{cond-has, decide, eq-test}
 use Rattle.sheet.specs.Limits.{maxInputs, maxWires, maxPatterns, maxValues}
 use Rattle.table.specs.Bits.{bit}
-use Rattle.table.specs.declared.BoardKind.{BoardKind}
+use Rattle.nodes.specs.declared.BoardKind.{BoardKind}
 use Rattle.table.specs.Pick.{suits, leastOf, orZero}
 use Rattle.table.specs.Inner.Ranks.{masked, pickOf, rank}
 use Rattle.table.proofs.Bits.{bit-lt, all-at, all-intro, tabulate-at, tabulate-cong}

@@ -1,8 +1,8 @@
 // A board and its inputs as one number, and picks by it: the only place where the search looks at the board that it is made for, but for its entry, where the
 // table is lent that picks on the board are made from.
 // Inner functions: the parts and the first answer meet what they require.
+use nodes::BoardKind;
 use nodes::picks::pick_shared;
-use table::BoardKind;
 use table::picks::ENTRIES;
 use table::picks::pick;
 ghost use mathlib.Core.Path.{_≡_};

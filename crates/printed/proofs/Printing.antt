@@ -11,7 +11,7 @@ use lib.Seq.{take-all, length-take-le}
 use Rattle.base.specs.Cases.{Case, refusing, refusedOutcome, refusedCase}
 use Rattle.base.specs.Refusals.{refusalAt, tooLong}
 use Rattle.base.proofs.Tests.{decide}
-use Rattle.table.specs.declared.BoardKind.{BoardKind}
+use Rattle.nodes.specs.declared.BoardKind.{BoardKind}
 use Rattle.diagram.specs.Bytes.{longestDiagrams}
 use Rattle.diagram.proofs.Forms.{form-front}
 use Rattle.quote.specs.Cases.{QuoteReply}

@@ -12,7 +12,7 @@ use Rattle.base.specs.declared.Refusal.{Refusal}
 use Rattle.base.specs.Cases.{Case, accepting, refusing, refusedOutcome, acceptedCase}
 use Rattle.base.specs.Refusals.{refusalAt, empty}
 use Rattle.base.proofs.Tests.{decide, test-yes, test-no, and-left, and-right}
-use Rattle.table.specs.declared.BoardKind.{BoardKind}
+use Rattle.nodes.specs.declared.BoardKind.{BoardKind}
 use Rattle.table.proofs.Bits.{all-at, all-intro}
 use Rattle.relation.specs.Tests.{emptyPattern}
 use Rattle.relation.specs.Families.{Family}

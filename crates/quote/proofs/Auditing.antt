@@ -13,7 +13,7 @@ use Rattle.base.specs.Cases.{accepting, refusing, refusedOutcome, secondRefused
 use Rattle.sheet.specs.Limits.{maxInputs, maxWires}
 use Rattle.base.proofs.Tabulate.{tabulate-at, tabulate-entry}
 use Rattle.table.specs.Bits.{bit, all, tabulate}
-use Rattle.table.specs.declared.BoardKind.{BoardKind}
+use Rattle.nodes.specs.declared.BoardKind.{BoardKind}
 use Rattle.table.proofs.Bits.{all-cong}
 use Rattle.relation.specs.declared.Relation.{Relation}
 use Rattle.relation.specs.Source.{value}

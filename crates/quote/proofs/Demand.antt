@@ -10,7 +10,7 @@ use Rattle.base.specs.declared.Refusal.{Refusal}
 use Rattle.base.specs.Refusals.{refusalAt, empty}
 use Rattle.base.proofs.Tests.{decide}
 use Rattle.base.proofs.Tabulate.{tabulate-length}
-use Rattle.table.specs.declared.BoardKind.{BoardKind}
+use Rattle.nodes.specs.declared.BoardKind.{BoardKind}
 use Rattle.nodes.specs.Counts.{countOf}
 use Rattle.relation.specs.Tests.{emptyPattern}
 use Rattle.sheet.specs.declared.Command.{Command}

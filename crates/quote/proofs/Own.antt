@@ -15,7 +15,7 @@ use Rattle.sheet.specs.Limits.{isBeyond}
 use Rattle.sheet.specs.Inner.Sized.{Sized}
 use Rattle.sheet.proofs.Sizes.{sizes-fit}
 use Rattle.table.specs.Drawing.{got, drawnCells}
-use Rattle.table.specs.declared.BoardKind.{BoardKind}
+use Rattle.nodes.specs.declared.BoardKind.{BoardKind}
 use Rattle.relation.specs.declared.Relation.{Relation}
 use Rattle.relation.specs.Families.{Family}
 use Rattle.relation.specs.Handed.{relationOf, checkOf}

@@ -13,7 +13,7 @@ use Rattle.base.specs.declared.Refusal.{Refusal}
 use Rattle.base.specs.Cases.{Case, accepting, acceptedOutcome, acceptedCase, refusedCase, isRefused}
 use Rattle.base.specs.Refusals.{refusalAt, empty, shortBuffer}
 use Rattle.base.proofs.Tests.{decide}
-use Rattle.table.specs.declared.BoardKind.{BoardKind}
+use Rattle.nodes.specs.declared.BoardKind.{BoardKind}
 use Rattle.relation.specs.declared.Relation.{Relation}
 use Rattle.relation.specs.Families.{Family}
 use Rattle.relation.specs.Handed.{relationOf, checkOf}

@@ -6,7 +6,7 @@ use lib.Dec.{eqb}
 use Rattle.base.specs.Cases.{Case, accepting, refusing, isRefused, secondRefusedOutcome}
 use Rattle.base.specs.Refusals.{refusalAt, sizesDiffer}
 use Rattle.table.specs.Bits.{all}
-use Rattle.table.specs.declared.BoardKind.{BoardKind}
+use Rattle.nodes.specs.declared.BoardKind.{BoardKind}
 use Rattle.relation.specs.declared.Relation.{Relation}
 use Rattle.relation.specs.Handed.{relationOf}
 use Rattle.stage.specs.Read.{readSheet}

@@ -4,7 +4,7 @@ use Prim.Native.Nat.{ℕ, zero}
 use mathlib.Core.Bool.{cond}
 use mathlib.Core.List.{List}
 use Rattle.base.specs.Cases.{Case, isRefused}
-use Rattle.table.specs.declared.BoardKind.{BoardKind}
+use Rattle.nodes.specs.declared.BoardKind.{BoardKind}
 use Rattle.relation.specs.declared.Relation.{Relation}
 use Rattle.branch_bound.specs.Reply.{SearchReply, searchOf}
 use Rattle.diagram.specs.Forms.{formOf}

@@ -2,13 +2,13 @@
 use crate::Audited;
 use base::Refusal;
 use base::Verdict;
+use nodes::BoardKind;
 use relation::Relation;
 use relation::patterns::value_of;
 use relation::values::contains;
 use sheet::Sheet;
 use sheet::limits::patterns_of;
 use stage_reader::read_on;
-use table::BoardKind;
 ghost use mathlib.Core.Path.{_≡_};
 ghost use Prim.Native.Nat.{_≤_, _^_};
 ghost use Rattle.sheet.specs.Limits.{maxInputs, maxWires};

@@ -1,11 +1,11 @@
 // The quote, from a unit sheet to the smallest stage, and the audit of a stage; each for either board.
 use base::Refusal;
 use base::Verdict;
+use nodes::BoardKind;
 use search::Mark;
-use table::BoardKind;
 ghost use mathlib.Core.Path.{_≡_};
 ghost use lib.ListN.{length};
-ghost use Rattle.table.specs.declared.BoardKind.the-variants.{Tree, Sharing};
+ghost use Rattle.nodes.specs.declared.BoardKind.the-variants.{Tree, Sharing};
 ghost use Rattle.stage.specs.Trees.{treeDrawing};
 ghost use Rattle.diagram.specs.Diagrams.{diagramDrawing};
 ghost use Rattle.diagram.specs.Forms.{drawingOf};

@@ -2,12 +2,12 @@
 use crate::Quoted;
 use base::Refusal;
 use base::Written;
+use nodes::BoardKind;
 use relation::Relation;
 use search::Answer;
 use search::Mark;
 use search::search_on;
 use stage_writer::write_on;
-use table::BoardKind;
 ghost use mathlib.Core.Path.{_≡_};
 ghost use lib.ListN.{length};
 ghost use Rattle.diagram.specs.Forms.{formOf};

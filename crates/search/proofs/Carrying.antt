@@ -7,7 +7,7 @@ use lib.Pow.{pow-mono}
 use Rattle.sheet.specs.Limits.{maxInputs, maxPatterns}
 use Rattle.relation.specs.Tests.{ofSets}
 use Rattle.branch_bound.specs.Search.{floor, picks}
-use Rattle.table.specs.declared.BoardKind.{BoardKind}
+use Rattle.nodes.specs.declared.BoardKind.{BoardKind}
 use Rattle.branch_bound.specs.Boards.{boardOf}
 use Rattle.parts.specs.Inner.Ranks.{tablesIn, floorIn}
 use Rattle.sheet.specs.Inner.Sized.{Sized}

@@ -17,7 +17,7 @@ use Rattle.relation.proofs.Narrowing.{cleared-takes, cleared-narrow}
 use Rattle.branch_bound.specs.declared.State.{State}
 use Rattle.branch_bound.specs.Reply.{bestOutcome, stoppedOutcome, SearchReply, markOf, answerOf, refusedWith, searchTested, searchOf}
 use Rattle.branch_bound.specs.Search.{Board, floor, start, searchPart, run}
-use Rattle.table.specs.declared.BoardKind.{BoardKind}
+use Rattle.nodes.specs.declared.BoardKind.{BoardKind}
 use Rattle.branch_bound.specs.Boards.{boardOf}
 use Rattle.sheet.specs.Inner.Sized.{Sized}
 use Rattle.parts.specs.Inner.Boards.{boardNumber, kindIn, inputsIn, LentFor, Lent}

@@ -26,7 +26,7 @@ use Rattle.relation.proofs.Narrowing.{agreed-agree, agreed-narrow}
 use Rattle.base.proofs.Tabulate.{filled-tabulate}
 use Rattle.branch_bound.specs.declared.State.{State}
 use Rattle.branch_bound.specs.Search.{replyTables, pick, left, quick, start}
-use Rattle.table.specs.declared.BoardKind.{BoardKind}
+use Rattle.nodes.specs.declared.BoardKind.{BoardKind}
 use Rattle.branch_bound.specs.Boards.{boardOf}
 use Rattle.nodes.specs.Counts.{countOf}
 use Rattle.parts.specs.Inner.Ranks.{tableIn, cellsIn, cellsSpace}

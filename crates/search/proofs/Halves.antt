@@ -18,7 +18,7 @@ use Rattle.relation.proofs.Members.{member-sets}
 use Rattle.relation.proofs.Splits.{keep-closes}
 use Rattle.branch_bound.specs.declared.State.{State}
 use Rattle.branch_bound.specs.Search.{split, searchPart}
-use Rattle.table.specs.declared.BoardKind.{BoardKind}
+use Rattle.nodes.specs.declared.BoardKind.{BoardKind}
 use Rattle.branch_bound.specs.Boards.{boardOf}
 use Rattle.parts.specs.Inner.Boards.{Lent}
 use Rattle.parts.specs.Inner.Ranks.{tablesIn, floorIn}

@@ -10,7 +10,7 @@ use Rattle.relation.specs.Tests.{ofSets, compatible}
 use Rattle.table.specs.Cells.{wires}
 use Rattle.branch_bound.specs.declared.State.{State}
 use Rattle.branch_bound.specs.Search.{discarded, usedUp, halted, charged, improved, split, expand, charge, treat, searchPart}
-use Rattle.table.specs.declared.BoardKind.{BoardKind}
+use Rattle.nodes.specs.declared.BoardKind.{BoardKind}
 use Rattle.branch_bound.specs.Boards.{boardOf}
 use Rattle.branch_bound.proofs.Depth.{search-step}
 use Rattle.search.specs.declared.SplitPlace.{SplitPlace}

@@ -1,6 +1,7 @@
 // The branch and bound: the smallest stage that keeps to a relation. What it carries of a part is the crate `parts`, and what it means `branch_bound`.
 use base::Refusal;
 use base::Verdict;
+use nodes::BoardKind;
 use nodes::picks::tops;
 use parts::boards::board_of;
 use parts::ranks::floor_of;
@@ -8,13 +9,12 @@ use parts::whole_part;
 use relation::Relation;
 use relation::patterns::clear_past;
 use sheet::Sheet;
-use table::BoardKind;
 use table::picks::ENTRIES;
 use table::picks::blocks;
 ghost use mathlib.Core.Path.{_≡_};
 ghost use Rattle.relation.specs.Tests.{ofSets};
 ghost use Rattle.branch_bound.specs.Search.{run};
-ghost use Rattle.table.specs.declared.BoardKind.the-variants.{Tree, Sharing};
+ghost use Rattle.nodes.specs.declared.BoardKind.the-variants.{Tree, Sharing};
 ghost use Rattle.branch_bound.specs.Boards.{boardOf};
 ghost use Rattle.search.specs.Cases.{searchReply};
 ghost use Rattle.branch_bound.specs.Reply.{answerOf, searchOf};

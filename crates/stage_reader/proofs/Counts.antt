@@ -5,8 +5,8 @@ use mathlib.Core.List.{List, [], _∷_}
 use native.Mathlib.Omega.{arith}
 use lib.ListN.{length}
 use Rattle.sheet.specs.Limits.{maxInputs}
-use Rattle.table.specs.declared.BoardKind.{BoardKind}
-use Rattle.table.specs.declared.BoardKind.the-variants.{Tree, Sharing}
+use Rattle.nodes.specs.declared.BoardKind.{BoardKind}
+use Rattle.nodes.specs.declared.BoardKind.the-variants.{Tree, Sharing}
 use Rattle.stage.proofs.TreeTables.{selectors-few}
 use Rattle.diagram.specs.Diagram.{Entry, mostEntries, entryPrice, entriesCells}
 use Rattle.diagram.specs.Forms.{formOf, drawingOf}

@@ -7,9 +7,10 @@ use crate::tables::select;
 use base::Refusal;
 use diagram::FIRST_NUMBER;
 use diagram::MOST_ENTRIES;
+use nodes::BoardKind;
 use sheet::limits::all_ones;
 use sheet::limits::count_out;
-use table::BoardKind;
+use stage::SELECTOR_BYTES;
 ghost use mathlib.Core.Path.{_≡_};
 ghost use mathlib.Core.List.{List};
 ghost use Prim.Native.Nat.{ℕ, _+_, _<_, _≤_};
@@ -27,9 +28,7 @@ const NUMBERS: usize = FIRST_NUMBER as usize + MOST_ENTRIES;
 // The most entries, as the byte says that counts them.
 const MOST: u8 = MOST_ENTRIES as u8;
 
-// An entry, and the head of a wire, 26 j c.
-const ENTRY_BYTES: usize = 3;
-
+// The head of a wire, 26 j c.
 const HEAD_BYTES: usize = 3;
 
 // The number of the refusal of the entry that is to have a number of its own, 0 where it may follow those before it. A test is over both numbers
@@ -62,7 +61,7 @@ fn judge_entry(s: &[u8], at: usize, n: u8, own: u8, inputs: &[u8; NUMBERS]) -> u
     ensures { λ r. ⌜ ((es : List Entry) → nextNumber es ≡ own → InputsTell n es (now (inputs .entry))
         → entryAt n es at (drop at (now (s .entry))) ≡ entryBy r (now (s .entry)) at) ⌝ }
 {
-    if s.len() - at < ENTRY_BYTES {
+    if s.len() - at < SELECTOR_BYTES {
         return Refusal::CUT_SHORT;
     }
     entry_refusal(n, own, s[at], s[at + 1], s[at + 2], inputs)
@@ -131,7 +130,7 @@ fn read_diagram(s: &[u8], from: usize, n: u8, count: u8) -> WireStep
     let mut cells: u16 = 0;
     let mut k: u8 = 0;
     while k < count {
-        let at = from + ENTRY_BYTES * (k as usize);
+        let at = from + SELECTOR_BYTES * (k as usize);
         let own = FIRST_NUMBER + k;
         let f = judge_entry(s, at, n, own, &inputs);
         if f != 0 {
@@ -143,7 +142,7 @@ fn read_diagram(s: &[u8], from: usize, n: u8, count: u8) -> WireStep
     }
     read_top(
         s,
-        from + ENTRY_BYTES * (count as usize),
+        from + SELECTOR_BYTES * (count as usize),
         FIRST_NUMBER + count,
         cells,
         &tables,

@@ -1,6 +1,6 @@
 // Where a command is due, and where a wire is: the number of the refusal, 0 where what is due stands there.
 use base::Refusal;
-use table::BoardKind;
+use nodes::BoardKind;
 ghost use mathlib.Core.Path.{_≡_};
 ghost use lib.ListN.{drop};
 ghost use Rattle.stage.specs.Steps.{misplaced, dueNumber, turnNumber};

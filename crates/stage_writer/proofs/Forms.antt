@@ -5,8 +5,8 @@ use mathlib.Core.List.{List}
 use native.Mathlib.Omega.{arith}
 use lib.ListN.{length}
 use Rattle.sheet.specs.Limits.{maxInputs, maxWires}
-use Rattle.table.specs.declared.BoardKind.{BoardKind}
-use Rattle.table.specs.declared.BoardKind.the-variants.{Tree, Sharing}
+use Rattle.nodes.specs.declared.BoardKind.{BoardKind}
+use Rattle.nodes.specs.declared.BoardKind.the-variants.{Tree, Sharing}
 use Rattle.table.specs.Cells.{wires, total}
 use Rattle.stage.specs.TreeBytes.{sheetFrame, selectorBytes}
 use Rattle.stage.specs.Written.{stageOf}

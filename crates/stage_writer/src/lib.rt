@@ -1,10 +1,10 @@
 // The stage writer: what drives each wire, made from the wire's table, at the start of a lent buffer. It serves both boards: `wires` alone looks at which.
 use base::Refusal;
 use base::Written;
+use nodes::BoardKind;
 use sheet::Sheet;
 use sheet::limits::sizes_out;
 use stores::put_sheet;
-use table::BoardKind;
 use tables::first_out;
 use tables::stage_length;
 use tables::stage_selectors;

@@ -2,8 +2,8 @@
 // Inner functions: `write_on` has tested sizes, tables and buffer before it calls them.
 use crate::wires::put_wire;
 use base::put;
+use nodes::BoardKind;
 use sheet::Sheet;
-use table::BoardKind;
 ghost use mathlib.Core.Path.{_≡_};
 ghost use Prim.Native.Nat.{ℕ, _^_, _<_, _≤_};
 ghost use lib.ListN.{getD};

@@ -2,11 +2,11 @@
 // Inner functions: `write_on` has tested the sizes before it calls them, and the tables before it counts their selectors.
 use crate::wires::frame;
 use crate::wires::selectors;
+use nodes::BoardKind;
 use sheet::Sheet;
 use sheet::limits::bits_past;
 use stage::SELECTOR_BYTES;
 use stage::SHEET_FRAME;
-use table::BoardKind;
 ghost use mathlib.Core.Path.{_≡_};
 ghost use Prim.Native.Nat.{ℕ, _+_, _*_, _^_, _<_, _≤_};
 ghost use lib.ListN.{getD};

@@ -6,7 +6,7 @@ use mathlib.Core.List.{List}
 use lib.ListN.{length, getD}
 use Rattle.sheet.specs.Limits.{maxWires, maxPatterns}
 use Rattle.sheet.specs.Inner.Sized.{Sized}
-use Rattle.table.specs.declared.BoardKind.{BoardKind}
+use Rattle.nodes.specs.declared.BoardKind.{BoardKind}
 use Rattle.table.specs.Bits.{bit, tabulate}
 use Rattle.table.specs.Inner.Ranks.{pickOf, rank}
 use Rattle.table.specs.Inner.Pairs.{zerosIn, onesIn}

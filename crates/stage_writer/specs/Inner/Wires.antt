@@ -2,8 +2,8 @@
 use Prim.Native.Nat.{ℕ}
 use mathlib.Core.List.{[]}
 use lib.ListN.{length}
-use Rattle.table.specs.declared.BoardKind.{BoardKind}
-use Rattle.table.specs.declared.BoardKind.the-variants.{Tree, Sharing}
+use Rattle.nodes.specs.declared.BoardKind.{BoardKind}
+use Rattle.nodes.specs.declared.BoardKind.the-variants.{Tree, Sharing}
 use Rattle.table.specs.Tree.{selectors, reduced}
 use Rattle.nodes.specs.Nodes.{listing}
 use Rattle.stage.specs.TreeBytes.{treeFrame}

@@ -1,6 +1,6 @@
 -- `board_of` meets its contract: the number of each kind.
 use mathlib.Core.Path.{sym, ap}
-use Rattle.table.specs.declared.BoardKind.{BoardKind}
+use Rattle.nodes.specs.declared.BoardKind.{BoardKind}
 use Rattle.parts.specs.Inner.Boards.{boardNumber}
 use borrow.Author.Needs.{needs}
 use Rattle.parts.proofs.boards.board_of.Statement.{statement}
