@@ -1,5 +1,6 @@
+-- `misplaced_number` meets its contract: each arm is the case of `misplaced` for its byte.
 use Prim.Native.Nat.{ℕ}
-use mathlib.Core.Path.{_≡_}
+use mathlib.Core.Path.{_≡_, sym, ap₂}
 use borrow.Author.Tests.{ne-eqb}
 use Rattle.base.specs.Refusals.{unknown}
 use Rattle.nodes.specs.declared.BoardKind.{BoardKind}
@@ -8,6 +9,10 @@ use Rattle.diagram.specs.Forms.{formOf}
 use Rattle.stage.specs.Steps.{misplaced}
 use Rattle.stage_reader.proofs.due.misplaced_number.Statement.{statement}
 use Rattle.stage_reader.proofs.due.misplaced_number.Tie as tie
+
+-- a byte, looked up for the board
+known-byte : {kind k : BoardKind} {b x : ℕ} → kind ≡ k → b ≡ x → misplaced (formOf k .known) x ≡ misplaced (formOf kind .known) b
+known-byte e d = sym (ap₂ (λ (kind : BoardKind) (b : ℕ). misplaced (formOf kind .known) b) e d)
 
 -- a byte that starts no command of the board's sheets
 no-tree : (kind : BoardKind) (b : ℕ) → kind ≡ Tree → (b ≡ 0x20 → ⊥) → (b ≡ 0x21 → ⊥) → (b ≡ 0x22 → ⊥) → (b ≡ 0x23 → ⊥) → (b ≡ 0x24 → ⊥)
@@ -27,27 +32,27 @@ enum-told-2 c = c .match .keys2
 
 returns : tie.Need-returns
 unfolding misplaced
-returns c = simp (c .before .enum-told .given .1, c .match2 .keys1)
+returns c = known-byte (c .before .enum-told .given .1) (c .match2 .keys1)
 
 returns-2 : tie.Need-returns-2
 unfolding misplaced
-returns-2 c = simp (c .before .enum-told .given .1, c .match2 .keys2)
+returns-2 c = known-byte (c .before .enum-told .given .1) (c .match2 .keys2)
 
 returns-3 : tie.Need-returns-3
 unfolding misplaced
-returns-3 c = simp (c .before .enum-told .given .1, c .match2 .keys3)
+returns-3 c = known-byte (c .before .enum-told .given .1) (c .match2 .keys3)
 
 returns-4 : tie.Need-returns-4
 unfolding misplaced
-returns-4 c = simp (c .before .enum-told .given .1, c .match2 .keys4)
+returns-4 c = known-byte (c .before .enum-told .given .1) (c .match2 .keys4)
 
 returns-5 : tie.Need-returns-5
 unfolding misplaced
-returns-5 c = simp (c .before .enum-told .given .1, c .match2 .keys5)
+returns-5 c = known-byte (c .before .enum-told .given .1) (c .match2 .keys5)
 
 returns-6 : tie.Need-returns-6
 unfolding misplaced
-returns-6 c = simp (c .before .enum-told .given .1, c .match2 .keys6)
+returns-6 c = known-byte (c .before .enum-told .given .1) (c .match2 .keys6)
 
 returns-7 : tie.Need-returns-7
 returns-7 c =
@@ -57,15 +62,15 @@ returns-7 c =
 
 returns-8 : tie.Need-returns-8
 unfolding misplaced
-returns-8 c = simp (c .before .enum-told2 .given .1, c .match3 .keys1)
+returns-8 c = known-byte (c .before .enum-told2 .given .1) (c .match3 .keys1)
 
 returns-9 : tie.Need-returns-9
 unfolding misplaced
-returns-9 c = simp (c .before .enum-told2 .given .1, c .match3 .keys2)
+returns-9 c = known-byte (c .before .enum-told2 .given .1) (c .match3 .keys2)
 
 returns-10 : tie.Need-returns-10
 unfolding misplaced
-returns-10 c = simp (c .before .enum-told2 .given .1, c .match3 .keys3)
+returns-10 c = known-byte (c .before .enum-told2 .given .1) (c .match3 .keys3)
 
 returns-11 : tie.Need-returns-11
 returns-11 c =
