@@ -84,9 +84,6 @@ mul-lesser c = search needs
 array-read-lesser : tie.Need-array-read-lesser Inv-loop μ-loop
 array-read-lesser c = search needs
 
-add-lesser : tie.Need-add-lesser Inv-loop μ-loop
-add-lesser c = let u = c .before .before .before .before .loop .u in omega (arith, costs-at u (omega arith), cost-le u (omega arith), c .before .way .ensures .1)
-
 lesser-requires : tie.Need-lesser-requires Inv-loop μ-loop
 lesser-requires c κs = search needs
 
@@ -116,6 +113,10 @@ loop-again c =
         ⊎-elim (λ s. omega (arith, s .1, way .way .ensures .1)) (λ s. omega (arith, s .1, l .loop .inv .2 .2)) (joined .if2 .came),
       ),
     )
+
+-- the sum fits, by the same costs
+add-lesser : tie.Need-add-lesser Inv-loop μ-loop
+add-lesser c = let u = c .before .before .before .before .loop .u in omega (arith, costs-at u (omega arith), cost-le u (omega arith), c .before .way .ensures .1)
 
 returns-2 : tie.Need-returns-2 Inv-loop μ-loop
 returns-2 c =
