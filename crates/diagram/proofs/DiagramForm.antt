@@ -10,7 +10,7 @@ use Rattle.table.specs.Drawing.{got, drawnTable}
 use Rattle.table.specs.Inner.Drawing.{FairCount}
 use Rattle.table.proofs.Bits.{ofBits-lt, bit-ofBits}
 use Rattle.nodes.specs.Nodes.{listing, nodes}
-use Rattle.stage.specs.TreeBytes.{sheetFrame, selectorBytes}
+use Rattle.stage.specs.Bytes.{sheetFrame, selectorBytes}
 use Rattle.stage.specs.Written.{stageOf}
 use Rattle.stage.specs.Inner.Laws.{FormLaws}
 use Rattle.stage.proofs.Lengths.{sheet-length, sheet-length-most}

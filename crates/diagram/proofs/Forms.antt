@@ -10,7 +10,9 @@ use Rattle.nodes.specs.declared.BoardKind.the-variants.{Tree, Sharing}
 use Rattle.table.specs.Inner.Drawing.{FairCount}
 use Rattle.nodes.specs.Counts.{countOf}
 use Rattle.stage.specs.Read.{readSheet}
+use Rattle.stage.specs.RoundTrip.{RoundTrip}
 use Rattle.stage.specs.Inner.Laws.{FormLaws}
+use Rattle.stage.proofs.RoundTrip.{round-trip}
 use Rattle.stage.proofs.TreeForm.{tree-laws, front-tells as trees-front}
 use Rattle.diagram.specs.Bytes.{longestDiagrams}
 use Rattle.diagram.specs.Forms.{formOf, drawingOf}
@@ -29,6 +31,10 @@ pub form-reduces : (kind : BoardKind) (n : ℕ) (small : n ≤ maxInputs) → fo
 unfolding form-fair
 form-reduces Tree n small = tree-laws .reduces n small
 form-reduces Sharing n small = diagram-laws .reduces n small
+
+-- on either board reading undoes writing
+pub form-round-trip : (kind : BoardKind) → RoundTrip (formOf kind)
+form-round-trip kind = round-trip (formOf kind) (form-laws kind)
 
 -- no stage sheet that is accepted, of either board, has more bytes than the longest of diagrams, so reading looks no further than one byte past it
 pub form-front : (kind : BoardKind) (bytes : List ℕ) (k : ℕ) → longestDiagrams < k → readSheet (formOf kind) (take k bytes) ≡ readSheet (formOf kind) bytes

@@ -10,9 +10,9 @@ use borrow.Author.Tests.{lt-leb, le-ltb, leb-false, ltb-false}
 use Rattle.base.proofs.Tests.{cond-has, cond-has₂, test-no, neither}
 use Rattle.sheet.specs.Limits.{countOut}
 use Rattle.sheet.proofs.Sizes.{count-in, count-fits}
-use Rattle.stage.specs.Steps.{Read, taken, fault, andThen, judged, dueNumber, due, operand, turnNumber}
+use Rattle.stage.specs.Steps.{Read, taken, fault, andThen, unlessRefused, dueNumber, due, operand, turnNumber}
 use Rattle.stage.specs.Inner.Laws.{withMore, Told, ToldWire}
-use Rattle.stage.proofs.Steps.{judged-has, judged-has₂, due-has, due-more, turn-is, turn-comes, then-more}
+use Rattle.stage.proofs.Steps.{unless-refused-has, unless-refused-has₂, due-has, due-more, turn-is, turn-comes, then-more}
 use Rattle.diagram.specs.Diagram.{Entry, entry, Diagram, nextNumber, inputAt, FitsAfter, EntriesFit, mostEntries, WellFormed}
 use Rattle.diagram.specs.Bytes.{entryBytes, entriesBytes, diagramWireBytes}
 use Rattle.diagram.specs.Read.{diagramKnown, entryRefusal, entryAt, entriesAt, topAt, diagramWireAt}
@@ -78,7 +78,7 @@ entry-told n before at [] = tt
 entry-told n before at (i ∷ []) = tt
 entry-told n before at (i ∷ z ∷ []) = tt
 entry-told n before at (i ∷ z ∷ o ∷ rest) =
-    judged-has (ToldEntry n before at (i ∷ z ∷ o ∷ rest)) fault at (entryRefusal n before (entry i z o)) (λ _. tt)
+    unless-refused-has (ToldEntry n before at (i ∷ z ∷ o ∷ rest)) fault at (entryRefusal n before (entry i z o)) (λ _. tt)
     (λ h. (refl, refl, unrefused-fits n before (entry i z o) h))
 
 -- the first c entries
@@ -143,12 +143,12 @@ wire-told n m j at bytes =
         → ToldWire diagramForm n j at (0x26 ∷ rest)
         (operand fault at
         (λ i. operand fault at
-        (λ c rest. judged fault at (turnNumber m j i (ltb mostEntries c)) (andThen (entriesAt c n (at + 3) rest) topAt)))
+        (λ c rest. unlessRefused fault at (turnNumber m j i (ltb mostEntries c)) (andThen (entriesAt c n (at + 3) rest) topAt)))
         rest)
     number [] = tt
     number (i ∷ []) = tt
     number (i ∷ c ∷ rest) =
-        judged-has (ToldWire diagramForm n j at (0x26 ∷ i ∷ c ∷ rest)) fault at (turnNumber m j i (ltb mostEntries c)) (λ _. tt)
+        unless-refused-has (ToldWire diagramForm n j at (0x26 ∷ i ∷ c ∷ rest)) fault at (turnNumber m j i (ltb mostEntries c)) (λ _. tt)
         (λ e.
         let turn = turn-is m j i (ltb mostEntries c) e in
         rw (turn .0) (list-told c n j at rest (ltb-false mostEntries c (turn .2))))
@@ -185,7 +185,7 @@ entry-more n before at [] q h = absurd (omega arith)
 entry-more n before at (i ∷ []) q h = absurd (omega arith)
 entry-more n before at (i ∷ z ∷ []) q h = absurd (omega arith)
 entry-more n before at (i ∷ z ∷ o ∷ rest) q h =
-    judged-has₂ (λ (x y : Read Entry). x ≡ withMore q y) fault fault at (entryRefusal n before (entry i z o)) (λ _. refl) (λ _. refl)
+    unless-refused-has₂ (λ (x y : Read Entry). x ≡ withMore q y) fault fault at (entryRefusal n before (entry i z o)) (λ _. refl) (λ _. refl)
 
 entries-more : (c n at : ℕ) (bytes q : List ℕ) → 3 * c ≤ length bytes → entriesAt c n at (bytes ++ q) ≡ withMore q (entriesAt c n at bytes)
 unfolding entriesAt withMore
@@ -220,7 +220,7 @@ wire-more n m j at (b ∷ []) q h = absurd (omega arith)
 wire-more n m j at (b ∷ i ∷ []) q h = absurd (omega arith)
 wire-more n m j at (b ∷ i ∷ c ∷ rest) q h =
     due-more Same diagramKnown fault 0x26 at _ (λ _. refl) b (i ∷ c ∷ rest) q
-    (judged-has₂ Same fault fault at (turnNumber m j i (ltb mostEntries c)) (λ _. refl)
+    (unless-refused-has₂ Same fault fault at (turnNumber m j i (ltb mostEntries c)) (λ _. refl)
     (λ e. list-more c n (at + 3) rest q (omega (arith, ltb-false mostEntries c (turn-is m j i (ltb mostEntries c) e .2)))))
   where
     Same : Read Diagram → Read Diagram → Type 0

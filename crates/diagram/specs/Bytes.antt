@@ -3,7 +3,8 @@ use Prim.Native.Nat.{ℕ, _+_, _*_}
 use mathlib.Core.List.{List, [], _∷_, _++_}
 use lib.ListN.{length}
 use Rattle.sheet.specs.Limits.{maxWires}
-use Rattle.stage.specs.TreeBytes.{sheetFrame, selectorBytes, mostCells}
+use Rattle.stage.specs.Bytes.{sheetFrame, selectorBytes}
+use Rattle.stage.specs.TreeBytes.{mostCells}
 use Rattle.diagram.specs.Diagram.{Entry, Diagram, mostEntries}
 
 abbrev pub entryBytes : Entry → List ℕ

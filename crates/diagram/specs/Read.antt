@@ -6,7 +6,7 @@ use mathlib.Core.List.{List, [], _∷_}
 use lib.Dec.{ltb, leb, eqb}
 use Rattle.base.specs.Refusals.{refusalAt, outOfRange, noSignal, notAscending}
 use Rattle.sheet.specs.Limits.{countOut}
-use Rattle.stage.specs.Steps.{Read, taken, fault, andThen, judged, due, operand, turnNumber}
+use Rattle.stage.specs.Steps.{Read, taken, fault, andThen, unlessRefused, due, operand, turnNumber}
 use Rattle.diagram.specs.Diagram.{Entry, entry, Diagram, diagram, nextNumber, inputAt, mostEntries}
 
 -- the first bytes of the sheet's commands
@@ -27,7 +27,7 @@ entryAt n before at =
     operand fault at
     (λ i. operand fault at
     (λ z. operand fault at
-    (λ o rest. judged fault at (entryRefusal n before (entry i z o)) (taken (entry i z o) (at + 3) rest))))
+    (λ o rest. unlessRefused fault at (entryRefusal n before (entry i z o)) (taken (entry i z o) (at + 3) rest))))
 
 -- the first c entries: those before the last, and the last after them
 unfoldable pub entriesAt : ℕ → ℕ → ℕ → List ℕ → Read (List Entry)
@@ -46,4 +46,4 @@ diagramWireAt n m j at =
     due diagramKnown fault 0x26 at
     (operand fault at
     (λ i. operand fault at
-    (λ c rest. judged fault at (turnNumber m j i (ltb mostEntries c)) (andThen (entriesAt c n (at + 3) rest) topAt))))
+    (λ c rest. unlessRefused fault at (turnNumber m j i (ltb mostEntries c)) (andThen (entriesAt c n (at + 3) rest) topAt))))

@@ -14,13 +14,14 @@ use Rattle.table.specs.Tree.{Tree, Ordered, selectors, reduced}
 use Rattle.table.specs.Inner.Drawing.{FairCount}
 use Rattle.table.proofs.Cells.{cells-lt}
 use Rattle.table.proofs.Trees.{follow-lt, least-tree, reduced-selectors, reduced-ordered, reduced-follow}
-use Rattle.stage.specs.Steps.{Read, taken, fault, judged, dueNumber, due, operand, turnNumber}
-use Rattle.stage.specs.TreeBytes.{treeBytes, treeWireBytes, sheetFrame, selectorBytes, treeFrame, longestStage}
+use Rattle.stage.specs.Steps.{Read, taken, fault, unlessRefused, dueNumber, due, operand, turnNumber}
+use Rattle.stage.specs.Bytes.{sheetFrame, selectorBytes}
+use Rattle.stage.specs.TreeBytes.{treeBytes, treeWireBytes, treeFrame, longestStage}
 use Rattle.stage.specs.TreeRead.{treeKnown, treeAt, treeWireAt}
 use Rattle.stage.specs.Trees.{treeForm, treeDrawing, readStage}
 use Rattle.stage.specs.Written.{stageOf}
 use Rattle.stage.specs.Inner.Laws.{ToldWire, FormLaws}
-use Rattle.stage.proofs.Steps.{judged-has, due-has, turn-is, turn-comes}
+use Rattle.stage.proofs.Steps.{unless-refused-has, due-has, turn-is, turn-comes}
 use Rattle.stage.proofs.Lengths.{sheet-length, sheet-length-most}
 use Rattle.stage.proofs.Prefix.{none-longer as sheet-none-longer, front-tells as sheet-front}
 use Rattle.stage.proofs.TreeReading.{ToldTree, tree-told, tree-back, tree-length}
@@ -39,10 +40,10 @@ wire-told n m j at bytes =
   where
     number : (rest : List ℕ)
         → ToldWire treeForm n j at (0x21 ∷ rest)
-        (operand fault at (λ i rest. judged fault at (turnNumber m j i false) (treeAt n 0 (at + 2) rest)) rest)
+        (operand fault at (λ i rest. unlessRefused fault at (turnNumber m j i false) (treeAt n 0 (at + 2) rest)) rest)
     number [] = tt
     number (i ∷ rest) =
-        judged-has (ToldWire treeForm n j at (0x21 ∷ i ∷ rest)) fault at (turnNumber m j i false) (λ _. tt)
+        unless-refused-has (ToldWire treeForm n j at (0x21 ∷ i ∷ rest)) fault at (turnNumber m j i false) (λ _. tt)
         (λ e. rw (turn-is m j i false e .0) (tree-of-wire n j at rest (treeAt n 0 (at + 2) rest) (tree-told n 0 (at + 2) rest)))
 
 pub wire-back : (n m j at : ℕ) (x : Tree) (q : List ℕ) → j < m → Ordered n 0 x

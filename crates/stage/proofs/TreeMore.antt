@@ -15,7 +15,7 @@ use Rattle.stage.specs.Steps.{Read, taken, fault, operand, turnNumber}
 use Rattle.stage.specs.TreeBytes.{treeBytes}
 use Rattle.stage.specs.TreeRead.{treeKnown, branchesAt, selectorAt, treeFrom, treeAt, treeWireAt}
 use Rattle.stage.specs.Inner.Laws.{withMore}
-use Rattle.stage.proofs.Steps.{judged-has₂, due-more, then-more}
+use Rattle.stage.proofs.Steps.{unless-refused-has₂, due-more, then-more}
 use Rattle.stage.proofs.TreeReading.{Branch, ToldTree, tree-is, tree-told, tree-length}
 use Rattle.stage.proofs.TreeTables.{selectors-lt}
 
@@ -82,7 +82,7 @@ wire-more n m j at [] q h = absurd (omega arith)
 wire-more n m j at (b ∷ []) q h = absurd (omega (arith, pow-pos n))
 wire-more n m j at (b ∷ i ∷ rest) q h =
     due-more Same treeKnown fault 0x21 at _ (λ _. refl) b (i ∷ rest) q
-    (judged-has₂ Same fault fault at (turnNumber m j i false) (λ _. refl)
+    (unless-refused-has₂ Same fault fault at (turnNumber m j i false) (λ _. refl)
     (λ _. tree-more n n 0 (omega arith) (omega arith) (at + 2) rest q (omega arith)))
   where
     Same : Read Tree → Read Tree → Type 0

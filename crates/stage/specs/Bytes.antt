@@ -12,3 +12,10 @@ module _ (F : StageForm) where
   -- the head with the sizes, the wires, and the end
   unfoldable pub stageBytes : ℕ → ℕ → List (F .Shape) → List ℕ
   stageBytes n m stage = 0x20 ∷ n ∷ m ∷ wiresBytes 0 stage ++ 0x2F ∷ []
+
+-- what a sheet takes besides its wires, and what a selector takes in a wire of either form
+abbrev pub sheetFrame : ℕ
+sheetFrame = 4
+
+abbrev pub selectorBytes : ℕ
+selectorBytes = 3

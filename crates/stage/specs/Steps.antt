@@ -17,9 +17,9 @@ unfoldable pub andThen : {A B : Type 0} → Read A → (A → ℕ → List ℕ �
 andThen (taken x at rest) next = next x at rest
 andThen (fault f) next = fault f
 
--- goes on where the number of the refusal of the command at a place is 0
-abbrev pub judged : {A : Type 0} → (Refusal → A) → ℕ → ℕ → A → A
-judged stop at f next = cond (eqb f 0) next (stop (refusalAt f at))
+-- what comes next, unless the command at a place is refused: f is the number of its refusal, 0 where there is none
+abbrev pub unlessRefused : {A : Type 0} → (Refusal → A) → ℕ → ℕ → A → A
+unlessRefused stop at f next = cond (eqb f 0) next (stop (refusalAt f at))
 
 -- a first byte that is not due: 5 where it starts another command of the sheet, else 2
 unfoldable pub misplaced : (known : ℕ → Bool) → ℕ → ℕ
@@ -32,7 +32,7 @@ dueNumber known want (b ∷ rest) = cond (eqb b want) 0 (misplaced known b)
 
 -- at a place where the command `want` is due, with what comes after its first byte
 unfoldable pub due : {A : Type 0} → (known : ℕ → Bool) → (Refusal → A) → ℕ → ℕ → (List ℕ → A) → List ℕ → A
-due known stop want at next bytes = judged stop at (dueNumber known want bytes) (next (drop 1 bytes))
+due known stop want at next bytes = unlessRefused stop at (dueNumber known want bytes) (next (drop 1 bytes))
 
 -- an operand of the command at a place, with what comes after it; 1 where no byte is left
 unfoldable pub operand : {A : Type 0} → (Refusal → A) → ℕ → (ℕ → List ℕ → A) → List ℕ → A

@@ -5,6 +5,7 @@ use mathlib.Core.List.{List, [], _∷_, _++_}
 use lib.Dec.{eqb}
 use Rattle.sheet.specs.Limits.{maxWires, maxPatterns}
 use Rattle.table.specs.Tree.{Tree, con, sel}
+use Rattle.stage.specs.Bytes.{sheetFrame, selectorBytes}
 
 -- a constant is one byte
 abbrev pub constantByte : ℕ → ℕ
@@ -19,13 +20,7 @@ treeBytes (sel k z o) = 0x22 ∷ k ∷ treeBytes z ++ treeBytes o
 abbrev pub treeWireBytes : ℕ → Tree → List ℕ
 treeWireBytes j x = 0x21 ∷ j ∷ treeBytes x
 
--- what a sheet takes besides its wires, a selector on either board, and a tree besides its selectors
-abbrev pub sheetFrame : ℕ
-sheetFrame = 4
-
-abbrev pub selectorBytes : ℕ
-selectorBytes = 3
-
+-- what a tree takes besides its selectors: it has one constant more than selectors
 abbrev pub treeFrame : ℕ
 treeFrame = 3
 

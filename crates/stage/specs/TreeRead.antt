@@ -6,7 +6,7 @@ use lib.Dec.{leb, eqb}
 use Rattle.base.specs.Refusals.{refusalAt, cutShort, outOfRange, notAscending}
 use Rattle.sheet.specs.Limits.{countOut}
 use Rattle.table.specs.Tree.{Tree, con, sel}
-use Rattle.stage.specs.Steps.{Read, taken, fault, andThen, judged, misplaced, due, operand, turnNumber}
+use Rattle.stage.specs.Steps.{Read, taken, fault, andThen, unlessRefused, misplaced, due, operand, turnNumber}
 
 -- the first bytes of the sheet's commands
 abbrev pub treeKnown : ℕ → Bool
@@ -46,4 +46,4 @@ treeAt n k at bytes = treeWithin (suc (n - k)) n k at bytes
 unfoldable pub treeWireAt : ℕ → ℕ → ℕ → ℕ → List ℕ → Read Tree
 treeWireAt n m j at =
     due treeKnown fault 0x21 at
-    (operand fault at (λ i rest. judged fault at (turnNumber m j i false) (treeAt n 0 (at + 2) rest)))
+    (operand fault at (λ i rest. unlessRefused fault at (turnNumber m j i false) (treeAt n 0 (at + 2) rest)))

@@ -10,7 +10,7 @@ use borrow.Author.Tests.{lt-leb, le-leb}
 use Rattle.base.specs.declared.Refusal.{Refusal}
 use Rattle.base.specs.Refusals.{refusalAt, cutShort, noSignal}
 use Rattle.base.proofs.Tests.{decide}
-use Rattle.stage.specs.Steps.{taken, fault, andThen, judged, dueNumber, turnNumber}
+use Rattle.stage.specs.Steps.{taken, fault, andThen, unlessRefused, dueNumber, turnNumber}
 use Rattle.diagram.specs.Diagram.{Entry, diagram, nextNumber, mostEntries}
 use Rattle.diagram.specs.Read.{diagramKnown, entryRefusal, entryAt, entriesAt, topAt, diagramWireAt}
 use Rattle.stage_reader.specs.Inner.Numbers.{entryThere, entryBy}
@@ -60,7 +60,7 @@ module _ (s : List ℕ) (n m j at f : ℕ) (told : f ≡ dueNumber diagramKnown 
 
     pub wire-opens : at + 3 ≤ length s
         → diagramWireAt n m j at (drop at s)
-        ≡ judged fault at (turnNumber m j (getD s (at + 1) 0) (ltb mostEntries (getD s (at + 2) 0)))
+        ≡ unlessRefused fault at (turnNumber m j (getD s (at + 1) 0) (ltb mostEntries (getD s (at + 2) 0)))
         (andThen (entriesAt (getD s (at + 2) 0) n (at + 3) (drop (at + 3) s)) topAt)
     unfolding diagramWireAt
     wire-opens there = due-goes diagramKnown s 0x26 at f told fault _ due-there ∙ two-go fault _ s at there

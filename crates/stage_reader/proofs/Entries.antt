@@ -16,7 +16,7 @@ use Rattle.diagram.specs.Bytes.{entryBytes, entriesBytes}
 use Rattle.diagram.specs.Read.{entryAt, entriesAt, topAt}
 use Rattle.diagram.proofs.Reading.{ToldEntry, entry-told, ToldEntries, entries-told, entries-bytes-length}
 use Rattle.stage_reader.specs.Inner.Numbers.{mostNumbers, InputsTell, TablesTell, entryThere, entryBy, Selects, tableBy}
-use Rattle.stage_reader.proofs.Places.{judged-stops, judged-goes}
+use Rattle.stage_reader.proofs.Places.{unless-refused-stops, unless-refused-goes}
 use Rattle.stage_reader.proofs.Counts.{entries-few}
 use Rattle.stage_reader.proofs.Numbering as numbering
 
@@ -74,14 +74,14 @@ module _ {s : List ℕ} {n from k : ℕ} {tables inputs : List ℕ} {cells : ℕ
   module _ {f : ℕ} (judged : entryAt n (g .entries) at (drop at s) ≡ entryBy f s at) where
     pub diagram-refused : (f ≡ 0 → ⊥) → (c : ℕ) → k < c → andThen (entriesAt c n from (drop from s)) topAt ≡ fault (refusalAt f at)
     unfolding entriesAt andThen
-    diagram-refused h c l = rw (stopped n from (drop from s) (refusalAt f at) k c (rw (g .is, judged ∙ judged-stops fault at f f refl _ _ h refl)) l)
+    diagram-refused h c l = rw (stopped n from (drop from s) (refusalAt f at) k c (rw (g .is, judged ∙ unless-refused-stops fault at f f refl _ _ h refl)) l)
 
     module _ (accepted : f ≡ 0) (few : k < mostEntries) where
       abbrev e : Entry
       e = entryThere s at
 
       entry-is : entryAt n (g .entries) at (drop at s) ≡ taken e (at + 3) (drop (at + 3) s)
-      entry-is = judged ∙ judged-goes fault at f f refl _ accepted
+      entry-is = judged ∙ unless-refused-goes fault at f f refl _ accepted
 
       entry-fits : ToldEntry n (g .entries) at (drop at s) (taken e (at + 3) (drop (at + 3) s))
       entry-fits = subst (ToldEntry n (g .entries) at (drop at s)) entry-is (entry-told n (g .entries) at (drop at s))

@@ -16,7 +16,7 @@ use Rattle.base.proofs.Tests.{decide}
 use Rattle.sheet.specs.Limits.{sizesOut}
 use Rattle.table.specs.Drawing.{noStage}
 use Rattle.stage.specs.Form.{StageForm}
-use Rattle.stage.specs.Steps.{judged, dueNumber, due, operand}
+use Rattle.stage.specs.Steps.{unlessRefused, dueNumber, due, operand}
 use Rattle.stage.specs.Read.{wiresAt, closed, readSheet}
 
 module _ (s : List ℕ) (at : ℕ) where
@@ -26,13 +26,13 @@ module _ (s : List ℕ) (at : ℕ) where
   pub no-byte : length s ≤ at → drop at s ≡ []
   no-byte h = drop-of-length-le s h
 
--- what is judged, by the number of the refusal as the code has it
+-- refused or not, by the number of the refusal as the code has it
 module _ {A : Type 0} (stop : Refusal → A) (at f g : ℕ) (told : f ≡ g) (next : A) where
-  pub judged-stops : (r : Refusal) → (f ≡ 0 → ⊥) → r ≡ refusalAt f at → judged stop at g next ≡ stop r
-  judged-stops r h e = rw (← told, ne-eqb f 0 h) (ap stop (sym e))
+  pub unless-refused-stops : (r : Refusal) → (f ≡ 0 → ⊥) → r ≡ refusalAt f at → unlessRefused stop at g next ≡ stop r
+  unless-refused-stops r h e = rw (← told, ne-eqb f 0 h) (ap stop (sym e))
 
-  pub judged-goes : f ≡ 0 → judged stop at g next ≡ next
-  judged-goes h = rw (← told, eq-eqb f 0 h)
+  pub unless-refused-goes : f ≡ 0 → unlessRefused stop at g next ≡ next
+  unless-refused-goes h = rw (← told, eq-eqb f 0 h)
 
 -- a command that is due, told by the number of its refusal
 module _ (known : ℕ → Bool) (s : List ℕ) (want at f : ℕ) (told : f ≡ dueNumber known want (drop at s)) where
@@ -47,11 +47,11 @@ module _ (known : ℕ → Bool) (s : List ℕ) (want at f : ℕ) (told : f ≡ d
   module _ {A : Type 0} (stop : Refusal → A) (next : List ℕ → A) where
     pub due-refused : (r : Refusal) → (f ≡ 0 → ⊥) → r ≡ refusalAt f at → due known stop want at next (drop at s) ≡ stop r
     unfolding due
-    due-refused r h e = judged-stops stop at f _ told _ r h e
+    due-refused r h e = unless-refused-stops stop at f _ told _ r h e
 
     pub due-goes : f ≡ 0 → due known stop want at next (drop at s) ≡ next (drop (at + 1) s)
     unfolding due
-    due-goes h = judged-goes stop at f _ told _ h ∙ ap next (drop-drop 1 at s)
+    due-goes h = unless-refused-goes stop at f _ told _ h ∙ ap next (drop-drop 1 at s)
 
 -- an operand
 module _ {A : Type 0} (stop : Refusal → A) (at : ℕ) (next : ℕ → List ℕ → A) (s : List ℕ) (p : ℕ) where

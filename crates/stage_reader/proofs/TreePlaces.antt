@@ -10,7 +10,7 @@ use Rattle.base.specs.declared.Refusal.{Refusal}
 use Rattle.base.specs.Refusals.{refusalAt, cutShort, outOfRange, notAscending}
 use Rattle.sheet.specs.Limits.{countOut}
 use Rattle.table.specs.Tree.{con}
-use Rattle.stage.specs.Steps.{taken, fault, judged, misplaced, dueNumber, turnNumber}
+use Rattle.stage.specs.Steps.{taken, fault, unlessRefused, misplaced, dueNumber, turnNumber}
 use Rattle.stage.specs.TreeRead.{treeKnown, branchesAt, selectorAt, treeFrom, treeAt, treeWireAt}
 use Rattle.stage.proofs.TreeReading.{tree-is}
 use Rattle.stage_reader.proofs.Places.{byte-there, no-byte, due-refused, due-goes, operand-stops, operand-goes, two-more}
@@ -77,6 +77,6 @@ module _ (s : List ℕ) (n m j at f : ℕ) (told : f ≡ dueNumber treeKnown 0x2
     wire-cut h = due-goes treeKnown s 0x21 at f told fault _ due-there ∙ operand-stops fault at _ s (at + 1) h
 
     pub wire-opens : at + 1 < length s
-        → treeWireAt n m j at (drop at s) ≡ judged fault at (turnNumber m j (getD s (at + 1) 0) false) (treeAt n 0 (at + 2) (drop (at + 2) s))
+        → treeWireAt n m j at (drop at s) ≡ unlessRefused fault at (turnNumber m j (getD s (at + 1) 0) false) (treeAt n 0 (at + 2) (drop (at + 2) s))
     unfolding treeWireAt
     wire-opens there = due-goes treeKnown s 0x21 at f told fault _ due-there ∙ operand-goes fault at _ s (at + 1) there ∙ rw (two-more at)

@@ -8,7 +8,7 @@ use Rattle.sheet.specs.Limits.{maxInputs, maxWires}
 use Rattle.nodes.specs.declared.BoardKind.{BoardKind}
 use Rattle.nodes.specs.declared.BoardKind.the-variants.{Tree, Sharing}
 use Rattle.table.specs.Cells.{wires, total}
-use Rattle.stage.specs.TreeBytes.{sheetFrame, selectorBytes}
+use Rattle.stage.specs.Bytes.{sheetFrame, selectorBytes}
 use Rattle.stage.specs.Written.{stageOf}
 use Rattle.stage.proofs.TreeForm.{stage-length as trees-length, stage-length-most as trees-most}
 use Rattle.diagram.specs.Bytes.{longestShared}

@@ -12,7 +12,7 @@ ghost use Prim.Native.Nat.{ℕ, _+_, _*_, _^_, _<_, _≤_};
 ghost use lib.ListN.{getD};
 ghost use Rattle.sheet.specs.Limits.{maxInputs, maxWires};
 ghost use Rattle.table.specs.Cells.{wires, total};
-ghost use Rattle.stage.specs.TreeBytes.{sheetFrame, selectorBytes};
+ghost use Rattle.stage.specs.Bytes.{sheetFrame, selectorBytes};
 ghost use Rattle.stage.specs.Written.{firstOut};
 ghost use Rattle.stage_writer.specs.Inner.Wires.{frameOf, selectorsOf};
 

@@ -4,7 +4,7 @@ use mathlib.Core.Path.{_≡_}
 use mathlib.Core.List.{List}
 use lib.ListN.{getD, drop}
 use Rattle.table.specs.Drawing.{drawnTable}
-use Rattle.stage.specs.Steps.{Read, taken, fault, judged}
+use Rattle.stage.specs.Steps.{Read, taken, fault, unlessRefused}
 use Rattle.diagram.specs.Diagram.{Entry, entry, diagram, firstNumber, nextNumber, inputAt, mostEntries}
 use Rattle.diagram.specs.Diagrams.{diagramDrawing}
 use Rattle.stage_reader.specs.Inner.Tables.{selectOf}
@@ -30,7 +30,7 @@ entryThere s at = entry (getD s at 0) (getD s (at + 1) 0) (getD s (at + 2) 0)
 
 -- what the number of its refusal makes of it
 abbrev pub entryBy : ℕ → List ℕ → ℕ → Read Entry
-entryBy f s at = judged fault at f (taken (entryThere s at) (at + 3) (drop (at + 3) s))
+entryBy f s at = unlessRefused fault at f (taken (entryThere s at) (at + 3) (drop (at + 3) s))
 
 -- an entry whose table can be made of those in the array: it tests one of the n inputs, and names numbers below its own that have tables of n inputs
 pub record Selects (n own : ℕ) (tables : List ℕ) (e : Entry) : Type 0 where

@@ -6,12 +6,12 @@ use borrow.Author.Needs.{needs}
 use borrow.Author.Tests.{ltb-false}
 use lib.Dec.{ltb}
 use lib.ListN.{length, getD, drop}
-use Rattle.stage.specs.Steps.{fault, andThen, judged, turnNumber}
+use Rattle.stage.specs.Steps.{fault, andThen, unlessRefused, turnNumber}
 use Rattle.stage.proofs.Steps.{turn-is}
 use Rattle.diagram.specs.Diagram.{mostEntries}
 use Rattle.diagram.specs.Diagrams.{diagramDrawing}
 use Rattle.diagram.specs.Read.{diagramKnown, entriesAt, topAt, diagramWireAt}
-use Rattle.stage_reader.proofs.Places.{judged-stops, judged-goes, due-within}
+use Rattle.stage_reader.proofs.Places.{unless-refused-stops, unless-refused-goes, due-within}
 use Rattle.stage_reader.proofs.DiagramPlaces.{wire-refused, wire-cut, wire-opens}
 use Rattle.stage_reader.proofs.Taken.{step-refused}
 use Rattle.stage_reader.proofs.diagrams.read_diagram_wire.Statement.{statement}
@@ -40,7 +40,7 @@ turn-told c = c .turn-number .ensures
 
 opens : (c : tie.After-turn-number)
     → diagramWireAt (start c .args .n) (start c .args .m) (start c .args .j) (start c .args .at) (drop (start c .args .at) (start c .args .s .now))
-    ≡ judged fault (start c .args .at)
+    ≡ unlessRefused fault (start c .args .at)
     (turnNumber (start c .args .m) (start c .args .j) (getD (start c .args .s .now) (start c .args .at + 1) 0) (ltb mostEntries (count-at c)))
     (andThen (entriesAt (count-at c) (start c .args .n) (start c .args .at + 3) (drop (start c .args .at + 3) (start c .args .s .now))) topAt)
 opens c =
@@ -92,7 +92,7 @@ at-requires-3 c κs = search needs
 returns-3 : tie.Need-returns-3
 returns-3 c =
     let t = c .before .before in
-    let stops = judged-stops fault _ _ _ (turn-told t) _ _ (c .before .if3 .taken) (c .at3 .ensures) in
+    let stops = unless-refused-stops fault _ _ _ (turn-told t) _ _ (c .before .if3 .taken) (c .at3 .ensures) in
     step-refused diagramDrawing _ _ _ _ (opens t ∙ stops) refl
 
 add-read-diagram : tie.Need-add-read-diagram
@@ -110,7 +110,7 @@ returns-4 c =
     let t = c .before .before in
     let a = start t .args in
     let read = andThen (entriesAt (count-at t) (a .n) (a .at + 3) (drop (a .at + 3) (a .s .now))) topAt in
-    rw (opens t, judged-goes fault (a .at) _ _ (turn-told t) read (c .before .if3 .left)) (c .read-diagram .ensures)
+    rw (opens t, unless-refused-goes fault (a .at) _ _ (turn-told t) read (c .before .if3 .left)) (c .read-diagram .ensures)
 
 pub read-diagram-wire-spec : {M : Type 1} → statement M
 read-diagram-wire-spec =

@@ -5,10 +5,10 @@ use mathlib.Core.Bool.{false}
 use native.Mathlib.Omega.{arith}
 use borrow.Author.Needs.{needs}
 use lib.ListN.{getD, drop}
-use Rattle.stage.specs.Steps.{fault, judged, turnNumber}
+use Rattle.stage.specs.Steps.{fault, unlessRefused, turnNumber}
 use Rattle.stage.specs.TreeRead.{treeKnown, treeAt, treeWireAt}
 use Rattle.stage.specs.Trees.{treeDrawing}
-use Rattle.stage_reader.proofs.Places.{judged-stops, judged-goes, due-within}
+use Rattle.stage_reader.proofs.Places.{unless-refused-stops, unless-refused-goes, due-within}
 use Rattle.stage_reader.proofs.TreePlaces.{wire-refused, wire-cut, wire-opens}
 use Rattle.stage_reader.proofs.Taken.{step-refused}
 use Rattle.stage_reader.proofs.trees.read_tree_wire.Statement.{statement}
@@ -27,7 +27,7 @@ turn-told c = c .turn-number .ensures
 
 opens : (c : tie.After-turn-number)
     → treeWireAt (start c .args .n) (start c .args .m) (start c .args .j) (start c .args .at) (drop (start c .args .at) (start c .args .s .now))
-    ≡ judged fault (start c .args .at) (turnNumber (start c .args .m) (start c .args .j) (getD (start c .args .s .now) (start c .args .at + 1) 0) false)
+    ≡ unlessRefused fault (start c .args .at) (turnNumber (start c .args .m) (start c .args .j) (getD (start c .args .s .now) (start c .args .at + 1) 0) false)
     (treeAt (start c .args .n) 0 (start c .args .at + 2) (drop (start c .args .at + 2) (start c .args .s .now)))
 opens c =
     let e2 = c .before .before in
@@ -70,7 +70,7 @@ at-requires-3 c κs = search needs
 returns-3 : tie.Need-returns-3
 returns-3 c =
     let t = c .before .before in
-    let stops = judged-stops fault _ _ _ (turn-told t) _ _ (c .before .if3 .taken) (c .at3 .ensures) in
+    let stops = unless-refused-stops fault _ _ _ (turn-told t) _ _ (c .before .if3 .taken) (c .at3 .ensures) in
     step-refused treeDrawing _ _ _ _ (opens t ∙ stops) refl
 
 add-read-tree : tie.Need-add-read-tree
@@ -84,7 +84,7 @@ returns-4 c =
     let t = c .before .before in
     let a = start t .args in
     let read = treeAt (a .n) 0 (a .at + 2) (drop (a .at + 2) (a .s .now)) in
-    rw (opens t, judged-goes fault (a .at) _ _ (turn-told t) read (c .before .if3 .left)) (c .read-tree .ensures)
+    rw (opens t, unless-refused-goes fault (a .at) _ _ (turn-told t) read (c .before .if3 .left)) (c .read-tree .ensures)
 
 pub read-tree-wire-spec : {M : Type 1} → statement M
 read-tree-wire-spec =

@@ -4,7 +4,7 @@ use mathlib.Core.Path.{_≡_, ap}
 use native.Mathlib.Omega.{arith}
 use native.Mathlib.Nat.{mul-le-mul-right}
 use borrow.Author.Needs.{needs}
-use Rattle.stage.specs.TreeBytes.{sheetFrame, selectorBytes}
+use Rattle.stage.specs.Bytes.{sheetFrame, selectorBytes}
 use Rattle.diagram.specs.Bytes.{diagramFrame}
 use Rattle.stage_writer.specs.Inner.Wires.{frameOf}
 use Rattle.stage_writer.proofs.tables.stage_length.Statement.{statement}
