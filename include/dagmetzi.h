@@ -56,7 +56,7 @@ enum {
     DAGMETZI_TOO_MANY = 8,       /* the 33rd gate or the 9th output */
     DAGMETZI_MISSING_ROW = 9,    /* a pattern with no value that is not impossible; place: the lowest */
     DAGMETZI_EMPTY = 10,         /* no value is left for a pattern; place: the lowest */
-    DAGMETZI_NOT_ASCENDING = 11, /* a selector input that is not above its parent's; of a list: not above that of an entry that names it */
+    DAGMETZI_NOT_ASCENDING = 11, /* a selector input that is not above its parent's; of a list: an entry names one whose input is not above its own */
     DAGMETZI_SHORT_BUFFER = 12,  /* the buffer is shorter than the stage or the copy; place: the length needed */
     DAGMETZI_SIZES_DIFFER = 13   /* audit: the stage has another n or m than the sheet; place 0 */
 };
@@ -65,7 +65,7 @@ enum {
 #define DAGMETZI_PATTERNS 16
 #define DAGMETZI_WIRES 4
 
-/* No stage of trees has more bytes than this: a quote's buffer of this length is never too short. */
+/* No stage of trees has more bytes than this: the buffer of a tree quote is never too short at this length. */
 #define DAGMETZI_LONGEST_STAGE 196
 
 /* No sharing quote writes more bytes. A stage handed to the sharing audit may be longer, up to 3,056 bytes. */

@@ -16,7 +16,7 @@ use Rattle.stage.specs.Inner.Laws.{FormLaws}
 use Rattle.stage.proofs.Lengths.{sheet-length, sheet-length-most}
 use Rattle.stage.proofs.Prefix.{none-longer as sheet-none-longer, front-tells as sheet-front}
 use Rattle.diagram.specs.Diagram.{Diagram, mostEntries, followDiagram}
-use Rattle.diagram.specs.Bytes.{diagramFrame, longestShared, longestDiagrams}
+use Rattle.diagram.specs.Bytes.{diagramFrame, longestShared}
 use Rattle.diagram.specs.Written.{reducedDiagram}
 use Rattle.diagram.specs.Diagrams.{diagramForm, diagramDrawing, readDiagrams}
 use Rattle.diagram.proofs.Entries.{diagram-drives}
@@ -55,6 +55,10 @@ diagram-laws =
       fair = diagram-counts;
       reduces = λ n _. refl;
     }
+
+-- the length of the longest stage sheet of diagrams
+abbrev pub longestDiagrams : ℕ
+longestDiagrams = sheetFrame + diagramFrame * maxWires + selectorBytes * maxWires * mostEntries
 
 -- no sheet that is accepted is longer, and reading looks at no byte past the one that would follow
 pub none-longer : (bytes : List ℕ) (n m : ℕ) (stage : List Diagram) → readDiagrams bytes ≡ got n m stage → length bytes ≤ longestDiagrams

@@ -14,9 +14,8 @@ use Rattle.stage.specs.RoundTrip.{RoundTrip}
 use Rattle.stage.specs.Inner.Laws.{FormLaws}
 use Rattle.stage.proofs.RoundTrip.{round-trip}
 use Rattle.stage.proofs.TreeForm.{tree-laws, front-tells as trees-front}
-use Rattle.diagram.specs.Bytes.{longestDiagrams}
 use Rattle.diagram.specs.Forms.{formOf, drawingOf}
-use Rattle.diagram.proofs.DiagramForm.{diagram-laws, front-tells as diagrams-front}
+use Rattle.diagram.proofs.DiagramForm.{diagram-laws, longestDiagrams, front-tells as diagrams-front}
 
 pub form-laws : (kind : BoardKind) → FormLaws (formOf kind)
 form-laws Tree = tree-laws

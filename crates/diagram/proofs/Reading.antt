@@ -11,10 +11,11 @@ use Rattle.base.proofs.Tests.{cond-has, cond-has₂, test-no, neither}
 use Rattle.sheet.specs.Limits.{countOut}
 use Rattle.sheet.proofs.Sizes.{count-in, count-fits}
 use Rattle.stage.specs.Steps.{Read, taken, fault, andThen, unlessRefused, dueNumber, due, operand, turnNumber}
-use Rattle.stage.specs.Inner.Laws.{withMore, Told, ToldWire}
+use Rattle.stage.specs.Bytes.{selectorBytes}
+use Rattle.stage.specs.Inner.Laws.{withMore, TakenAs, ToldWire}
 use Rattle.stage.proofs.Steps.{unless-refused-has, unless-refused-has₂, due-has, due-more, turn-is, turn-comes, then-more}
 use Rattle.diagram.specs.Diagram.{Entry, entry, Diagram, nextNumber, inputAt, FitsAfter, EntriesFit, mostEntries, WellFormed}
-use Rattle.diagram.specs.Bytes.{entryBytes, entriesBytes, diagramWireBytes}
+use Rattle.diagram.specs.Bytes.{entryBytes, entriesBytes, diagramWireBytes, diagramFrame}
 use Rattle.diagram.specs.Read.{diagramKnown, entryRefusal, entryAt, entriesAt, topAt, diagramWireAt}
 use Rattle.diagram.specs.Diagrams.{diagramForm}
 
@@ -59,18 +60,18 @@ module _ (n : ℕ) (before : List Entry) (e : Entry) where
       )
 
 -- lengths
-pub entries-bytes-length : (es : List Entry) → length (entriesBytes es) ≡ 3 * length es
+pub entries-bytes-length : (es : List Entry) → length (entriesBytes es) ≡ selectorBytes * length es
 unfolding entriesBytes
 entries-bytes-length [] = refl
 entries-bytes-length (e ∷ es) = omega (arith, length-append (entriesBytes es) (entryBytes e), entries-bytes-length es)
 
-pub wire-length : (j : ℕ) (d : Diagram) → length (diagramWireBytes j d) ≡ 4 + 3 * length (d .entries)
+pub wire-length : (j : ℕ) (d : Diagram) → length (diagramWireBytes j d) ≡ diagramFrame + selectorBytes * length (d .entries)
 unfolding diagramWireBytes
 wire-length j d = omega (arith, length-append (entriesBytes (d .entries)) (d .top ∷ []), entries-bytes-length (d .entries))
 
 -- what is taken as an entry are its three bytes, and it may follow those before it
 abbrev pub ToldEntry : (n : ℕ) (before : List Entry) (at : ℕ) → List ℕ → Read Entry → Type 0
-ToldEntry n before = Told entryBytes (FitsAfter n before)
+ToldEntry n before = TakenAs entryBytes (FitsAfter n before)
 
 pub entry-told : (n : ℕ) (before : List Entry) (at : ℕ) (bytes : List ℕ) → ToldEntry n before at bytes (entryAt n before at bytes)
 unfolding entryAt operand
@@ -83,8 +84,7 @@ entry-told n before at (i ∷ z ∷ o ∷ rest) =
 
 -- the first c entries
 abbrev pub ToldEntries : (c n at : ℕ) → List ℕ → Read (List Entry) → Type 0
-ToldEntries c n at bytes (taken es next rest) = (bytes ≡ entriesBytes es ++ rest) × (next ≡ at + 3 * c) × (length es ≡ c) × EntriesFit n es
-ToldEntries c n at bytes (fault f) = Unit {0}
+ToldEntries c n = TakenAs entriesBytes (λ es. (length es ≡ c) × EntriesFit n es)
 
 last-told : (c n at : ℕ) (before : List Entry) (next : ℕ) (bytes rest : List ℕ) → ToldEntries c n at bytes (taken before next rest)
     → (y : Read Entry) → ToldEntry n before next rest y
@@ -93,14 +93,13 @@ unfolding andThen entriesBytes EntriesFit
 last-told c n at before next bytes rest h (fault f) t = tt
 last-told c n at before next bytes rest h (taken e past q) t = (
   h .0 ∙ ap (λ (l : List ℕ). entriesBytes before ++ l) (t .0) ∙ sym (append-assoc (entriesBytes before) (entryBytes e) q),
-  omega (arith, h .1, t .1),
-  ap suc (h .2),
-  (t .2, h .3),
+  omega (arith, h .1, t .1, length-append (entriesBytes before) (entryBytes e)),
+  (ap suc (h .2 .0), (t .2, h .2 .1)),
 )
 
 pub entries-told : (c n at : ℕ) (bytes : List ℕ) → ToldEntries c n at bytes (entriesAt c n at bytes)
 unfolding entriesAt andThen entriesBytes EntriesFit
-entries-told zero n at bytes = (refl, omega arith, refl, tt)
+entries-told zero n at bytes = (refl, omega arith, (refl, tt))
 entries-told (suc c) n at bytes = go (entriesAt c n at bytes) (entries-told c n at bytes)
   where
     go : (y : Read (List Entry)) → ToldEntries c n at bytes y
@@ -116,11 +115,11 @@ top-told c n j at es next bytes [] s h = tt
 top-told c n j at es next bytes (x ∷ q) s h =
     cond-has (ToldWire diagramForm n j at (0x26 ∷ j ∷ c ∷ bytes)) (leb (nextNumber es) x) (λ _. tt)
     (λ l. (
-      ap₂ (λ (k : ℕ) (b : List ℕ). 0x26 ∷ j ∷ k ∷ b) (sym (h .2)) (h .0 ∙ sym (append-assoc (entriesBytes es) (x ∷ []) q)),
-      omega (arith, h .1, h .2, length-append (entriesBytes es) (x ∷ []), entries-bytes-length es),
+      ap₂ (λ (k : ℕ) (b : List ℕ). 0x26 ∷ j ∷ k ∷ b) (sym (h .2 .0)) (h .0 ∙ sym (append-assoc (entriesBytes es) (x ∷ []) q)),
+      omega (arith, h .1, length-append (entriesBytes es) (x ∷ [])),
       record {
-        few = omega (arith, h .2);
-        fit = h .3;
+        few = omega (arith, h .2 .0);
+        fit = h .2 .1;
         top-there = omega (arith, leb-false (nextNumber es) x (test-no (leb (nextNumber es) x) l));
       },
     ))
@@ -195,7 +194,7 @@ entries-more (suc c) n at bytes q h =
     (then-more q (entriesAt c n at bytes) _ (λ before next rest e.
     let told : ToldEntries c n at bytes (taken before next rest) = subst (ToldEntries c n at bytes) e (entries-told c n at bytes) in
     let long : length bytes ≡ length (entriesBytes before) + length rest = ap length (told .0) ∙ length-append (entriesBytes before) rest in
-    rw (entry-more n before next rest q (omega (arith, entries-bytes-length before, told .2)))
+    rw (entry-more n before next rest q (omega (arith, entries-bytes-length before, told .2 .0)))
     (then-more q (entryAt n before next rest) _ (λ _ _ _ _. refl))))
 
 top-more : (es : List Entry) (at : ℕ) (bytes q : List ℕ) → 1 ≤ length bytes → topAt es at (bytes ++ q) ≡ withMore q (topAt es at bytes)
@@ -210,9 +209,9 @@ list-more c n at bytes q h =
     (then-more q (entriesAt c n at bytes) topAt (λ es next rest e.
     let told : ToldEntries c n at bytes (taken es next rest) = subst (ToldEntries c n at bytes) e (entries-told c n at bytes) in
     let long : length bytes ≡ length (entriesBytes es) + length rest = ap length (told .0) ∙ length-append (entriesBytes es) rest in
-    top-more es next rest q (omega (arith, entries-bytes-length es, told .2))))
+    top-more es next rest q (omega (arith, entries-bytes-length es, told .2 .0))))
 
-pub wire-more : (n m j at : ℕ) (bytes q : List ℕ) → 4 + 3 * mostEntries ≤ length bytes
+pub wire-more : (n m j at : ℕ) (bytes q : List ℕ) → diagramFrame + selectorBytes * mostEntries ≤ length bytes
     → diagramWireAt n m j at (bytes ++ q) ≡ withMore q (diagramWireAt n m j at bytes)
 unfolding diagramWireAt operand withMore
 wire-more n m j at [] q h = absurd (omega arith)

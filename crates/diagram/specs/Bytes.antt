@@ -3,9 +3,8 @@ use Prim.Native.Nat.{ℕ, _+_, _*_}
 use mathlib.Core.List.{List, [], _∷_, _++_}
 use lib.ListN.{length}
 use Rattle.sheet.specs.Limits.{maxWires}
-use Rattle.stage.specs.Bytes.{sheetFrame, selectorBytes}
-use Rattle.stage.specs.TreeBytes.{mostCells}
-use Rattle.diagram.specs.Diagram.{Entry, Diagram, mostEntries}
+use Rattle.stage.specs.Bytes.{sheetFrame, selectorBytes, mostCells}
+use Rattle.diagram.specs.Diagram.{Entry, Diagram}
 
 abbrev pub entryBytes : Entry → List ℕ
 entryBytes e = e .input ∷ e .onZero ∷ e .onOne ∷ []
@@ -26,7 +25,3 @@ diagramFrame = 4
 -- no stage that is written is longer: a table has fewer nodes than there are patterns
 abbrev pub longestShared : ℕ
 longestShared = sheetFrame + diagramFrame * maxWires + selectorBytes * mostCells
-
--- the length of the longest stage sheet that is accepted
-abbrev pub longestDiagrams : ℕ
-longestDiagrams = sheetFrame + diagramFrame * maxWires + selectorBytes * maxWires * mostEntries

@@ -10,7 +10,8 @@ use lib.Dec.{T, T-not, not-T}
 use Rattle.base.proofs.Tests.{cond-has, cond-has₂, below-suc}
 use Rattle.table.specs.Bits.{sum}
 use Rattle.nodes.specs.Nodes.{Node, node, has, weight}
-use Rattle.nodes.proofs.Lists.{has-head, has-later, has-cases, Distinct}
+use Rattle.nodes.specs.Subfunctions.{Distinct}
+use Rattle.nodes.proofs.Lists.{has-head, has-later, has-cases}
 use Rattle.nodes.proofs.Held.{Within}
 
 -- before `rest`: of the nodes of the tables f 0, .., f (k - 1), with r inputs after, those that are picked out

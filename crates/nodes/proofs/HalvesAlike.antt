@@ -15,7 +15,7 @@ use Rattle.table.specs.Inner.Ranks.{masked, tableSpace}
 use Rattle.table.specs.Inner.Blocks.{entries}
 use Rattle.table.proofs.Least.{Least, least-is}
 use Rattle.nodes.specs.Inner.Tops.{topPrice}
-use Rattle.nodes.specs.Inner.Ways.{oneNode, allPlaces, places, bytesOf, classIn, halvesAlike, treeLike, threeAlike, acrossAlike, leastWay}
+use Rattle.nodes.specs.Inner.Ways.{oneNode, allPlaces, places, quarterBytes, classIn, halvesAlike, treeLike, threeAlike, acrossAlike, leastWay}
 use Rattle.nodes.proofs.Quarters.{below4}
 use Rattle.nodes.proofs.Framed.{within}
 use Rattle.nodes.proofs.Classes.{stands, best, ok, shown, classValue}
@@ -184,7 +184,7 @@ fourth-second w e =
         digit (w % tableSpace) (w / entries % entries) (w % entries) (mod-mul w {m = entries} {c = entries} (omega arith) (omega arith)) (omega arith)
         (omega arith)
 
-pub repeated-way : (w : ℕ) → w % tableSpace ≡ w / tableSpace → leastWay (classIn (bytesOf w)) ≡ halvesAlike (classIn (bytesOf w))
+pub repeated-way : (w : ℕ) → w % tableSpace ≡ w / tableSpace → leastWay (classIn (quarterBytes w)) ≡ halvesAlike (classIn (quarterBytes w))
 repeated-way w e =
     both-linked w
     ∙ halves-best (fitIn (masked (zerosIn w) (onesIn w))) (λ x. bytes-alike w 2 0 x (omega arith) (omega arith) (third-first w e))

@@ -13,7 +13,7 @@ use Rattle.table.specs.Cells.{low, high}
 use Rattle.table.specs.Pick.{Proj, suits, nearer, least, leastOf}
 use Rattle.table.specs.Inner.Ranks.{masked}
 use Rattle.table.specs.Inner.Pairs.{blockPatterns, blockSpace, byteBits, zerosIn, onesIn}
-use Rattle.table.specs.Inner.Blocks.{entries, threeSpace}
+use Rattle.table.specs.Inner.Blocks.{entries, threeSpace, blockEntry, bestBlock}
 use Rattle.table.proofs.Below.{all-at, all-intro, all-cong}
 use Rattle.table.proofs.Bits.{bit-mod, bit-div, test-and}
 use Rattle.table.proofs.Least.{Least, least-is}
@@ -22,7 +22,7 @@ use Rattle.table.proofs.Pairs.{Place, fromBlock, byte-place, first-place}
 use Rattle.table.proofs.Halving.{upper}
 use Rattle.nodes.specs.Nodes.{price}
 use Rattle.nodes.specs.Inner.Tops.{topPrice, quarterEntry}
-use Rattle.nodes.specs.Inner.Ways.{quarterEntryAt, classAt, places, together, classIn, bytesOf, halvesAlike, leastWay, allNodes, fromAbove, fromBelow, notEvenZeros, notOddZeros, noPlain, noInverted}
+use Rattle.nodes.specs.Inner.Ways.{quarterEntryAt, classAt, places, together, classIn, quarterBytes, halvesAlike, leastWay, allNodes, fromAbove, fromBelow, notEvenZeros, notOddZeros, noPlain, noInverted}
 use Rattle.nodes.proofs.Quarters.{below4}
 use Rattle.nodes.proofs.Framed.{uses, within}
 use Rattle.nodes.proofs.Classes.{stands, ok, shown, classValue}
@@ -78,27 +78,27 @@ module _ (w : ℕ) where
       mask-cong (fromBlock k (zerosIn w)) (fromBlock k (onesIn w)) (zerosIn w) (onesIn w) p q v
       (bit-div (zerosIn w) (blockPatterns * k) p ∙ ap (bit (zerosIn w)) e) (bit-div (onesIn w) (blockPatterns * k) p ∙ ap (bit (onesIn w)) e)
 
-  byte-fits : (x j : ℕ) → j < 4 → fitAt (bytesOf w j % entries) x ≡ fitIn P j x
+  byte-fits : (x j : ℕ) → j < 4 → fitAt (quarterBytes w j % entries) x ≡ fitIn P j x
   unfolding upper
   byte-fits x =
-      below4 (λ j. fitAt (bytesOf w j % entries) x ≡ fitIn P j x) (placed (w % entries) (zerosIn w) (onesIn w) x P (first-place w) (λ p v l. refl))
-      (placed (bytesOf w 1 % entries) (fromBlock 1 (zerosIn w)) (fromBlock 1 (onesIn w)) x (upper 2 P) (byte-place w 1 (omega arith))
+      below4 (λ j. fitAt (quarterBytes w j % entries) x ≡ fitIn P j x) (placed (w % entries) (zerosIn w) (onesIn w) x P (first-place w) (λ p v l. refl))
+      (placed (quarterBytes w 1 % entries) (fromBlock 1 (zerosIn w)) (fromBlock 1 (onesIn w)) x (upper 2 P) (byte-place w 1 (omega arith))
       (λ p v l. moved 1 p (p + 1 * 2 ^ 2) v (omega arith)))
-      (placed (bytesOf w 2 % entries) (fromBlock 2 (zerosIn w)) (fromBlock 2 (onesIn w)) x (upper 3 P) (byte-place w 2 (omega arith))
+      (placed (quarterBytes w 2 % entries) (fromBlock 2 (zerosIn w)) (fromBlock 2 (onesIn w)) x (upper 3 P) (byte-place w 2 (omega arith))
       (λ p v l. moved 2 p (p + 1 * 2 ^ 3) v (omega arith)))
-      (placed (bytesOf w 3 % entries) (fromBlock 3 (zerosIn w)) (fromBlock 3 (onesIn w)) x (upper 2 (upper 3 P)) (byte-place w 3 (omega arith))
+      (placed (quarterBytes w 3 % entries) (fromBlock 3 (zerosIn w)) (fromBlock 3 (onesIn w)) x (upper 2 (upper 3 P)) (byte-place w 3 (omega arith))
       (λ p v l. moved 3 p (p + 1 * 2 ^ 2 + 1 * 2 ^ 3) v (omega arith)))
 
   -- quarters of the same masks
-  pub bytes-alike : (j k x : ℕ) → j < 4 → k < 4 → bytesOf w j % entries ≡ bytesOf w k % entries → fitIn P j x ≡ fitIn P k x
+  pub bytes-alike : (j k x : ℕ) → j < 4 → k < 4 → quarterBytes w j % entries ≡ quarterBytes w k % entries → fitIn P j x ≡ fitIn P k x
   bytes-alike j k x lj lk e = sym (byte-fits x j lj) ∙ ap (λ y. fitAt y x) e ∙ byte-fits x k lk
 
-  class-fits : (x j : ℕ) (js : List ℕ) → T (inFour (j ∷ js)) → fitAt (together (bytesOf w) (j ∷ js) % entries) x ≡ stands (fitIn P) (j ∷ js) x
+  class-fits : (x j : ℕ) (js : List ℕ) → T (inFour (j ∷ js)) → fitAt (together (quarterBytes w) (j ∷ js) % entries) x ≡ stands (fitIn P) (j ∷ js) x
   unfolding inFour stands
   class-fits x j [] f = byte-fits x j (ltb→lt j 4 (and-left (ltb j 4) true f))
   class-fits x j (k ∷ js) f =
-      let a = together (bytesOf w) (k ∷ js) in
-      ap (λ y. fitAt y x) (and-mod a (bytesOf w j) byteBits) ∙ fit-and (a % entries) (bytesOf w j % entries) x
+      let a = together (quarterBytes w) (k ∷ js) in
+      ap (λ y. fitAt y x) (and-mod a (quarterBytes w j) byteBits) ∙ fit-and (a % entries) (quarterBytes w j % entries) x
       ∙ ap₂ (λ b c. b && c) (class-fits x k js (and-right (ltb j 4) (inFour (k ∷ js)) f))
       (byte-fits x j (ltb→lt j 4 (and-left (ltb j 4) (inFour (k ∷ js)) f)))
 
@@ -117,15 +117,15 @@ abbrev noInvertedByte : ℕ → ℕ
 noInvertedByte at = noInverted at % entries
 
 plain-agrees : T (agrees noPlainByte true false)
-unfolding agrees bestEntry fitAt within uses topPrice quarterEntry price least nearer suits masked all bit low high
+unfolding agrees bestEntry fitAt within uses topPrice blockEntry price least nearer suits masked all bit low high
 plain-agrees = tt
 
 inverted-agrees : T (agrees noInvertedByte false true)
-unfolding agrees bestEntry fitAt within uses topPrice quarterEntry price least nearer suits masked all bit low high
+unfolding agrees bestEntry fitAt within uses topPrice blockEntry price least nearer suits masked all bit low high
 inverted-agrees = tt
 
 none-agrees : T (agrees (λ at. noPlainByte (noInvertedByte at)) false false)
-unfolding agrees bestEntry fitAt within uses topPrice quarterEntry price least nearer suits masked all bit low high
+unfolding agrees bestEntry fitAt within uses topPrice blockEntry price least nearer suits masked all bit low high
 none-agrees = tt
 
 both-agrees : T (agrees (λ at. at) true true)
@@ -160,13 +160,13 @@ module _ (w v : ℕ) (R : ℕ → ℕ) (i p : Bool) (agreed : T (agrees R i p)) 
   abbrev Q : Proj
   Q = masked (zerosIn w) (onesIn w)
 
-  linked : ((j : ℕ) (js : List ℕ) → T (inFour (j ∷ js)) → together (bytesOf v) (j ∷ js) % entries ≡ R (together (bytesOf w) (j ∷ js) % entries))
-      → (js : List ℕ) → T (isClass js) → classIn (bytesOf v) js ≡ classValue (fitIn Q) i p js
-  unfolding isClass agrees classAt quarterEntryAt leastOf bestEntry fitAt inFour
+  linked : ((j : ℕ) (js : List ℕ) → T (inFour (j ∷ js)) → together (quarterBytes v) (j ∷ js) % entries ≡ R (together (quarterBytes w) (j ∷ js) % entries))
+      → (js : List ℕ) → T (isClass js) → classIn (quarterBytes v) js ≡ classValue (fitIn Q) i p js
+  unfolding isClass agrees classAt quarterEntryAt bestBlock leastOf bestEntry fitAt inFour
   linked e [] t = absurd (and-left false (cuts 0) t)
   linked e (j ∷ js) t =
       let f = and-left (inFour (j ∷ js)) (ltb 0 (places (j ∷ js))) (and-left (inFour (j ∷ js) && ltb 0 (places (j ∷ js))) (cuts (places (j ∷ js))) t) in
-      let y = together (bytesOf w) (j ∷ js) % entries in
+      let y = together (quarterBytes w) (j ∷ js) % entries in
       ap (λ x. classOf x (places (j ∷ js)))
       (ap (λ x. bestEntry (fitAt x)) (e j js f)
       ∙ eqb→eq (bestEntry (fitAt (R y))) (bestEntry (λ x. fitAt y x && within i p x))
@@ -176,7 +176,7 @@ module _ (w v : ℕ) (R : ℕ → ℕ) (i p : Bool) (agreed : T (agrees R i p)) 
 
 -- functions that are alike on the fifteen classes have the same least way
 ways-alike : (F G : List ℕ → ℕ) → ((js : List ℕ) → T (isClass js) → F js ≡ G js) → leastWay F ≡ leastWay G
-unfolding leastWay isClass cuts inFour all shown quarterEntry topPrice price low high
+unfolding leastWay isClass cuts inFour all shown blockEntry topPrice price low high
 ways-alike F G h =
     rw (
       h (0 ∷ []) tt,
@@ -197,7 +197,7 @@ ways-alike F G h =
     )
 
 halves-alike : (F G : List ℕ → ℕ) → ((js : List ℕ) → T (isClass js) → F js ≡ G js) → halvesAlike F ≡ halvesAlike G
-unfolding isClass cuts inFour all shown quarterEntry topPrice price low high
+unfolding isClass cuts inFour all shown blockEntry topPrice price low high
 halves-alike F G h = rw (h (2 ∷ 0 ∷ []) tt, h (3 ∷ 1 ∷ []) tt, h (3 ∷ 2 ∷ 1 ∷ 0 ∷ []) tt)
 
 -- the four choices of literals
@@ -205,19 +205,19 @@ module _ (w : ℕ) where
   abbrev pub wayIn : (inverted plain : Bool) → ℕ
   wayIn i p = leastWay (classValue (fitIn (masked (zerosIn w) (onesIn w))) i p)
 
-  pub both-linked : leastWay (classIn (bytesOf w)) ≡ wayIn true true
+  pub both-linked : leastWay (classIn (quarterBytes w)) ≡ wayIn true true
   both-linked = ways-alike _ _ (linked w w (λ at. at) true true both-agrees (λ j js f. refl))
 
-  pub halves-linked : halvesAlike (classIn (bytesOf w)) ≡ halvesAlike (classValue (fitIn (masked (zerosIn w) (onesIn w))) true true)
+  pub halves-linked : halvesAlike (classIn (quarterBytes w)) ≡ halvesAlike (classValue (fitIn (masked (zerosIn w) (onesIn w))) true true)
   halves-linked = halves-alike _ _ (linked w w (λ at. at) true true both-agrees (λ j js f. refl))
 
-  pub plain-linked : leastWay (classIn (bytesOf (noPlain w))) ≡ wayIn true false
+  pub plain-linked : leastWay (classIn (quarterBytes (noPlain w))) ≡ wayIn true false
   plain-linked = ways-alike _ _ (linked w (noPlain w) noPlainByte true false plain-agrees (together-cut fromAbove notEvenZeros plain-beside w))
 
-  pub inverted-linked : leastWay (classIn (bytesOf (noInverted w))) ≡ wayIn false true
+  pub inverted-linked : leastWay (classIn (quarterBytes (noInverted w))) ≡ wayIn false true
   inverted-linked = ways-alike _ _ (linked w (noInverted w) noInvertedByte false true inverted-agrees (together-cut fromBelow notOddZeros inverted-beside w))
 
-  pub none-linked : leastWay (classIn (bytesOf (noPlain (noInverted w)))) ≡ wayIn false false
+  pub none-linked : leastWay (classIn (quarterBytes (noPlain (noInverted w)))) ≡ wayIn false false
   none-linked =
       ways-alike _ _
       (linked w (noPlain (noInverted w)) (λ at. noPlainByte (noInvertedByte at)) false false none-agrees

@@ -9,7 +9,8 @@ use lib.Dec.{T, T-not, not-T, eqb, eqb→eq}
 use Rattle.base.proofs.Tests.{cond-has, eq-test}
 use Rattle.table.specs.Cells.{low, high}
 use Rattle.nodes.specs.Nodes.{Node, node, has, listing}
-use Rattle.nodes.proofs.Lists.{has-later, has-cases, Distinct}
+use Rattle.nodes.specs.Subfunctions.{Distinct}
+use Rattle.nodes.proofs.Lists.{has-later, has-cases}
 
 -- what holds of every visit: by the four ways that a visit can go
 module _

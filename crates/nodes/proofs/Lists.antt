@@ -8,6 +8,7 @@ use native.Mathlib.Omega.{arith}
 use lib.Dec.{T, T-not, eqb, eqb→eq, eqb-refl}
 use Rattle.base.proofs.Tests.{cond-has, and-intro, and-left, and-right, or-left, or-right, or-cases}
 use Rattle.nodes.specs.Nodes.{Node, node, same, has, weight}
+use Rattle.nodes.specs.Subfunctions.{Distinct}
 
 pub same-eq : (a b : Node) → T (same a b) → a ≡ b
 unfolding same
@@ -35,11 +36,6 @@ has-later x k xs h = or-right (same k x) (has xs k) h
 pub has-cases : (x k : Node) (xs : List Node) → T (has (x ∷ xs) k) → (k ≡ x) ⊎ T (has xs k)
 unfolding has
 has-cases x k xs h = ⊎-elim (λ s. inl (same-eq k x s)) (λ r. inr r) (or-cases (same k x) (has xs k) h)
-
--- no node stands twice
-unfoldable pub Distinct : List Node → Type 0
-Distinct [] = Unit {0}
-Distinct (k ∷ ks) = T (not (has ks k)) × Distinct ks
 
 -- a list without the first that is k
 remove : Node → List Node → List Node

@@ -12,7 +12,8 @@ use Rattle.table.specs.Cells.{low, high}
 use Rattle.table.proofs.Below.{any-at}
 use Rattle.nodes.specs.Nodes.{Node, node, has, listing, price, nodes}
 use Rattle.nodes.specs.Inner.Tops.{topPrice}
-use Rattle.nodes.proofs.Lists.{has-none, Distinct, subset-weight}
+use Rattle.nodes.specs.Subfunctions.{Distinct}
+use Rattle.nodes.proofs.Lists.{has-none, subset-weight}
 use Rattle.nodes.proofs.Held.{Within, Holds, listing-holds}
 use Rattle.nodes.proofs.Gathered.{gathered-within, gathered-below, gathered-once}
 use Rattle.nodes.proofs.Quarters.{below4, below2, halvesOf, quartersOf}

@@ -41,21 +41,21 @@ pub halves-equal : (t : ℕ) → quartersOf t 0 ≡ quartersOf t 2 → quartersO
 halves-equal t a b = join-halves 2 (low 3 t) ∙ ap₂ (join 2) b a ∙ sym (join-halves 2 (high 3 t))
 
 -- a table suits where its quarters do
-abbrev pub partOf : Proj → ℕ → Proj
-partOf P zero = P
-partOf P (suc zero) = upper 2 P
-partOf P (suc (suc zero)) = upper 3 P
-partOf P (suc (suc (suc j))) = upper 2 (upper 3 P)
+abbrev pub quarterProj : Proj → ℕ → Proj
+quarterProj P zero = P
+quarterProj P (suc zero) = upper 2 P
+quarterProj P (suc (suc zero)) = upper 3 P
+quarterProj P (suc (suc (suc j))) = upper 2 (upper 3 P)
 
 module _ (P : Proj) (t : ℕ) where
-  pub quarters-suit : T (suits 4 P t) → (j : ℕ) → j < 4 → T (suits 2 (partOf P j) (quartersOf t j))
+  pub quarters-suit : T (suits 4 P t) → (j : ℕ) → j < 4 → T (suits 2 (quarterProj P j) (quartersOf t j))
   quarters-suit s =
       let l = suits-low 3 P t s in
       let h = suits-high 3 P t s in
-      below4 (λ j. T (suits 2 (partOf P j) (quartersOf t j))) (suits-low 2 P (low 3 t) l) (suits-high 2 P (low 3 t) l)
+      below4 (λ j. T (suits 2 (quarterProj P j) (quartersOf t j))) (suits-low 2 P (low 3 t) l) (suits-high 2 P (low 3 t) l)
       (suits-low 2 (upper 3 P) (high 3 t) h) (suits-high 2 (upper 3 P) (high 3 t) h)
 
-  pub suits-quarters : ((j : ℕ) → j < 4 → T (suits 2 (partOf P j) (quartersOf t j))) → T (suits 4 P t)
+  pub suits-quarters : ((j : ℕ) → j < 4 → T (suits 2 (quarterProj P j) (quartersOf t j))) → T (suits 4 P t)
   suits-quarters s =
       suits-both 3 P t (suits-both 2 P (low 3 t) (s 0 (omega arith)) (s 1 (omega arith)))
       (suits-both 2 (upper 3 P) (high 3 t) (s 2 (omega arith)) (s 3 (omega arith)))

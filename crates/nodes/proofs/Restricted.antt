@@ -13,7 +13,7 @@ use Rattle.table.specs.Inner.Pairs.{byteBits, pairBits}
 use Rattle.table.specs.Inner.Blocks.{entries}
 use Rattle.table.proofs.Below.{all-at}
 use Rattle.table.proofs.Bits.{bit-mod, bit-div, bit-ext, bit-cases, test-and}
-use Rattle.nodes.specs.Inner.Ways.{together, bytesOf, restricted, fromAbove, fromBelow, notEvenZeros, notOddZeros}
+use Rattle.nodes.specs.Inner.Ways.{together, quarterBytes, restricted, fromAbove, fromBelow, notEvenZeros, notOddZeros}
 use Rattle.nodes.proofs.Quarters.{below4}
 
 -- a bit is set
@@ -68,13 +68,13 @@ under-and x y zero = refl
 under-and x y (suc p) = test-and x y p
 
 -- byte j of a number
-bytes-on : (w j p : ℕ) → j < 4 → on (bytesOf w j) p ≡ on w (byteBits * j + p)
+bytes-on : (w j p : ℕ) → j < 4 → on (quarterBytes w j) p ≡ on w (byteBits * j + p)
 bytes-on w j p l =
     ap (λ y. eqb y 1)
-    (below4 (λ j. bit (bytesOf w j) p ≡ bit w (byteBits * j + p)) (ap (bit w) (omega arith)) (bit-div w 8 p) (bit-div w 16 p) (bit-div w 24 p) j l)
+    (below4 (λ j. bit (quarterBytes w j) p ≡ bit w (byteBits * j + p)) (ap (bit w) (omega arith)) (bit-div w 8 p) (bit-div w 16 p) (bit-div w 24 p) j l)
 
-in-byte : (w j p : ℕ) → j < 4 → p < byteBits → on (bytesOf w j % entries) p ≡ on w (byteBits * j + p)
-in-byte w j p lj l = ap (λ y. eqb y 1) (bit-mod (bytesOf w j) {k = byteBits} l) ∙ bytes-on w j p lj
+in-byte : (w j p : ℕ) → j < 4 → p < byteBits → on (quarterBytes w j % entries) p ≡ on w (byteBits * j + p)
+in-byte w j p lj l = ap (λ y. eqb y 1) (bit-mod (quarterBytes w j) {k = byteBits} l) ∙ bytes-on w j p lj
 
 -- the bits of c are the same in every byte, and bit p of each is set
 unfoldable freeAt : (p free : ℕ) → Bool
@@ -121,7 +121,7 @@ shared-or false false false = refl
 -- What is asked of a bit beside: it goes with what two numbers have in common, and a byte needs no bit of another, since such a bit is free.
 pub record Beside (beside : ℕ → ℕ) (free : ℕ) : Type 0 where
   both : (x y p : ℕ) → p < byteBits → on (beside (bitAnd x y)) p ≡ on (beside x) p && on (beside y) p
-  byte : (w j p : ℕ) → j < 4 → p < byteBits → on (beside w) (byteBits * j + p) || on free (byteBits * j + p) ≡ on (beside (bytesOf w j % entries)) p || on free p
+  byte : (w j p : ℕ) → j < 4 → p < byteBits → on (beside w) (byteBits * j + p) || on free (byteBits * j + p) ≡ on (beside (quarterBytes w j % entries)) p || on free p
 
 module _ (beside : ℕ → ℕ) (free : ℕ) (moves : Beside beside free) where
   abbrev cut : ℕ → ℕ
@@ -137,24 +137,24 @@ module _ (beside : ℕ → ℕ) (free : ℕ) (moves : Beside beside free) where
       ∙ swapped (on x p) (on y p) (on (beside x) p || on free p) (on (beside y) p || on free p)
       ∙ sym (ap₂ (λ a b. a && b) (cut-on x p) (cut-on y p))
 
-  byte-cut : (w j : ℕ) → j < 4 → bytesOf (cut w) j % entries ≡ cut (bytesOf w j % entries) % entries
+  byte-cut : (w j : ℕ) → j < 4 → quarterBytes (cut w) j % entries ≡ cut (quarterBytes w j % entries) % entries
   byte-cut w j lj =
-      on-ext (bytesOf (cut w) j) (cut (bytesOf w j % entries))
+      on-ext (quarterBytes (cut w) j) (cut (quarterBytes w j % entries))
       (λ p l.
       bytes-on (cut w) j p lj ∙ cut-on w (byteBits * j + p) ∙ ap₂ (λ a b. a && b) (sym (in-byte w j p lj l)) (moves .byte w j p lj l)
-      ∙ sym (cut-on (bytesOf w j % entries) p))
+      ∙ sym (cut-on (quarterBytes w j % entries) p))
 
   -- the bytes of a class
   pub together-cut : (w j : ℕ) (js : List ℕ) → T (inFour (j ∷ js))
-      → together (bytesOf (cut w)) (j ∷ js) % entries ≡ cut (together (bytesOf w) (j ∷ js) % entries) % entries
+      → together (quarterBytes (cut w)) (j ∷ js) % entries ≡ cut (together (quarterBytes w) (j ∷ js) % entries) % entries
   unfolding inFour
   together-cut w j [] f = byte-cut w j (ltb→lt j 4 (and-left (ltb j 4) true f))
   together-cut w j (k ∷ js) f =
-      let a = together (bytesOf w) (k ∷ js) in
-      let b = bytesOf w j in
+      let a = together (quarterBytes w) (k ∷ js) in
+      let b = quarterBytes w j in
       let x = cut (a % entries) in
       let y = cut (b % entries) in
-      and-mod (together (bytesOf (cut w)) (k ∷ js)) (bytesOf (cut w) j) byteBits
+      and-mod (together (quarterBytes (cut w)) (k ∷ js)) (quarterBytes (cut w) j) byteBits
       ∙ ap₂ bitAnd (together-cut w k js (and-right (ltb j 4) (inFour (k ∷ js)) f)) (byte-cut w j (ltb→lt j 4 (and-left (ltb j 4) (inFour (k ∷ js)) f)))
       ∙ sym (and-mod x y byteBits)
       ∙ on-ext (bitAnd x y) (cut (bitAnd (a % entries) (b % entries))) (λ p l. test-and x y p ∙ sym (cut-and (a % entries) (b % entries) p l))
@@ -168,14 +168,14 @@ above-beside c free = record {
 }
   where
     go : (w j p : ℕ) → j < 4 → p < byteBits → T (ltb (1 + p) byteBits) ⊎ T (not (ltb (1 + p) byteBits))
-        → on (fromAbove w) (byteBits * j + p) || on c p ≡ on (fromAbove (bytesOf w j % entries)) p || on c p
+        → on (fromAbove w) (byteBits * j + p) || on c p ≡ on (fromAbove (quarterBytes w j % entries)) p || on c p
     go w j p lj l (inl h) =
         let e : 1 + (byteBits * j + p) ≡ byteBits * j + (1 + p) = omega arith in
         ap (λ b. b || on c p)
-        (on-above w (byteBits * j + p) ∙ ap (on w) e ∙ sym (in-byte w j (1 + p) lj (ltb→lt (1 + p) byteBits h)) ∙ sym (on-above (bytesOf w j % entries) p))
+        (on-above w (byteBits * j + p) ∙ ap (on w) e ∙ sym (in-byte w j (1 + p) lj (ltb→lt (1 + p) byteBits h)) ∙ sym (on-above (quarterBytes w j % entries) p))
     go w j p lj l (inr h) =
         let e : 7 ≡ p = omega (arith, nltb→le (1 + p) byteBits h) in
-        free-or (on (fromAbove w) (byteBits * j + p)) (on (fromAbove (bytesOf w j % entries)) p) (on c p) (subst (λ y. T (on c y)) e (free-there 7 c free))
+        free-or (on (fromAbove w) (byteBits * j + p)) (on (fromAbove (quarterBytes w j % entries)) p) (on c p) (subst (λ y. T (on c y)) e (free-there 7 c free))
 
 below-beside : (c : ℕ) → T (freeAt 0 c) → Beside fromBelow c
 unfolding under
@@ -185,13 +185,13 @@ below-beside c free = record {
   byte = λ w j p lj l. ap (λ b. on (fromBelow w) (byteBits * j + p) || b) (alike 0 c free j p lj l) ∙ go w j p lj l;
 }
   where
-    go : (w j p : ℕ) → j < 4 → p < byteBits → on (fromBelow w) (byteBits * j + p) || on c p ≡ on (fromBelow (bytesOf w j % entries)) p || on c p
-    go w j zero lj l = free-or (on (fromBelow w) (byteBits * j + 0)) (on (fromBelow (bytesOf w j % entries)) 0) (on c 0) (free-there 0 c free)
+    go : (w j p : ℕ) → j < 4 → p < byteBits → on (fromBelow w) (byteBits * j + p) || on c p ≡ on (fromBelow (quarterBytes w j % entries)) p || on c p
+    go w j zero lj l = free-or (on (fromBelow w) (byteBits * j + 0)) (on (fromBelow (quarterBytes w j % entries)) 0) (on c 0) (free-there 0 c free)
     go w j (suc p) lj l =
         let e : byteBits * j + suc p ≡ suc (byteBits * j + p) = omega arith in
         ap (λ b. b || on c (suc p))
         (on-below w (byteBits * j + suc p) (omega arith) ∙ ap (under w) e ∙ sym (in-byte w j p lj (omega arith))
-        ∙ sym (on-below (bytesOf w j % entries) (suc p) (omega arith)))
+        ∙ sym (on-below (quarterBytes w j % entries) (suc p) (omega arith)))
 
 pub plain-beside : Beside fromAbove notEvenZeros
 unfolding freeAt all bit

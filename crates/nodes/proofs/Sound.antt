@@ -21,7 +21,7 @@ use Rattle.table.proofs.Least.{Least, least-is}
 use Rattle.nodes.specs.Nodes.{nodes}
 use Rattle.nodes.specs.Inner.Tops.{topPrice}
 use Rattle.nodes.specs.Inner.Ways.{oneNode, places}
-use Rattle.nodes.proofs.Quarters.{quartersOf, partOf, suits-quarters, made, made-sum, made-lt, made-quarters}
+use Rattle.nodes.proofs.Quarters.{quartersOf, quarterProj, suits-quarters, made, made-sum, made-lt, made-quarters}
 use Rattle.nodes.proofs.Framed.{apart, halfApart, may, uses, within, nodes-most}
 use Rattle.nodes.proofs.QuarterEntries.{top-price-le}
 use Rattle.nodes.proofs.Classes.{members, stands, stands-all, ok, best, shown, classValue, value, exchange, sum-apart}
@@ -57,7 +57,7 @@ nodes-few t l =
 
 -- what may stand in a quarter
 abbrev pub fitIn : Proj → ℕ → ℕ → Bool
-fitIn P j x = suits 2 (partOf P j) x
+fitIn P j x = suits 2 (quarterProj P j) x
 
 isNone : Option ℕ → Bool
 isNone none = true

@@ -1,16 +1,16 @@
--- What is listed of a table: just its subfunctions that need a selector (each once: `listing-once`).
+-- What is listed of a table: just its subfunctions that need a selector, each once.
 use Prim.Native.Nat.{ℕ, zero, suc}
 use mathlib.Core.Path.{_≡_, refl, sym, ap₂, subst}
-use mathlib.Core.Logic.{_⊎_, inl, inr, ⊎-elim, _↔_}
+use mathlib.Core.Logic.{_⊎_, inl, inr, ⊎-elim}
 use mathlib.Core.List.{List, []}
 use native.Mathlib.Omega.{arith}
 use lib.Dec.{T}
 use Rattle.table.specs.Cells.{low, high}
 use Rattle.nodes.specs.Nodes.{Node, node, has, listing}
 use Rattle.nodes.proofs.Lists.{has-none, has-cases}
-use Rattle.nodes.proofs.Listing.{visits}
+use Rattle.nodes.proofs.Listing.{visits, listing-once}
 use Rattle.nodes.proofs.Held.{Holds, listing-holds}
-use Rattle.nodes.specs.Subfunctions.{PartOf, Needed}
+use Rattle.nodes.specs.Subfunctions.{PartOf, Needed, ListsNeeded}
 
 -- a visit lists nothing else
 listed-was : (n t : ℕ) (s : List Node) (k : Node) → T (has (listing n t s) k) → T (has s k) ⊎ Needed n t k
@@ -41,5 +41,9 @@ needed-held ks (suc n) t h k d =
 needed-listed : (n t : ℕ) (k : Node) → Needed n t k → T (has (listing n t []) k)
 needed-listed n t = needed-held (listing n t []) n t (listing-holds n t)
 
-pub listed-just : (n t : ℕ) (k : Node) → T (has (listing n t []) k) ↔ Needed n t k
-listed-just n t k = (λ h. ⊎-elim (λ z. absurd (has-none k z)) (λ z. z) (listed-was n t [] k h), needed-listed n t k)
+pub lists-needed : (n t : ℕ) → ListsNeeded n t
+lists-needed n t =
+    record {
+      just = λ k. (λ h. ⊎-elim (λ z. absurd (has-none k z)) (λ z. z) (listed-was n t [] k h), needed-listed n t k);
+      once = listing-once n t;
+    }

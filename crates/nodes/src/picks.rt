@@ -22,7 +22,7 @@ ghost use Rattle.table.specs.Inner.Blocks.{noEntry, Covered};
 ghost use Rattle.table.specs.Inner.Pairs.{zerosIn, onesIn};
 ghost use Rattle.nodes.specs.Nodes.{nodes};
 ghost use Rattle.nodes.specs.Inner.Tops.{Tops};
-ghost use Rattle.nodes.specs.Inner.Ways.{quarterEntryAt, classAt, mostClass, allPlaces, apartAt, halfAt, classIn, four, halvesAlike, treeLike, threeAlike, crossedAlike, besideAlike, acrossAlike, leastWay, bytesOf, noPlain, noInverted, choiceCount, choiceOf};
+ghost use Rattle.nodes.specs.Inner.Ways.{quarterEntryAt, classAt, mostClass, allPlaces, apartAt, halfAt, classIn, four, halvesAlike, treeLike, threeAlike, crossedAlike, besideAlike, acrossAlike, leastWay, quarterBytes, noPlain, noInverted, choiceCount, choiceOf};
 
 // The best quarter of each pair of masks, at zeros * BLOCK_SPACE + ones: THREE_SPACE where it needs a selector, and the quarter twice side by side.
 // Where some pattern is in no mask there is none: 64 selectors. What stands below a quarter is not counted.
@@ -433,7 +433,7 @@ fn across_alike(e: &[u16; ENTRIES], a: u32, b: u32, c: u32, d: u32) -> u32
 // equal halves are the best: so it is with every pair of fewer than four inputs, repeated.
 fn way(e: &[u16; ENTRIES], pair: u32) -> u32
     requires { ⌜ Tops (now e) ⌝ }
-    ensures { λ r. ⌜ (r ≡ leastWay (classIn (bytesOf pair))) × (r ≤ mostClass) ⌝ }
+    ensures { λ r. ⌜ (r ≡ leastWay (classIn (quarterBytes pair))) × (r ≤ mostClass) ⌝ }
 {
     let a = pair;
     let b = pair / PLACES;

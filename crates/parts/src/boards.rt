@@ -8,7 +8,7 @@ use table::picks::pick;
 ghost use mathlib.Core.Path.{_≡_};
 ghost use Prim.Native.Nat.{_<_, _≤_};
 ghost use Rattle.sheet.specs.Limits.{maxInputs};
-ghost use Rattle.parts.specs.Inner.Boards.{boardNumber, kindIn, inputsIn, Lent};
+ghost use Rattle.parts.specs.Inner.Boards.{boardNumber, kindIn, boardInputs, Lent};
 ghost use Rattle.parts.specs.Inner.Pairs.{Covers};
 ghost use Rattle.parts.specs.Inner.Parts.{rankBetween};
 
@@ -26,15 +26,15 @@ pub fn board_of(kind: BoardKind, n: u8) -> u8
 }
 
 pub fn inputs_of(board: u8) -> u8
-    ensures { λ r. ⌜ r ≡ inputsIn board ⌝ }
+    ensures { λ r. ⌜ r ≡ boardInputs board ⌝ }
 {
     board % SHARING
 }
 
 // The rank of the pick between the two masks of a pair.
 pub fn pick_on(e: &[u16; ENTRIES], board: u8, pair: u32) -> u32
-    requires { ⌜ Lent board (now e) × (1 ≤ inputsIn board) × (inputsIn board ≤ maxInputs) × Covers (inputsIn board) pair ⌝ }
-    ensures { λ r. ⌜ r ≡ rankBetween (kindIn board) (inputsIn board) pair ⌝ }
+    requires { ⌜ Lent board (now e) × (1 ≤ boardInputs board) × (boardInputs board ≤ maxInputs) × Covers (boardInputs board) pair ⌝ }
+    ensures { λ r. ⌜ r ≡ rankBetween (kindIn board) (boardInputs board) pair ⌝ }
 {
     if board < SHARING {
         pick(e, board, pair)

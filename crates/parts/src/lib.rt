@@ -14,7 +14,7 @@ use table::picks::ENTRIES;
 ghost use mathlib.Core.Path.{_≡_};
 ghost use Prim.Native.Nat.{_<_, _≤_};
 ghost use Rattle.sheet.specs.Limits.{maxInputs, maxWires, maxPatterns};
-ghost use Rattle.parts.specs.Inner.Boards.{kindIn, inputsIn, Lent};
+ghost use Rattle.parts.specs.Inner.Boards.{kindIn, boardInputs, Lent};
 ghost use Rattle.parts.specs.Inner.Pairs.{Covers, PairsCover};
 ghost use Rattle.sheet.specs.Inner.Sized.{Sized};
 ghost use Rattle.parts.specs.Inner.Parts.{PartSets, Carried, rankOf, ranksBetween, rankAgain, ranksAgain};
@@ -37,15 +37,15 @@ pub fn wire_rank(
     sets: [u16; Sheet::MAX_PATTERNS],
     j: u8,
 ) -> u32
-    requires { ⌜ Lent board (now e) × Sized (inputsIn board) m × PartSets (inputsIn board) m sets × (j < maxWires) ⌝ }
-    ensures { λ r. ⌜ r ≡ rankOf (kindIn board) (inputsIn board) sets j ⌝ }
+    requires { ⌜ Lent board (now e) × Sized (boardInputs board) m × PartSets (boardInputs board) m sets × (j < maxWires) ⌝ }
+    ensures { λ r. ⌜ r ≡ rankOf (kindIn board) (boardInputs board) sets j ⌝ }
 {
     pick_on(e, board, pair_of(inputs_of(board), sets, j))
 }
 
 fn ranks_of(e: &[u16; ENTRIES], board: u8, pairs: [u32; Sheet::WIRES]) -> [u32; Sheet::WIRES]
-    requires { ⌜ Lent board (now e) × (1 ≤ inputsIn board) × (inputsIn board ≤ maxInputs) × PairsCover (inputsIn board) pairs ⌝ }
-    ensures { λ r. ⌜ r ≡ ranksBetween (kindIn board) (inputsIn board) pairs ⌝ }
+    requires { ⌜ Lent board (now e) × (1 ≤ boardInputs board) × (boardInputs board ≤ maxInputs) × PairsCover (boardInputs board) pairs ⌝ }
+    ensures { λ r. ⌜ r ≡ ranksBetween (kindIn board) (boardInputs board) pairs ⌝ }
 {
     [
         pick_on(e, board, pairs[0]),
@@ -62,8 +62,8 @@ pub fn whole_part(
     m: u8,
     sets: [u16; Sheet::MAX_PATTERNS],
 ) -> PartPicks
-    requires { ⌜ Lent board (now e) × Sized (inputsIn board) m × PartSets (inputsIn board) m sets ⌝ }
-    ensures { λ r. ⌜ Carried (kindIn board) (inputsIn board) m sets (r .pairs) (r .ranks) ⌝ }
+    requires { ⌜ Lent board (now e) × Sized (boardInputs board) m × PartSets (boardInputs board) m sets ⌝ }
+    ensures { λ r. ⌜ Carried (kindIn board) (boardInputs board) m sets (r .pairs) (r .ranks) ⌝ }
 {
     let pairs = pairs_of(inputs_of(board), sets);
     let ranks = ranks_of(e, board, pairs);
@@ -71,8 +71,8 @@ pub fn whole_part(
 }
 
 fn rank_again(e: &[u16; ENTRIES], board: u8, rank: u32, p: u8, j: u8, set: u16, pair: u32) -> u32
-    requires { ⌜ Lent board (now e) × (1 ≤ inputsIn board) × (inputsIn board ≤ maxInputs) × (p < maxPatterns) × (j < maxWires) × Covers (inputsIn board) pair ⌝ }
-    ensures { λ r. ⌜ r ≡ rankAgain (kindIn board) (inputsIn board) rank p j set pair ⌝ }
+    requires { ⌜ Lent board (now e) × (1 ≤ boardInputs board) × (boardInputs board ≤ maxInputs) × (p < maxPatterns) × (j < maxWires) × Covers (boardInputs board) pair ⌝ }
+    ensures { λ r. ⌜ r ≡ rankAgain (kindIn board) (boardInputs board) rank p j set pair ⌝ }
 {
     let b = (bit_of(table_of(rank), p) % 2) as u8;
     if has(set, j, b) {
@@ -90,8 +90,8 @@ pub fn ranks_again(
     set: u16,
     pairs: [u32; Sheet::WIRES],
 ) -> [u32; Sheet::WIRES]
-    requires { ⌜ Lent board (now e) × (1 ≤ inputsIn board) × (inputsIn board ≤ maxInputs) × (p < maxPatterns) × PairsCover (inputsIn board) pairs ⌝ }
-    ensures { λ r. ⌜ r ≡ ranksAgain (kindIn board) (inputsIn board) ranks p set pairs ⌝ }
+    requires { ⌜ Lent board (now e) × (1 ≤ boardInputs board) × (boardInputs board ≤ maxInputs) × (p < maxPatterns) × PairsCover (boardInputs board) pairs ⌝ }
+    ensures { λ r. ⌜ r ≡ ranksAgain (kindIn board) (boardInputs board) ranks p set pairs ⌝ }
 {
     [
         rank_again(e, board, ranks[0], p, 0, set, pairs[0]),

@@ -12,7 +12,7 @@ use Rattle.base.specs.Cases.{Case, refusing, refusedOutcome, refusedCase}
 use Rattle.base.specs.Refusals.{refusalAt, tooLong}
 use Rattle.base.proofs.Tests.{decide}
 use Rattle.nodes.specs.declared.BoardKind.{BoardKind}
-use Rattle.diagram.specs.Bytes.{longestDiagrams}
+use Rattle.diagram.proofs.DiagramForm.{longestDiagrams}
 use Rattle.diagram.proofs.Forms.{form-front}
 use Rattle.quote.specs.Cases.{QuoteReply}
 use Rattle.quote.specs.Inner.Refused.{refusedQuote}

@@ -20,7 +20,7 @@ use Rattle.branch_bound.specs.Search.{Board, floor, start, searchPart, run}
 use Rattle.nodes.specs.declared.BoardKind.{BoardKind}
 use Rattle.branch_bound.specs.Boards.{boardOf}
 use Rattle.sheet.specs.Inner.Sized.{Sized}
-use Rattle.parts.specs.Inner.Boards.{boardNumber, kindIn, inputsIn, LentFor, Lent}
+use Rattle.parts.specs.Inner.Boards.{boardNumber, kindIn, boardInputs, LentFor, Lent}
 use Rattle.parts.specs.Inner.Parts.{PartSets}
 use Rattle.parts.proofs.BoardNumbers.{number-kind, number-inputs, number-lent}
 use Rattle.search.specs.Inner.Tally.{stateOf}
@@ -79,15 +79,15 @@ module _ (kind : BoardKind) (n : ℕ) {board : ℕ} (eb : board ≡ boardNumber 
   kind-is : kindIn board ≡ kind
   kind-is = ap kindIn eb ∙ number-kind kind n few
 
-  inputs-are : inputsIn board ≡ n
-  inputs-are = ap inputsIn eb ∙ number-inputs kind n few
+  inputs-are : boardInputs board ≡ n
+  inputs-are = ap boardInputs eb ∙ number-inputs kind n few
 
   pub entered : {m : ℕ} {sets e : List ℕ} → LentFor kind e → Sized n m → PartSets n m sets
-      → Lent board e × Sized (inputsIn board) m × PartSets (inputsIn board) m sets
+      → Lent board e × Sized (boardInputs board) m × PartSets (boardInputs board) m sets
   entered {m} {sets} {e} t z s =
       (rw eb (number-lent kind n e few t), subst (λ k. Sized k m) (sym inputs-are) z, subst (λ k. PartSets k m sets) (sym inputs-are) s)
 
   pub answer-on : (m budget : ℕ) (R : Rel) {r : SearchReply}
-      → r ≡ answerOf (boardOf (kindIn board) (inputsIn board) m) R (run (boardOf (kindIn board) (inputsIn board) m) budget R)
+      → r ≡ answerOf (boardOf (kindIn board) (boardInputs board) m) R (run (boardOf (kindIn board) (boardInputs board) m) budget R)
       → r ≡ answerOf (boardOf kind n m) R (run (boardOf kind n m) budget R)
   answer-on m budget R e = e ∙ ap₂ (λ k x. answerOf (boardOf k x m) R (run (boardOf k x m) budget R)) kind-is inputs-are

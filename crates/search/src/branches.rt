@@ -19,7 +19,7 @@ ghost use lib.ListN.{length};
 ghost use Rattle.relation.specs.Tests.{ofSets, isOpen};
 ghost use Rattle.branch_bound.specs.Search.{split as splitOf, searchPart};
 ghost use Rattle.branch_bound.specs.Boards.{boardOf};
-ghost use Rattle.parts.specs.Inner.Boards.{kindIn, inputsIn, Lent};
+ghost use Rattle.parts.specs.Inner.Boards.{kindIn, boardInputs, Lent};
 ghost use Rattle.parts.specs.Inner.Ranks.{tablesIn, floorIn};
 ghost use Rattle.parts.specs.Inner.Parts.{Carried};
 ghost use Rattle.search.specs.Inner.Conflicts.{Settled};
@@ -39,11 +39,11 @@ pub fn visit(
     from: u8,
     budget: u32,
 )
-    requires { ⌜ Lent board (now e) × Carried (kindIn board) (inputsIn board) m (now sets) pairs ranks × (floor ≡ floorIn ranks) × (from ≤ 2 ^ inputsIn board) × Settled m (now sets) (tablesIn ranks) from
+    requires { ⌜ Lent board (now e) × Carried (kindIn board) (boardInputs board) m (now sets) pairs ranks × (floor ≡ floorIn ranks) × (from ≤ 2 ^ boardInputs board) × Settled m (now sets) (tablesIn ranks) from
         × (length (now tally) ≡ 3) ⌝ }
     ensures { λ _. ⌜ (now (sets .exit) ≡ now (sets .entry))
         × (stateOf (now (best .exit)) (now (tally .exit))
-        ≡ searchPart (boardOf (kindIn board) (inputsIn board) m) budget (ofSets (now (sets .entry))) (stateOf (now (best .entry)) (now (tally .entry))))
+        ≡ searchPart (boardOf (kindIn board) (boardInputs board) m) budget (ofSets (now (sets .entry))) (stateOf (now (best .entry)) (now (tally .entry))))
         × (length (now (tally .exit)) ≡ 3) ⌝ }
 {
     if tally[0] <= floor {
@@ -82,11 +82,11 @@ fn split(
     j: u8,
     budget: u32,
 )
-    requires { ⌜ Lent board (now e) × Carried (kindIn board) (inputsIn board) m (now sets) pairs ranks × (p < 2 ^ inputsIn board) × (j < m) × T (isOpen m (ofSets (now sets) p) j)
+    requires { ⌜ Lent board (now e) × Carried (kindIn board) (boardInputs board) m (now sets) pairs ranks × (p < 2 ^ boardInputs board) × (j < m) × T (isOpen m (ofSets (now sets) p) j)
         × Settled m (now sets) (tablesIn ranks) p × (length (now tally) ≡ 3) ⌝ }
     ensures { λ _. ⌜ (now (sets .exit) ≡ now (sets .entry))
         × (stateOf (now (best .exit)) (now (tally .exit))
-        ≡ splitOf (boardOf (kindIn board) (inputsIn board) m) budget (searchPart (boardOf (kindIn board) (inputsIn board) m) budget) (ofSets (now (sets .entry))) p j (stateOf (now (best .entry)) (now (tally .entry))))
+        ≡ splitOf (boardOf (kindIn board) (boardInputs board) m) budget (searchPart (boardOf (kindIn board) (boardInputs board) m) budget) (ofSets (now (sets .entry))) p j (stateOf (now (best .entry)) (now (tally .entry))))
         × (length (now (tally .exit)) ≡ 3) ⌝ }
 {
     let at = p as usize;

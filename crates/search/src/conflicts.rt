@@ -14,7 +14,7 @@ ghost use Rattle.relation.specs.Tests.{ofSets};
 ghost use Rattle.table.specs.Cells.{wires};
 ghost use Rattle.branch_bound.specs.Search.{picks};
 ghost use Rattle.branch_bound.specs.Boards.{boardOf};
-ghost use Rattle.parts.specs.Inner.Boards.{kindIn, inputsIn};
+ghost use Rattle.parts.specs.Inner.Boards.{kindIn, boardInputs};
 ghost use Rattle.sheet.specs.Inner.Sized.{Sized};
 ghost use Rattle.parts.specs.Inner.Parts.{PartSets};
 ghost use Rattle.search.specs.Inner.Conflicts.{Settled, splitPlace};
@@ -28,9 +28,9 @@ pub fn first_open(
     sets: &[u16; Sheet::MAX_PATTERNS],
     tables: [u16; Sheet::WIRES],
 ) -> SplitPlace
-    requires { ⌜ Sized (inputsIn board) m × PartSets (inputsIn board) m (now sets) × (tables ≡ picks (boardOf (kindIn board) (inputsIn board) m) (ofSets (now sets))) × (from ≤ 2 ^ inputsIn board)
+    requires { ⌜ Sized (boardInputs board) m × PartSets (boardInputs board) m (now sets) × (tables ≡ picks (boardOf (kindIn board) (boardInputs board) m) (ofSets (now sets))) × (from ≤ 2 ^ boardInputs board)
         × Settled m (now sets) tables from ⌝ }
-    ensures { λ r. ⌜ r ≡ splitPlace (inputsIn board) m (ofSets (now (sets .entry))) (wires tables) ⌝ }
+    ensures { λ r. ⌜ r ≡ splitPlace (boardInputs board) m (ofSets (now (sets .entry))) (wires tables) ⌝ }
 {
     let count = patterns_of(inputs_of(board));
     let side = side_by_side(tables);

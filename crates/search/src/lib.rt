@@ -19,7 +19,7 @@ ghost use Rattle.branch_bound.specs.Boards.{boardOf};
 ghost use Rattle.search.specs.Cases.{searchReply};
 ghost use Rattle.branch_bound.specs.Reply.{answerOf, searchOf};
 ghost use Rattle.sheet.specs.Inner.Sized.{Sized};
-ghost use Rattle.parts.specs.Inner.Boards.{kindIn, inputsIn, Lent};
+ghost use Rattle.parts.specs.Inner.Boards.{kindIn, boardInputs, Lent};
 ghost use Rattle.parts.specs.Inner.Parts.{PartSets};
 
 mod conflicts; // where to split: the first conflict
@@ -56,9 +56,9 @@ fn search_sets(
     sets: [u16; Sheet::MAX_PATTERNS],
     budget: u32,
 ) -> Answer
-    requires { ⌜ Lent board (now e) × Sized (inputsIn board) m × PartSets (inputsIn board) m sets ⌝ }
-    ensures { λ r. ⌜ searchReply r ≡ answerOf (boardOf (kindIn board) (inputsIn board) m) (ofSets sets)
-        (run (boardOf (kindIn board) (inputsIn board) m) budget (ofSets sets)) ⌝ }
+    requires { ⌜ Lent board (now e) × Sized (boardInputs board) m × PartSets (boardInputs board) m sets ⌝ }
+    ensures { λ r. ⌜ searchReply r ≡ answerOf (boardOf (kindIn board) (boardInputs board) m) (ofSets sets)
+        (run (boardOf (kindIn board) (boardInputs board) m) budget (ofSets sets)) ⌝ }
 {
     let whole = whole_part(e, board, m, sets);
     let ranks = whole.ranks;

@@ -13,7 +13,7 @@ ghost use Rattle.sheet.specs.Limits.{maxWires};
 ghost use Rattle.relation.specs.Tests.{ofSets};
 ghost use Rattle.branch_bound.specs.Search.{start};
 ghost use Rattle.branch_bound.specs.Boards.{boardOf};
-ghost use Rattle.parts.specs.Inner.Boards.{kindIn, inputsIn, Lent};
+ghost use Rattle.parts.specs.Inner.Boards.{kindIn, boardInputs, Lent};
 ghost use Rattle.sheet.specs.Inner.Sized.{Sized};
 ghost use Rattle.parts.specs.Inner.Parts.{PartSets, rankOf};
 
@@ -26,8 +26,8 @@ fn rank_left(
     j: u8,
     first: u32,
 ) -> u32
-    requires { ⌜ Lent board (now e) × Sized (inputsIn board) m × PartSets (inputsIn board) m left × (j < maxWires) × (j ≡ 0 → first ≡ rankOf (kindIn board) (inputsIn board) left 0) ⌝ }
-    ensures { λ r. ⌜ r ≡ rankOf (kindIn board) (inputsIn board) left j ⌝ }
+    requires { ⌜ Lent board (now e) × Sized (boardInputs board) m × PartSets (boardInputs board) m left × (j < maxWires) × (j ≡ 0 → first ≡ rankOf (kindIn board) (boardInputs board) left 0) ⌝ }
+    ensures { λ r. ⌜ r ≡ rankOf (kindIn board) (boardInputs board) left j ⌝ }
 {
     if j == 0 {
         first
@@ -43,8 +43,8 @@ pub fn quick(
     sets: [u16; Sheet::MAX_PATTERNS],
     first: u32,
 ) -> State
-    requires { ⌜ Lent board (now e) × Sized (inputsIn board) m × PartSets (inputsIn board) m sets × (first ≡ rankOf (kindIn board) (inputsIn board) sets 0) ⌝ }
-    ensures { λ r. ⌜ r ≡ start (boardOf (kindIn board) (inputsIn board) m) (ofSets sets) ⌝ }
+    requires { ⌜ Lent board (now e) × Sized (boardInputs board) m × PartSets (boardInputs board) m sets × (first ≡ rankOf (kindIn board) (boardInputs board) sets 0) ⌝ }
+    ensures { λ r. ⌜ r ≡ start (boardOf (kindIn board) (boardInputs board) m) (ofSets sets) ⌝ }
 {
     let mut left = sets;
     let mut tables = [0u16; Sheet::WIRES];

@@ -1,5 +1,4 @@
--- Laws of the length of a stage (document 01, "Stage sheet"), over the form of a wire: four bytes for the head and the end, the frame of each wire, and three for
--- each selector.
+-- Laws of the length of a stage (document 01, "Stage sheet"), over the form of a wire: the sheet's frame, the frame of each wire, and the bytes of each selector.
 use Prim.Native.Nat.{ℕ, suc, _+_, _*_, _≤_}
 use mathlib.Core.Path.{_≡_, ap, _∙_}
 use mathlib.Core.List.{List, [], _∷_, map}
@@ -13,7 +12,7 @@ use Rattle.table.specs.Drawing.{drawnCells}
 use Rattle.table.proofs.Bits.{sum-cong, sum-bound}
 use Rattle.table.proofs.Drawings.{sum-first, least-cells}
 use Rattle.stage.specs.Form.{StageForm}
-use Rattle.stage.specs.Bytes.{wiresBytes, stageBytes}
+use Rattle.stage.specs.Bytes.{wiresBytes, stageBytes, sheetFrame, selectorBytes}
 use Rattle.stage.specs.Read.{drawing}
 use Rattle.stage.specs.Written.{stageDrawn, stageOf}
 use Rattle.stage.specs.Inner.Laws.{FormLaws}
@@ -30,17 +29,17 @@ total-taken count m tables h =
 module _ (F : StageForm) (L : FormLaws F) where
   -- the longest wire, and the longest stage sheet
   abbrev pub longestWire : ℕ
-  longestWire = L .frame + 3 * L .most
+  longestWire = L .frame + selectorBytes * L .most
 
   abbrev pub longestOf : ℕ
-  longestOf = 4 + maxWires * longestWire
+  longestOf = sheetFrame + maxWires * longestWire
 
   pub wire-most : (n j : ℕ) (x : F .Shape) → n ≤ maxInputs → F .WellFormed n x → length (F .wireBytes j x) ≤ longestWire
   wire-most n j x s w = omega (arith, L .wire-length j x, L .few n x s w)
 
   -- what is written, where `count` tells the selectors that a table takes: its length by wires and selectors, and its bound where no table takes more than k
   module _ (n : ℕ) (count : ℕ → ℕ) (counts : (t : ℕ) → L .selectors (F .reduced n t) ≡ count t) where
-    wires-length : (j : ℕ) (ts : List ℕ) → length (wiresBytes F j (map (F .reduced n) ts)) ≡ L .frame * length ts + 3 * total count (length ts) (wires ts)
+    wires-length : (j : ℕ) (ts : List ℕ) → length (wiresBytes F j (map (F .reduced n) ts)) ≡ L .frame * length ts + selectorBytes * total count (length ts) (wires ts)
     unfolding wiresBytes total sum
     wires-length j [] = omega arith
     wires-length j (t ∷ ts) =
@@ -54,15 +53,15 @@ module _ (F : StageForm) (L : FormLaws F) where
         )
 
     module _ (m : ℕ) (tables : List ℕ) (fits : m ≤ length tables) where
-      pub sheet-length : length (stageOf F n m tables) ≡ 4 + L .frame * m + 3 * total count m (wires tables)
+      pub sheet-length : length (stageOf F n m tables) ≡ sheetFrame + L .frame * m + selectorBytes * total count m (wires tables)
       unfolding stageOf stageBytes stageDrawn
       sheet-length =
           let ts = take m tables in
-          let own : length (wiresBytes F 0 (map (F .reduced n) ts)) ≡ L .frame * m + 3 * total count (length ts) (wires ts) =
-          wires-length 0 ts ∙ ap (λ k. L .frame * k + 3 * total count (length ts) (wires ts)) (length-take-le m tables fits) in
+          let own : length (wiresBytes F 0 (map (F .reduced n) ts)) ≡ L .frame * m + selectorBytes * total count (length ts) (wires ts) =
+          wires-length 0 ts ∙ ap (λ k. L .frame * k + selectorBytes * total count (length ts) (wires ts)) (length-take-le m tables fits) in
           omega (arith, length-append (wiresBytes F 0 (map (F .reduced n) ts)) (0x2F ∷ []), own, total-taken count m tables fits)
 
-      pub sheet-length-most : (k : ℕ) → ((t : ℕ) → count t ≤ k) → length (stageOf F n m tables) ≤ 4 + L .frame * m + 3 * (m * k)
+      pub sheet-length-most : (k : ℕ) → ((t : ℕ) → count t ≤ k) → length (stageOf F n m tables) ≤ sheetFrame + L .frame * m + selectorBytes * (m * k)
       unfolding total
       sheet-length-most k few = omega (arith, sheet-length, sum-bound m k (λ j. count (wires tables j)) (λ j _. few (wires tables j)))
 

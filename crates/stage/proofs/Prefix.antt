@@ -66,7 +66,7 @@ module _ (F : StageForm) (L : FormLaws F) where
   closed-more n m bytes q s h (fault f) t = refl
   closed-more n m bytes q s h (taken xs at rest) t =
       let long : length bytes ≡ length (wiresBytes F 0 xs) + length rest = ap length (t .0) ∙ length-append (wiresBytes F 0 xs) rest in
-      let short = wires-short n m 0 xs s (t .2) (t .3) in
+      let short = wires-short n m 0 xs s (t .2 .0) (t .2 .1) in
       end-more (got n m xs) at rest q (omega arith)
 
   room-most : (m : ℕ) → m ≤ maxWires → roomFor m + 2 ≤ longestOf F L

@@ -21,7 +21,7 @@ use Rattle.stage.specs.Form.{StageForm}
 use Rattle.stage.specs.Bytes.{wiresBytes, stageBytes}
 use Rattle.stage.specs.Read.{wiresAt, nothingAfter, endAt, closed, readSheet, drawing}
 use Rattle.stage.specs.Written.{stageDrawn, stageOf}
-use Rattle.stage.specs.Inner.Laws.{ToldWire, FormLaws}
+use Rattle.stage.specs.Inner.Laws.{TakenAs, ToldWire, FormLaws}
 use Rattle.stage.proofs.Steps.{due-has}
 use Rattle.stage.proofs.Written.{drawn-least}
 
@@ -34,9 +34,7 @@ pub record SheetOf (F : StageForm) (bytes : List ℕ) (n m : ℕ) (stage : List 
 
 -- the wires from j on
 abbrev pub ToldWires : (F : StageForm) (left n j at : ℕ) → List ℕ → Read (List (F .Shape)) → Type 0
-ToldWires F left n j at bytes (taken xs next rest) =
-    (bytes ≡ wiresBytes F j xs ++ rest) × (next ≡ at + length (wiresBytes F j xs)) × (length xs ≡ left) × Each (F .WellFormed n) xs
-ToldWires F left n j at bytes (fault f) = Unit {0}
+ToldWires F left n j = TakenAs (wiresBytes F j) (λ xs. (length xs ≡ left) × Each (F .WellFormed n) xs)
 
 abbrev ToldSheet : (F : StageForm) → List ℕ → StageSheet (F .Shape) → Type 0
 ToldSheet F bytes (got n m stage) = SheetOf F bytes n m stage
@@ -53,13 +51,12 @@ module _ (F : StageForm) (L : FormLaws F) where
       let ys = wiresBytes F (suc j) xs in (
         h .0 ∙ ap (λ (l : List ℕ). y ++ l) (t .0) ∙ sym (append-assoc y ys q),
         omega (arith, h .1, t .1, length-append y ys),
-        ap suc (t .2),
-        (h .2, t .3),
+        (ap suc (t .2 .0), (h .2, t .2 .1)),
       )
 
   pub wires-told : (left n m j at : ℕ) (bytes : List ℕ) → ToldWires F left n j at bytes (wiresAt F left n m j at bytes)
   unfolding wiresAt andThen wiresBytes
-  wires-told zero n m j at bytes = (refl, omega arith, refl, tt)
+  wires-told zero n m j at bytes = (refl, omega arith, (refl, tt))
   wires-told (suc left) n m j at bytes = go (F .wireAt n m j at bytes) (L .told n m j at bytes) (λ next rest. wires-told left n m (suc j) next rest)
     where
       go : (y : Read (F .Shape)) → ToldWire F n j at bytes y
@@ -100,8 +97,8 @@ module _ (F : StageForm) (L : FormLaws F) where
       (λ d. record {
         is = e ∙ ap (λ (l : List ℕ). 0x20 ∷ n ∷ m ∷ l) (h .0 ∙ ap (λ (l : List ℕ). wiresBytes F 0 stage ++ l) d);
         sizes = z;
-        one-each = h .2;
-        formed = h .3;
+        one-each = h .2 .0;
+        formed = h .2 .1;
       })
 
   sheet-told : (bytes : List ℕ) → ToldSheet F bytes (readSheet F bytes)

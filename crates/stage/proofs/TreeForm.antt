@@ -15,8 +15,8 @@ use Rattle.table.specs.Inner.Drawing.{FairCount}
 use Rattle.table.proofs.Cells.{cells-lt}
 use Rattle.table.proofs.Trees.{follow-lt, least-tree, reduced-selectors, reduced-ordered, reduced-follow}
 use Rattle.stage.specs.Steps.{Read, taken, fault, unlessRefused, dueNumber, due, operand, turnNumber}
-use Rattle.stage.specs.Bytes.{sheetFrame, selectorBytes}
-use Rattle.stage.specs.TreeBytes.{treeBytes, treeWireBytes, treeFrame, longestStage}
+use Rattle.stage.specs.Bytes.{sheetFrame, selectorBytes, mostCells}
+use Rattle.stage.specs.TreeBytes.{treeBytes, treeWireBytes, treeFrame}
 use Rattle.stage.specs.TreeRead.{treeKnown, treeAt, treeWireAt}
 use Rattle.stage.specs.Trees.{treeForm, treeDrawing, readStage}
 use Rattle.stage.specs.Written.{stageOf}
@@ -84,6 +84,10 @@ tree-laws =
 -- a table of n inputs has few cells
 pub cells-few : (n t : ℕ) → n ≤ maxInputs → cells n t < maxPatterns
 cells-few n t h = omega (arith, cells-lt n t, patterns-most n h)
+
+-- the length of the longest stage of trees
+abbrev pub longestStage : ℕ
+longestStage = sheetFrame + treeFrame * maxWires + selectorBytes * mostCells
 
 -- no sheet that is accepted is longer, and reading looks at no byte past the one that would follow
 pub none-longer : (bytes : List ℕ) (n m : ℕ) (stage : List Tree) → readStage bytes ≡ got n m stage → length bytes ≤ longestStage

@@ -15,7 +15,7 @@ use Rattle.table.specs.Tree.{Tree, con, sel, Ordered, selectors}
 use Rattle.stage.specs.Steps.{Read, taken, fault, andThen, misplaced, operand}
 use Rattle.stage.specs.TreeBytes.{treeBytes}
 use Rattle.stage.specs.TreeRead.{treeKnown, branchesAt, selectorAt, treeFrom, treeWithin, treeAt}
-use Rattle.stage.specs.Inner.Laws.{Told}
+use Rattle.stage.specs.Inner.Laws.{TakenAs}
 use Rattle.sheet.proofs.Sizes.{count-in, count-fits}
 
 -- a tree takes a byte, and three more for each selector
@@ -62,7 +62,7 @@ tree-is n k l at bytes =
 
 -- what is taken are the bytes of an ordered tree, and the place moves past them
 abbrev pub ToldTree : (n k at : ℕ) → List ℕ → Read Tree → Type 0
-ToldTree n k = Told treeBytes (Ordered n k)
+ToldTree n k = TakenAs treeBytes (Ordered n k)
 
 abbrev TellsAt : ℕ → ℕ → (ℕ → List ℕ → Read Tree) → Type 0
 TellsAt n k read = (at : ℕ) (bytes : List ℕ) → ToldTree n k at bytes (read at bytes)

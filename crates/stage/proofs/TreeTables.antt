@@ -9,7 +9,11 @@ use Rattle.table.specs.Drawing.{drawnTable}
 use Rattle.table.specs.Tree.{Tree, con, sel, Ordered, follow, selectors}
 use Rattle.table.proofs.Bits.{ofBits-lt, bit-ofBits}
 use Rattle.table.proofs.Trees.{follow-lt}
-use Rattle.stage.specs.Trees.{tableOf}
+use Rattle.stage.specs.Trees.{treeDrawing}
+
+-- the truth table of a tree
+abbrev pub tableOf : ℕ → Tree → ℕ
+tableOf = drawnTable treeDrawing
 
 -- a tree's table has 2 ^ n bits
 pub table-lt : (n k : ℕ) (x : Tree) → Ordered n k x → tableOf n x < 2 ^ (2 ^ n)

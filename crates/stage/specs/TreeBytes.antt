@@ -1,11 +1,9 @@
 -- Document 01, "Stage sheet": a wire that is a decision tree, as bytes.
-use Prim.Native.Nat.{ℕ, _+_, _-_, _*_}
+use Prim.Native.Nat.{ℕ}
 use mathlib.Core.Bool.{cond}
 use mathlib.Core.List.{List, [], _∷_, _++_}
 use lib.Dec.{eqb}
-use Rattle.sheet.specs.Limits.{maxWires, maxPatterns}
 use Rattle.table.specs.Tree.{Tree, con, sel}
-use Rattle.stage.specs.Bytes.{sheetFrame, selectorBytes}
 
 -- a constant is one byte
 abbrev pub constantByte : ℕ → ℕ
@@ -23,11 +21,3 @@ treeWireBytes j x = 0x21 ∷ j ∷ treeBytes x
 -- what a tree takes besides its selectors: it has one constant more than selectors
 abbrev pub treeFrame : ℕ
 treeFrame = 3
-
--- no stage that is written has more selectors: a table needs fewer than it has patterns
-abbrev pub mostCells : ℕ
-mostCells = maxWires * (maxPatterns - 1)
-
--- the length of the longest stage of trees
-abbrev pub longestStage : ℕ
-longestStage = sheetFrame + treeFrame * maxWires + selectorBytes * mostCells

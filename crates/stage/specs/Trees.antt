@@ -2,7 +2,7 @@
 use Prim.Native.Nat.{ℕ}
 use mathlib.Core.List.{List}
 use Rattle.table.specs.Cells.{cells}
-use Rattle.table.specs.Drawing.{Drawing, StageSheet, drawnTable}
+use Rattle.table.specs.Drawing.{Drawing, StageSheet}
 use Rattle.table.specs.Tree.{Tree, Ordered, follow, selectors, reduced}
 use Rattle.stage.specs.Form.{StageForm}
 use Rattle.stage.specs.Read.{readSheet, drawing}
@@ -28,7 +28,3 @@ treeDrawing = drawing treeForm
 
 abbrev pub readStage : List ℕ → StageSheet Tree
 readStage = readSheet treeForm
-
--- the truth table of a tree
-abbrev pub tableOf : ℕ → Tree → ℕ
-tableOf = drawnTable treeDrawing

@@ -13,8 +13,3 @@ pub const TREE_FRAME: usize = 3;
 
 // What is written for a table has fewer selectors than there are patterns, so that no written stage has more than this.
 pub const MOST_CELLS: usize = Sheet::WIRES * (Sheet::MAX_PATTERNS - 1);
-
-// No stage sheet of trees that is accepted has more bytes, whoever wrote it: room for every tree's quote.
-pub const LONGEST_STAGE: usize = SHEET_FRAME
-    + TREE_FRAME * Sheet::WIRES
-    + SELECTOR_BYTES * MOST_CELLS;

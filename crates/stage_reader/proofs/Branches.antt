@@ -10,9 +10,9 @@ use Rattle.table.specs.Tree.{Tree, sel, Ordered, selectors}
 use Rattle.stage.specs.Steps.{Read, andThen}
 use Rattle.stage.specs.TreeBytes.{treeBytes}
 use Rattle.stage.specs.TreeRead.{branchesAt, treeAt}
-use Rattle.stage.specs.Trees.{treeDrawing, tableOf}
+use Rattle.stage.specs.Trees.{treeDrawing}
 use Rattle.stage.proofs.TreeReading.{tree-told}
-use Rattle.stage.proofs.TreeTables.{table-lt, selectors-few}
+use Rattle.stage.proofs.TreeTables.{tableOf, table-lt, selectors-few}
 use Rattle.stage_reader.specs.Inner.Tables.{selectOf}
 use Rattle.stage_reader.specs.Inner.Wires.{takenWire, refusedWire, stepOf}
 use Rattle.stage_reader.proofs.Selecting.{table-select}

@@ -54,16 +54,16 @@ module _ {s : List ℕ} {n from k : ℕ} {tables inputs : List ℕ} {cells : ℕ
   told = subst (ToldEntries k n from (drop from s)) (g .is) (entries-told k n from (drop from s))
 
   pub own-number : nextNumber (g .entries) ≡ 2 + k
-  own-number = omega (arith, told .2)
+  own-number = omega (arith, told .2 .0)
 
   pub place-there : from ≤ length s → from + 3 * k ≤ length s
   place-there h =
       let long : length (drop from s) ≡ length (entriesBytes (g .entries)) + length (drop at s) =
       ap length (told .0) ∙ length-append (entriesBytes (g .entries)) (drop at s) in
-      omega (arith, h, long, length-drop from s, length-drop at s, entries-bytes-length (g .entries), told .2)
+      omega (arith, h, long, length-drop from s, length-drop at s, entries-bytes-length (g .entries), told .2 .0)
 
   pub cells-few : cells ≤ k
-  cells-few = omega (arith, g .counted, entries-few (g .entries), told .2)
+  cells-few = omega (arith, g .counted, entries-few (g .entries), told .2 .0)
 
   -- all entries are read: the top is left
   pub diagram-read : andThen (entriesAt k n from (drop from s)) topAt ≡ topAt (g .entries) at (drop at s)
@@ -93,7 +93,7 @@ module _ {s : List ℕ} {n from k : ℕ} {tables inputs : List ℕ} {cells : ℕ
 
       pub entry-selects : Selects n (2 + k) tables e
       entry-selects =
-          numbering.selects n (g .entries) (omega (arith, told .2)) (told .3) tables (g .tables-tell) e (entry-fits .2) (2 + k) own-number
+          numbering.selects n (g .entries) (omega (arith, told .2 .0)) (told .2 .1) tables (g .tables-tell) e (entry-fits .2) (2 + k) own-number
 
       pub one-more : length tables ≡ mostNumbers → length inputs ≡ mostNumbers
           → Gathered s n from (k + 1) (set tables (2 + k) (tableBy n tables e)) (set inputs (2 + k) (e .input)) (entryPrice e + cells)
@@ -101,11 +101,11 @@ module _ {s : List ℕ} {n from k : ℕ} {tables inputs : List ℕ} {cells : ℕ
       one-more lt li =
           let on : at + 3 ≡ from + 3 * (k + 1) = omega arith in
           let room : nextNumber (g .entries) < mostNumbers = omega (arith, own-number) in
-          let few : length (g .entries) ≤ mostEntries = omega (arith, told .2) in
+          let few : length (g .entries) ≤ mostEntries = omega (arith, told .2 .0) in
           record {
             entries = e ∷ g .entries;
             is = rw (add-one k, g .is, entry-is, ← add-one k, ← on);
-            tables-tell = rw (← own-number) (numbering.tables-more n (g .entries) few (told .3) tables (g .tables-tell) e (entry-fits .2) (rw lt room));
+            tables-tell = rw (← own-number) (numbering.tables-more n (g .entries) few (told .2 .1) tables (g .tables-tell) e (entry-fits .2) (rw lt room));
             inputs-tell = rw (← own-number) (numbering.inputs-more n (g .entries) inputs (g .inputs-tell) (rw li room) e);
             counted = ap (λ (x : ℕ). entryPrice e + x) (g .counted);
           }

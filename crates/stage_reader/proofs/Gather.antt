@@ -80,7 +80,7 @@ module _ (F : StageForm) where
       → replyWith (replicate maxWires 0) 0 0 (closed F n m y) ≡ replyToStage (drawing F) (closed F n m y)
   unfolding replyWith replyToStage closed
   closed-all n m h bytes (fault f) t = refl
-  closed-all n m h bytes (taken stage at rest) t = end-all n m stage at rest (rw (t .2) h)
+  closed-all n m h bytes (taken stage at rest) t = end-all n m stage at rest (rw (t .2 .0) h)
 
 module _ (F : StageForm) (L : FormLaws F) where
   -- what drives a wire that was read

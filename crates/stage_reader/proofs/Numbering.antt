@@ -13,18 +13,17 @@ use Rattle.table.specs.Bits.{ofBits}
 use Rattle.table.specs.Drawing.{drawnTable}
 use Rattle.table.specs.Tree.{sel, Ordered, follow}
 use Rattle.table.proofs.Bits.{sum-cong}
-use Rattle.stage.specs.Trees.{tableOf}
-use Rattle.stage.proofs.TreeTables.{table-lt}
+use Rattle.stage.proofs.TreeTables.{tableOf, table-lt}
 use Rattle.diagram.specs.Diagram.{Entry, diagram, nextNumber, inputAt, followEntry, FitsAfter, EntriesFit, mostEntries}
 use Rattle.diagram.specs.Diagrams.{diagramDrawing}
 use Rattle.diagram.proofs.Entries.{treeOf, follow-tree, diagram-ordered}
-use Rattle.stage_reader.specs.Inner.Numbers.{mostNumbers, Tells, InputsTell, TablesTell, Selects, tableBy}
+use Rattle.stage_reader.specs.Inner.Numbers.{mostNumbers, TellsBelow, InputsTell, TablesTell, Selects, tableBy}
 use Rattle.stage_reader.specs.Inner.Tables.{selectOf}
 use Rattle.stage_reader.proofs.Selecting.{table-zero, table-one, table-select}
 
 -- an array that tells what each number has tells one number more, that of the next entry, once what this has is in its place
-tells-more : (es : List Entry) (e : Entry) (before after : ℕ → ℕ) (l : List ℕ) (v : ℕ) → Tells before (nextNumber es) l → nextNumber es < length l
-    → v ≡ after (nextNumber es) → ((x : ℕ) → (x ≡ nextNumber es → ⊥) → before x ≡ after x) → Tells after (nextNumber (e ∷ es)) (set l (nextNumber es) v)
+tells-more : (es : List Entry) (e : Entry) (before after : ℕ → ℕ) (l : List ℕ) (v : ℕ) → TellsBelow before (nextNumber es) l → nextNumber es < length l
+    → v ≡ after (nextNumber es) → ((x : ℕ) → (x ≡ nextNumber es → ⊥) → before x ≡ after x) → TellsBelow after (nextNumber (e ∷ es)) (set l (nextNumber es) v)
 tells-more es e before after l v tell room latest earlier x h =
     ⊎-elim
     (λ same. rw same (getD-set-same l (nextNumber es) v 0 room ∙ latest))

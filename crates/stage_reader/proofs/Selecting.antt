@@ -14,8 +14,7 @@ use Rattle.table.specs.Bits.{bit, ofBits, sum}
 use Rattle.table.specs.Drawing.{drawnTable}
 use Rattle.table.specs.Tree.{Tree, con, sel, Ordered, follow}
 use Rattle.table.proofs.Bits.{bit-lt, bit-ext, bit-cases, bit-and, ofBits-lt, bit-ofBits, sum-cong}
-use Rattle.stage.specs.Trees.{tableOf}
-use Rattle.stage.proofs.TreeTables.{table-bit}
+use Rattle.stage.proofs.TreeTables.{tableOf, table-bit}
 use Rattle.stage_reader.specs.Inner.Tables.{inputTable, selectOf}
 
 -- the tables of the constants

@@ -10,7 +10,7 @@ use Rattle.base.specs.declared.Refusal.{Refusal}
 use Rattle.base.proofs.Cases.{same-refusal}
 use Rattle.table.specs.Drawing.{Drawing, drawnTable}
 use Rattle.stage.specs.Steps.{Read, taken, fault}
-use Rattle.stage.specs.Inner.Laws.{Told}
+use Rattle.stage.specs.Inner.Laws.{TakenAs}
 use Rattle.stage_reader.specs.Inner.Wires.{WireReply, takenWire, refusedWire, stepOf}
 
 -- a table, the cells and the place after them, as the code hands them over
@@ -46,11 +46,11 @@ module _ (D : Drawing) where
       pub formed : P shape
 
     -- what is told by its bytes goes on at the slice's place after them, which is handed back
-    pub took : (bytesOf : D .Shape → List ℕ) (s : List ℕ) (n at t c next : ℕ) (y : Read (D .Shape)) → Told bytesOf P at (drop at s) y
+    pub took : (asBytes : D .Shape → List ℕ) (s : List ℕ) (n at t c next : ℕ) (y : Read (D .Shape)) → TakenAs asBytes P at (drop at s) y
         → takenWire t c next ≡ stepOf D n y → Took y s n t c next
     unfolding stepOf
-    took bytesOf s n at t c next (fault f) h e = never f t c next e
-    took bytesOf s n at t c next (taken x past rest) h e =
+    took asBytes s n at t c next (fault f) h e = never f t c next e
+    took asBytes s n at t c next (taken x past rest) h e =
         let p : next ≡ past = ap (λ (r : WireReply). r .next) e in
-        let q : rest ≡ drop next s = after-part s at next (bytesOf x) rest (h .0) (p ∙ h .1) in
+        let q : rest ≡ drop next s = after-part s at next (asBytes x) rest (h .0) (p ∙ h .1) in
         record { shape = x; is = cc; table = ap (λ (r : WireReply). r .table) e; cells = ap (λ (r : WireReply). r .cells) e; formed = h .2 }

@@ -12,6 +12,7 @@ ghost use Prim.Native.Nat.{ℕ, _+_, _*_, _^_, _<_, _≤_};
 ghost use lib.ListN.{length, getD};
 ghost use Rattle.sheet.specs.Limits.{maxInputs, maxPatterns};
 ghost use Rattle.nodes.specs.Nodes.{node, listing};
+ghost use Rattle.stage.specs.Bytes.{selectorBytes};
 ghost use Rattle.diagram.specs.Bytes.{entryBytes, entriesBytes, diagramWireBytes, longestShared};
 ghost use Rattle.diagram.specs.Written.{nodeNumber, numberOf, entryOf, entriesOf, reducedDiagram};
 ghost use Rattle.base.specs.Inner.Put.{Put};
@@ -107,7 +108,7 @@ fn number_of(keys: &[u32; MOST_NODES], count: u8, w: u8, t: u16) -> u8
 
 // Writes the entry of node k of a table of n inputs: its input, and the numbers of its halves among the nodes before it.
 fn put_entry(buffer: &mut [u8], at: usize, keys: &[u32; MOST_NODES], k: u8, n: u8) -> usize
-    requires { ⌜ (k < mostNodes) × (n ≤ maxInputs) × Keyed n (getD (now keys) k 0) × (at + 3 ≤ longestShared) ⌝ }
+    requires { ⌜ (k < mostNodes) × (n ≤ maxInputs) × Keyed n (getD (now keys) k 0) × (at + selectorBytes ≤ longestShared) ⌝ }
     ensures { λ r. ⌜ Put (now (buffer .entry)) at (entryBytes (entryOf n (nodesIn (now (keys .entry)) k) (nodeOf (getD (now (keys .entry)) k 0)))) (now (buffer .exit)) r ⌝ }
 {
     let key = keys[k as usize];
@@ -121,7 +122,7 @@ fn put_entry(buffer: &mut [u8], at: usize, keys: &[u32; MOST_NODES], k: u8, n: u
 
 // Writes the entries of the listed nodes from the first on, and hands back the place after them.
 fn put_entries(buffer: &mut [u8], at: usize, keys: &[u32; MOST_NODES], count: u8, n: u8) -> usize
-    requires { ⌜ (count ≤ mostNodes) × (n ≤ maxInputs) × ((k : ℕ) → k < count → Keyed n (getD (now keys) k 0)) × (at + 3 * count ≤ longestShared) ⌝ }
+    requires { ⌜ (count ≤ mostNodes) × (n ≤ maxInputs) × ((k : ℕ) → k < count → Keyed n (getD (now keys) k 0)) × (at + selectorBytes * count ≤ longestShared) ⌝ }
     ensures { λ r. ⌜ Put (now (buffer .entry)) at (entriesBytes (entriesOf n (nodesIn (now (keys .entry)) count))) (now (buffer .exit)) r ⌝ }
 {
     let mut next = at;

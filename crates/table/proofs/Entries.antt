@@ -9,23 +9,10 @@ use Rattle.table.specs.Cells.{cells, low, high}
 use Rattle.table.specs.Pick.{Proj, leastOf}
 use Rattle.table.specs.Inner.Ranks.{masked, tableSpace}
 use Rattle.table.specs.Inner.Pairs.{blockSpace}
-use Rattle.table.specs.Inner.Blocks.{threeSpace, noEntry, entryOf, blockOf, Shown, PickShown}
-use Rattle.table.proofs.Cells.{cells-lt}
+use Rattle.table.specs.Inner.Blocks.{threeSpace, blockEntry, bestBlock, blockOf, Shown, PickShown}
 use Rattle.table.proofs.Halving.{upper, common, join, BestTable, least-best}
 use Rattle.table.proofs.Ranks.{ShownPair, ShownTwice, lesser-shows}
 use Rattle.table.proofs.Masks.{least-low, least-high, least-common}
-
--- an entry
-pub entry-le : (zeros ones : ℕ) → blockOf zeros ones ≤ noEntry
-unfolding blockOf entryOf
-entry-le zeros ones = go (leastOf (cells 2) 2 (masked zeros ones)) (least-best 2 (masked zeros ones))
-  where
-    some-le : (t : ℕ) → t < blockSpace → cells 2 t < 2 ^ 2 → cells 2 t * threeSpace + t * (blockSpace + 1) ≤ noEntry
-    some-le t l h = omega arith
-
-    go : (o : Option ℕ) → BestTable 2 (masked zeros ones) o → entryOf o ≤ noEntry
-    go none b = omega arith
-    go (some t) b = some-le t (b .inside) (cells-lt 2 t)
 
 -- the digits of an entry
 pub digits : (k t x : ℕ) → t < blockSpace → x ≡ k * threeSpace + t * (blockSpace + 1)
@@ -43,14 +30,14 @@ abbrev pub twoBlocks : (a b : ℕ) → ℕ
 twoBlocks a b = (a / threeSpace + 1) * threeSpace + a % blockSpace + b / blockSpace * blockSpace
 
 -- one block twice, and two blocks under a selector
-twice : (P : Proj) (o : Option ℕ) (c : ℕ) → BestTable 2 P o → c ≡ entryOf o → ShownTwice 2 threeSpace o c
-unfolding entryOf join
+twice : (P : Proj) (o : Option ℕ) (c : ℕ) → BestTable 2 P o → c ≡ blockEntry (cells 2) o → ShownTwice 2 threeSpace o c
+unfolding blockEntry join
 twice P none c b e = omega arith
 twice P (some t) c b e = e ∙ ap (λ x. cells 2 t * threeSpace + x) (omega arith)
 
-pair : (P Q : Proj) (h l : Option ℕ) (a b : ℕ) → BestTable 2 Q h → BestTable 2 P l → a ≡ entryOf l → b ≡ entryOf h
+pair : (P Q : Proj) (h l : Option ℕ) (a b : ℕ) → BestTable 2 Q h → BestTable 2 P l → a ≡ blockEntry (cells 2) l → b ≡ blockEntry (cells 2) h
     → ShownPair 2 threeSpace h l (twoBlocks a b)
-unfolding entryOf join
+unfolding blockEntry join
 pair P Q none none a b bh bl ea eb = omega arith
 pair P Q none (some l) a b bh bl ea eb = omega arith
 pair P Q (some h) none a b bh bl ea eb = omega arith
@@ -64,13 +51,13 @@ pub three-shown : (zeros ones a b c : ℕ) → a ≡ blockOf (zeros % blockSpace
     → b ≡ blockOf (zeros / blockSpace) (ones / blockSpace)
     → c ≡ blockOf (bitAnd (zeros % blockSpace) (zeros / blockSpace)) (bitAnd (ones % blockSpace) (ones / blockSpace))
     → PickShown 3 threeSpace zeros ones (min c (twoBlocks a b))
-unfolding blockOf low high
+unfolding bestBlock low high
 three-shown zeros ones a b c ea eb ec =
     let P = masked zeros ones in
     lesser-shows 2 threeSpace P (omega arith) (omega arith) c (twoBlocks a b)
-    (twice (common 2 P) (leastOf (cells 2) 2 (common 2 P)) c (least-best 2 (common 2 P)) (ec ∙ ap entryOf (least-common 2 zeros ones)))
+    (twice (common 2 P) (leastOf (cells 2) 2 (common 2 P)) c (least-best 2 (common 2 P)) (ec ∙ ap (blockEntry (cells 2)) (least-common 2 zeros ones)))
     (pair P (upper 2 P) (leastOf (cells 2) 2 (upper 2 P)) (leastOf (cells 2) 2 P) a b (least-best 2 (upper 2 P)) (least-best 2 P)
-    (ea ∙ ap entryOf (least-low 2 zeros ones)) (eb ∙ ap entryOf (least-high 2 zeros ones)))
+    (ea ∙ ap (blockEntry (cells 2)) (least-low 2 zeros ones)) (eb ∙ ap (blockEntry (cells 2)) (least-high 2 zeros ones)))
 
 -- four inputs, from three numbers that show the least tables of three: one of them twice, and two under a selector, as ranks.
 -- Two tables of three inputs fill tableSpace; of more than four inputs there is no such law.

@@ -10,6 +10,7 @@ pub mod Count
 pub mod Ranks
 pub mod Masks
 pub mod Repeated
+pub mod BestBlocks
 pub mod Entries
 pub mod Pairs
 pub mod Places

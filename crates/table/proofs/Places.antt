@@ -9,18 +9,18 @@ use lib.Arith.{digits-div, digits-mod}
 use lib.Bits.{bitAnd, and-shr, and-mod}
 use lib.Pow.{shr-shr}
 use lib.ListN.{getD}
+use Rattle.table.specs.Cells.{cells}
 use Rattle.table.specs.Inner.Ranks.{tableSpace}
 use Rattle.table.specs.Inner.Blocks.{entries, threeSpace, noEntry, blockOf, blockAt, zerosAt, onesAt, Blocks, PickShown}
 use Rattle.table.specs.Inner.Pairs.{blockPatterns, blockSpace, pairBits, zerosIn, onesIn}
 use Rattle.table.proofs.Pairs.{Place, fromBlock, fromByte, byte-place, first-place, zeros-lt, ones-lt}
-use Rattle.table.proofs.Entries.{entry-le, twoBlocks, three-shown, twiceRank, pairRank, four-shown}
+use Rattle.table.proofs.Cells.{cells-lt}
+use Rattle.table.proofs.BestBlocks.{entry-at}
+use Rattle.table.proofs.Entries.{twoBlocks, three-shown, twiceRank, pairRank, four-shown}
 
 -- the entry at a place
-pub entry-at : {e : List ℕ} → Blocks e → (at : ℕ) → at < entries → (getD e at 0 ≡ blockAt at) × (getD e at 0 ≤ noEntry)
-entry-at {e} b at l =
-    let d : at ≡ at / blockSpace * blockSpace + at % blockSpace = omega arith in
-    let r : getD e at 0 ≡ blockAt at = ap (λ i. getD e i 0) d ∙ b .entry (at / blockSpace) (at % blockSpace) (omega arith) (omega arith) in
-    (r, omega (arith, r, entry-le (at / blockSpace) (at % blockSpace)))
+pub block-at : {e : List ℕ} → Blocks e → (at : ℕ) → at < entries → (getD e at 0 ≡ blockAt at) × (getD e at 0 ≤ noEntry)
+block-at = entry-at (cells 2) (λ t. omega (arith, cells-lt 2 t))
 
 -- two places bit by bit together are the place of what both pairs of masks have
 place-and : (a b z o y n : ℕ) → Place a z o → Place b y n → Place (bitAnd a b) (bitAnd z y) (bitAnd o n)
@@ -30,11 +30,11 @@ place-and a b z o y n p q = (
 )
 
 -- what the places of a lower and an upper half tell: the masks of the three inputs
-abbrev Told : ℕ → ℕ → ℕ → Type 0
-Told low high = PickShown 3 threeSpace (zerosAt low high) (onesAt low high)
+abbrev HalvesShow : ℕ → ℕ → ℕ → Type 0
+HalvesShow low high = PickShown 3 threeSpace (zerosAt low high) (onesAt low high)
 
 places-told : (zeros ones z o low high x : ℕ) → zeros % threeSpace ≡ z → ones % threeSpace ≡ o → Place low zeros ones
-    → Place high (zeros / blockSpace) (ones / blockSpace) → Told low high x → PickShown 3 threeSpace z o x
+    → Place high (zeros / blockSpace) (ones / blockSpace) → HalvesShow low high x → PickShown 3 threeSpace z o x
 places-told zeros ones z o low high x ez eo pl ph s =
     let dz : zerosAt low high ≡ z = omega arith in
     let dn : onesAt low high ≡ o = omega arith in
@@ -42,7 +42,7 @@ places-told zeros ones z o low high x ez eo pl ph s =
 
 -- three inputs: the blocks at two places, and at both together
 pub three-places : (low high a b c : ℕ) → low < entries → a ≡ blockAt low → b ≡ blockAt high → c ≡ blockAt (bitAnd low high)
-    → Told low high (min c (twoBlocks a b))
+    → HalvesShow low high (min c (twoBlocks a b))
 three-places low high a b c l ea eb ec =
     let h : low / blockSpace < blockSpace = omega arith in
     let g : low % blockSpace < blockSpace = omega arith in
@@ -60,14 +60,14 @@ common-low : (x : ℕ) → x < tableSpace → bitAnd x (x / threeSpace) % threeS
 common-low x l = and-mod x (x / threeSpace) (2 ^ 3) ∙ ap (bitAnd (x % threeSpace)) (mod-eq-of-lt (omega arith))
 
 -- a pair of three inputs tells its masks by its two bytes
-pub pair-told : (w x : ℕ) → w < entries * entries → zerosIn w < threeSpace → onesIn w < threeSpace → Told (w % entries) (w / entries) x
+pub pair-told : (w x : ℕ) → w < entries * entries → zerosIn w < threeSpace → onesIn w < threeSpace → HalvesShow (w % entries) (w / entries) x
     → PickShown 3 threeSpace (zerosIn w) (onesIn w) x
 pair-told w x l lz lo s =
     places-told (zerosIn w) (onesIn w) (zerosIn w) (onesIn w) (w % entries) (w / entries) x (mod-eq-of-lt lz) (mod-eq-of-lt lo) (first-place w)
     (subst (λ y. Place y (zerosIn w / blockSpace) (onesIn w / blockSpace)) (mod-eq-of-lt (omega arith)) (byte-place w 1 (omega arith))) s
 
 -- a pair of four inputs, which has four bytes: the places of its blocks, and of what the halves have in common
-pub four-places : (w k l m n a b c : ℕ) → w < 2 ^ pairBits → Told k l a → Told m n b → Told (bitAnd k m) (bitAnd l n) c
+pub four-places : (w k l m n a b c : ℕ) → w < 2 ^ pairBits → HalvesShow k l a → HalvesShow m n b → HalvesShow (bitAnd k m) (bitAnd l n) c
     → k ≡ w % entries → l ≡ fromByte 1 w % entries → m ≡ fromByte 2 w % entries → n ≡ fromByte 3 w
     → PickShown 4 tableSpace (zerosIn w) (onesIn w) (min (twiceRank c) (pairRank a b))
 four-places w k l m n a b c h sa sb sc ek el em en =

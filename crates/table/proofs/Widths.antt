@@ -8,7 +8,7 @@ use Rattle.table.specs.Cells.{cells}
 use Rattle.table.specs.Pick.{leastOf}
 use Rattle.table.specs.Inner.Ranks.{masked, pickOf, rank, tableSpace}
 use Rattle.table.specs.Inner.Pairs.{blockSpace, pairBits, zerosIn, onesIn}
-use Rattle.table.specs.Inner.Blocks.{oneSpace, threeSpace, entries, entryOf, blockOf, blockAt, zerosAt, onesAt, Shown, PickShown, Covered}
+use Rattle.table.specs.Inner.Blocks.{oneSpace, threeSpace, entries, blockEntry, bestBlock, blockOf, blockAt, zerosAt, onesAt, Shown, PickShown, Covered}
 use Rattle.table.proofs.Cells.{cells-halves}
 use Rattle.table.proofs.Count.{repeated}
 use Rattle.table.proofs.Halving.{join, BestTable, least-best}
@@ -48,7 +48,7 @@ one-place w l f = omega (arith, one-byte w l (omega (arith, f .0)) (omega (arith
 
 rank-one : (zeros ones x : ℕ) → zeros < oneSpace → ones < oneSpace → Covered 1 zeros ones → x ≡ blockOf (zeros * (oneSpace + 1)) (ones * (oneSpace + 1))
     → x / threeSpace * tableSpace + x % oneSpace ≡ rank (cells 1) (pickOf (cells 1) 1 zeros ones)
-unfolding blockOf entryOf rank join
+unfolding bestBlock blockEntry rank join
 rank-one zeros ones x lz lo h e =
     let t = pickOf (cells 1) 1 zeros ones in
     let u = t * oneSpace + t in
@@ -56,8 +56,8 @@ rank-one zeros ones x lz lo h e =
     let ez : zeros * (oneSpace + 1) ≡ zeros * oneSpace + zeros = omega arith in
     let eo : ones * (oneSpace + 1) ≡ ones * oneSpace + ones = omega arith in
     let k : x ≡ cells 2 u * threeSpace + u * (blockSpace + 1) =
-    e ∙ ap₂ (λ a b. entryOf (leastOf (cells 2) 2 (masked a b))) ez eo
-    ∙ ap entryOf (least-repeated 1 zeros ones lz lo cells cells-halves t (pick-some (cells 1) 1 zeros ones h)) in
+    e ∙ ap₂ (bestBlock (cells 2)) ez eo
+    ∙ ap (blockEntry (cells 2)) (least-repeated 1 zeros ones lz lo cells cells-halves t (pick-some (cells 1) 1 zeros ones h)) in
     let m : x ≡ cells 1 t * threeSpace + u * (blockSpace + 1) = k ∙ ap (λ y. y * threeSpace + u * (blockSpace + 1)) (repeated 1 t lt) in
     let d = digits (cells 1 t) u x (omega arith) m in
     let f : x ≡ (cells 1 t * 64 + t * 21) * oneSpace + t = omega arith in
@@ -75,13 +75,13 @@ pub two-place : (w : ℕ) → w < 2 ^ pairBits → WidthFits 2 w → w < entries
 two-place w l f = omega (arith, one-byte w l (f .0) (f .1), f .0, f .1)
 
 pub two-inputs : (w x : ℕ) → w < 2 ^ pairBits → x ≡ blockAt w → WidthFits 2 w → x / threeSpace * tableSpace + x % blockSpace ≡ rankIn 2 w
-unfolding blockOf entryOf rank
+unfolding bestBlock blockEntry rank
 two-inputs w x l e f =
     let b = one-byte w l (f .0) (f .1) in
     let z : w / blockSpace ≡ zerosIn w = omega (arith, b, f .0, f .1) in
     let o : w % blockSpace ≡ onesIn w = omega (arith, b, f .0, f .1) in
     let t = pickOf (cells 2) 2 (zerosIn w) (onesIn w) in
-    let k : x ≡ cells 2 t * threeSpace + t * (blockSpace + 1) = e ∙ ap₂ blockOf z o ∙ ap entryOf (pick-some (cells 2) 2 (zerosIn w) (onesIn w) (f .2)) in
+    let k : x ≡ cells 2 t * threeSpace + t * (blockSpace + 1) = e ∙ ap₂ blockOf z o ∙ ap (blockEntry (cells 2)) (pick-some (cells 2) 2 (zerosIn w) (onesIn w) (f .2)) in
     let d = digits (cells 2 t) t x (inside 2 (zerosIn w) (onesIn w) (f .2)) k in
     rw (d .0, d .1)
 

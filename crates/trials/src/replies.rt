@@ -296,6 +296,6 @@ pub fn put_reply(out: &mut [u8], at: usize, s: &[u8], from: usize) -> usize
         b'W' => put_write(kind, out, at, s, from),
         b'R' => put_read(kind, out, at, s, from),
         b'C' => put_clean(out, at, s, from),
-        _ => put_text(out, at, b"unknown kind\n"),
+        _ => put_text(out, at, b"unknown letter\n"),
     }
 }

@@ -2,11 +2,10 @@
 use Prim.Native.Nat.{ℕ, zero, suc, _+_, _*_, _^_, _/_, _%_, _-_, min}
 use mathlib.Core.List.{List, [], _∷_}
 use lib.Bits.{bitAnd, bitOr}
-use Rattle.table.specs.Pick.{leastOf}
-use Rattle.table.specs.Inner.Ranks.{masked, tableSpace}
+use Rattle.table.specs.Inner.Ranks.{tableSpace}
 use Rattle.table.specs.Inner.Pairs.{blockSpace, byteBits, pairBits}
-use Rattle.table.specs.Inner.Blocks.{entries, threeSpace, noEntry}
-use Rattle.nodes.specs.Inner.Tops.{topPrice, quarterEntry}
+use Rattle.table.specs.Inner.Blocks.{entries, threeSpace, noEntry, bestAt}
+use Rattle.nodes.specs.Inner.Tops.{topPrice}
 
 -- a selector, in a rank
 abbrev pub oneNode : ℕ
@@ -25,7 +24,7 @@ allNodes = 0xffff0000
 
 -- the entry of the masks in the lowest byte of `at`
 unfoldable pub quarterEntryAt : ℕ → ℕ
-quarterEntryAt at = quarterEntry (leastOf topPrice 2 (masked (at % entries / blockSpace) (at % entries % blockSpace)))
+quarterEntryAt at = bestAt topPrice (at % entries)
 
 -- the entry at the places of a class: twice the entry has the quarter four times, and the places are cut out
 unfoldable pub classAt : (at places : ℕ) → ℕ
@@ -63,8 +62,8 @@ abbrev pub classIn : (ℕ → ℕ) → List ℕ → ℕ
 classIn byte js = classAt (together byte js) (places js)
 
 -- the masks of the quarters of a pair, each in the lowest byte
-abbrev pub bytesOf : ℕ → ℕ → ℕ
-bytesOf w = four w (w / 2 ^ byteBits) (w / 2 ^ (2 * byteBits)) (w / 2 ^ (3 * byteBits))
+abbrev pub quarterBytes : ℕ → ℕ → ℕ
+quarterBytes w = four w (w / 2 ^ byteBits) (w / 2 ^ (2 * byteBits)) (w / 2 ^ (3 * byteBits))
 
 -- The least over the ways in which quarters coincide, from what the classes give, with no selectors on input 4.
 module _ (F : List ℕ → ℕ) where
@@ -138,7 +137,7 @@ abbrev pub costOf : ℕ → ℕ
 costOf = four (2 * oneNode) 0 oneNode oneNode
 
 abbrev pub wayOf : ℕ → ℕ
-wayOf w = leastWay (classIn (bytesOf w))
+wayOf w = leastWay (classIn (quarterBytes w))
 
 abbrev pub chosen : (w u : ℕ) → ℕ
 chosen w u = wayOf (choiceOf w u) + costOf u

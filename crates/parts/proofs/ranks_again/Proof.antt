@@ -2,7 +2,7 @@ use native.Mathlib.Omega.{arith}
 use lib.ListN.{getD}
 use Rattle.table.proofs.Bits.{tabulate-four}
 use Rattle.parts.specs.Inner.Parts.{rankAgain, ranksAgain}
-use Rattle.parts.specs.Inner.Boards.{kindIn, inputsIn}
+use Rattle.parts.specs.Inner.Boards.{kindIn, boardInputs}
 use borrow.Author.Needs.{needs}
 use Rattle.parts.proofs.ranks_again.Statement.{statement}
 use Rattle.parts.proofs.ranks_again.Tie as tie
@@ -47,7 +47,7 @@ returns : tie.Need-returns
 unfolding ranksAgain
 returns c =
     let a = c .before .before .before .before .args in
-    tabulate-four (λ j. rankAgain (kindIn (a .board)) (inputsIn (a .board)) (getD (a .t3) j 0) (a .p) j (a .set) (getD (a .t6) j 0))
+    tabulate-four (λ j. rankAgain (kindIn (a .board)) (boardInputs (a .board)) (getD (a .t3) j 0) (a .p) j (a .set) (getD (a .t6) j 0))
     (c .before .before .before .rank-again .ensures) (c .before .before .rank-again2 .ensures) (c .before .rank-again3 .ensures) (c .rank-again4 .ensures)
 
 pub ranks-again-spec : {M : Type 1} → statement M

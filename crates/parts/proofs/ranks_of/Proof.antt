@@ -2,7 +2,7 @@ use native.Mathlib.Omega.{arith}
 use lib.ListN.{getD}
 use Rattle.table.proofs.Bits.{tabulate-four}
 use Rattle.parts.specs.Inner.Parts.{rankBetween, ranksBetween}
-use Rattle.parts.specs.Inner.Boards.{kindIn, inputsIn}
+use Rattle.parts.specs.Inner.Boards.{kindIn, boardInputs}
 use borrow.Author.Needs.{needs}
 use Rattle.parts.proofs.ranks_of.Statement.{statement}
 use Rattle.parts.proofs.ranks_of.Tie as tie
@@ -35,7 +35,7 @@ returns : tie.Need-returns
 unfolding ranksBetween
 returns c =
     let a = c .before .before .before .before .args in
-    tabulate-four (λ j. rankBetween (kindIn (a .board)) (inputsIn (a .board)) (getD (a .t3) j 0))
+    tabulate-four (λ j. rankBetween (kindIn (a .board)) (boardInputs (a .board)) (getD (a .t3) j 0))
     (c .before .before .before .pick-on .ensures) (c .before .before .pick-on2 .ensures) (c .before .pick-on3 .ensures) (c .pick-on4 .ensures)
 
 pub ranks-of-spec : {M : Type 1} → statement M

@@ -1,5 +1,5 @@
 use mathlib.Core.Path.{ap, _∙_}
-use Rattle.parts.specs.Inner.Boards.{kindIn, inputsIn}
+use Rattle.parts.specs.Inner.Boards.{kindIn, boardInputs}
 use Rattle.parts.specs.Inner.Parts.{ranksBetween}
 use Rattle.parts.proofs.Keeping.{pairs-cover, ranks-between}
 use borrow.Author.Needs.{needs}
@@ -25,7 +25,7 @@ returns c =
     let q = c .before .before .before .pre in
     let x = c .before .pairs-of .ensures in
     let k = kindIn (a .board) in
-    let n = inputsIn (a .board) in
+    let n = boardInputs (a .board) in
     record { sized = q .1; sets = q .2; pairs = x; ranks = c .ranks-of .ensures ∙ ap (ranksBetween k n) x ∙ ranks-between k n (a .sets) }
 
 pub whole-part-spec : {M : Type 1} → statement M

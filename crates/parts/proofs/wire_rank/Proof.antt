@@ -1,6 +1,6 @@
 use mathlib.Core.Path.{ap, _∙_}
 use Rattle.parts.specs.Inner.Parts.{rankBetween}
-use Rattle.parts.specs.Inner.Boards.{kindIn, inputsIn}
+use Rattle.parts.specs.Inner.Boards.{kindIn, boardInputs}
 use Rattle.parts.proofs.Keeping.{pair-covers, rank-between}
 use borrow.Author.Needs.{needs}
 use Rattle.parts.proofs.wire_rank.Statement.{statement}
@@ -24,7 +24,7 @@ returns : tie.Need-returns
 returns c =
     let a = c .before .before .before .args in
     let k = kindIn (a .board) in
-    let n = inputsIn (a .board) in
+    let n = boardInputs (a .board) in
     c .pick-on .ensures ∙ ap (rankBetween k n) (c .before .pair-of .ensures) ∙ rank-between k n (a .sets) (a .j)
 
 pub wire-rank-spec : {M : Type 1} → statement M

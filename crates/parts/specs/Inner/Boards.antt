@@ -20,8 +20,8 @@ boardNumber Sharing n = sharingMark + n
 unfoldable pub kindIn : ℕ → BoardKind
 kindIn board = cond (ltb board sharingMark) Tree Sharing
 
-unfoldable pub inputsIn : ℕ → ℕ
-inputsIn board = board % sharingMark
+unfoldable pub boardInputs : ℕ → ℕ
+boardInputs board = board % sharingMark
 
 -- the table that is lent for picks
 abbrev pub LentFor : BoardKind → List ℕ → Type 0

@@ -14,15 +14,15 @@ abbrev pub mostNumbers : ℕ
 mostNumbers = firstNumber + mostEntries
 
 -- an array tells what each number below k has
-abbrev pub Tells : (has : ℕ → ℕ) (k : ℕ) → List ℕ → Type 0
-Tells has k l = (x : ℕ) → x < k → getD l x 0 ≡ has x
+abbrev pub TellsBelow : (has : ℕ → ℕ) (k : ℕ) → List ℕ → Type 0
+TellsBelow has k l = (x : ℕ) → x < k → getD l x 0 ≡ has x
 
 -- The arrays tell every number so far. The code keeps them and not the entries, so contracts speak of any entries that they tell.
 abbrev pub InputsTell : (n : ℕ) → List Entry → (inputs : List ℕ) → Type 0
-InputsTell n es = Tells (inputAt n es) (nextNumber es)
+InputsTell n es = TellsBelow (inputAt n es) (nextNumber es)
 
 abbrev pub TablesTell : (n : ℕ) → List Entry → (tables : List ℕ) → Type 0
-TablesTell n es = Tells (λ x. drawnTable diagramDrawing n (diagram es x)) (nextNumber es)
+TablesTell n es = TellsBelow (λ x. drawnTable diagramDrawing n (diagram es x)) (nextNumber es)
 
 -- the entry that stands at a place of the sheet
 abbrev pub entryThere : List ℕ → ℕ → Entry

@@ -1,4 +1,5 @@
--- The picks of all pairs of masks of two inputs, as one table with an entry for each pair.
+-- The least tables of two inputs, by what a table counts for, between all pairs of masks: one list with an entry for each pair. Where the cells count, these
+-- are the picks.
 use Prim.Native.Nat.{ℕ, _+_, _*_, _/_, _%_, _^_, _<_, _≤_}
 use mathlib.Core.Path.{_≡_}
 use mathlib.Core.List.{List}
@@ -28,21 +29,31 @@ noTable = 64
 abbrev pub noEntry : ℕ
 noEntry = noTable * threeSpace
 
--- cells, then the table twice side by side
-unfoldable pub entryOf : Option ℕ → ℕ
-entryOf none = noEntry
-entryOf (some t) = cells 2 t * threeSpace + t * (blockSpace + 1)
+-- what a table counts for, then the table twice side by side
+unfoldable pub blockEntry : (ℕ → ℕ) → Option ℕ → ℕ
+blockEntry count none = noEntry
+blockEntry count (some t) = count t * threeSpace + t * (blockSpace + 1)
 
-unfoldable pub blockOf : ℕ → ℕ → ℕ
-blockOf zeros ones = entryOf (leastOf (cells 2) 2 (masked zeros ones))
+unfoldable pub bestBlock : (ℕ → ℕ) → (zeros ones : ℕ) → ℕ
+bestBlock count zeros ones = blockEntry count (leastOf count 2 (masked zeros ones))
 
 -- the entry of two masks stands at the place zeros * blockSpace + ones
-pub record Blocks (e : List ℕ) : Type 0 where
-  pub entry : (zeros ones : ℕ) → zeros < blockSpace → ones < blockSpace → getD e (zeros * blockSpace + ones) 0 ≡ blockOf zeros ones
+pub record BestBlocks (count : ℕ → ℕ) (e : List ℕ) : Type 0 where
+  pub entry : (zeros ones : ℕ) → zeros < blockSpace → ones < blockSpace → getD e (zeros * blockSpace + ones) 0 ≡ bestBlock count zeros ones
 
 -- the entry at a place
+abbrev pub bestAt : (ℕ → ℕ) → ℕ → ℕ
+bestAt count at = bestBlock count (at / blockSpace) (at % blockSpace)
+
+-- the same where the cells count
+abbrev pub Blocks : List ℕ → Type 0
+Blocks = BestBlocks (cells 2)
+
+abbrev pub blockOf : (zeros ones : ℕ) → ℕ
+blockOf = bestBlock (cells 2)
+
 abbrev pub blockAt : ℕ → ℕ
-blockAt at = blockOf (at / blockSpace) (at % blockSpace)
+blockAt = bestAt (cells 2)
 
 -- the masks of three inputs whose lower and upper half stand at two places
 abbrev pub zerosAt : (low high : ℕ) → ℕ

@@ -9,7 +9,7 @@ use lib.Seq.{set-getD}
 use Rattle.sheet.specs.Limits.{maxPatterns}
 use Rattle.relation.specs.Tests.{ofSets, openPairs}
 use Rattle.relation.specs.Inner.Members.{withBit}
-use Rattle.parts.specs.Inner.Boards.{kindIn, inputsIn}
+use Rattle.parts.specs.Inner.Boards.{kindIn, boardInputs}
 use Rattle.search.specs.Inner.Conflicts.{Settled}
 use Rattle.search.specs.Inner.Tally.{stateOf}
 use Rattle.search.proofs.Carrying.{carried-tables, pattern-lt}
@@ -36,10 +36,10 @@ use Rattle.search.proofs.branches.+split+visit.{statement}
 use Rattle.search.proofs.branches.+split+visit.Tie.{close}
 
 abbrev μ-split : Measures 4 split-kinds.ps ℕ
-μ-split κs a = 2 * openPairs (inputsIn (a .1 .1 .1 .1 .0)) (a .1 .1 .1 .1 .1 .0) (ofSets (a .1 .0 .now))
+μ-split κs a = 2 * openPairs (boardInputs (a .1 .1 .1 .1 .0)) (a .1 .1 .1 .1 .1 .0) (ofSets (a .1 .0 .now))
 
 abbrev μ-visit : Measures 4 visit-kinds.ps ℕ
-μ-visit κs a = 2 * openPairs (inputsIn (a .1 .1 .1 .1 .0)) (a .1 .1 .1 .1 .1 .0) (ofSets (a .1 .0 .now)) + 1
+μ-visit κs a = 2 * openPairs (boardInputs (a .1 .1 .1 .1 .0)) (a .1 .1 .1 .1 .1 .0) (ofSets (a .1 .0 .now)) + 1
 
 abbrev split-at : ℕ → In 4 split-kinds.ps
 split-at t = and 4 split-kinds.ps (is 4 split-kinds.ps μ-split t) split.Pre
@@ -91,14 +91,14 @@ split-with-bit-requires-2 t c κs = let q = c .before .before .pre .1 in (omega 
 -- the two parts
 split-half : {t : ℕ} (c : split-lts.Start (split-claims t) (split-at t) split.Post) (b : ℕ) → b < 2 → {w : ℕ}
     → w ≡ withBit (getD (c .args .sets .now) (c .args .p) 0) (c .args .j) b
-    → Half (kindIn (c .args .board)) (inputsIn (c .args .board)) (c .args .m) (c .args .sets .now) (c .args .pairs) (c .args .ranks) (c .args .p) (c .args .j) b w
+    → Half (kindIn (c .args .board)) (boardInputs (c .args .board)) (c .args .m) (c .args .sets .now) (c .args .pairs) (c .args .ranks) (c .args .p) (c .args .j) b w
 split-half c b lb e =
     let q = c .pre .1 in
     record { carried = q .1; pattern = q .2; wire = q .3; is-open = q .4; side = lb; left = e }
 
 split-zero : {t : ℕ} (c : split-lts.After-floor-of2 (split-claims t) (split-at t) split.Post)
     → let a = c .before .before .before .before .before .before .before .before .before .args in
-    Made (kindIn (a .board)) (inputsIn (a .board)) (a .m) (a .sets .now) (a .pairs) (a .ranks) (a .p) (a .j) 0 (c .before .before .before .before .before .before .before .with-bit .result)
+    Made (kindIn (a .board)) (boardInputs (a .board)) (a .m) (a .sets .now) (a .pairs) (a .ranks) (a .p) (a .j) 0 (c .before .before .before .before .before .before .before .with-bit .result)
     (c .before .before .before .before .before .cut-pairs .result) (c .before .before .before .ranks-again .result) (c .before .floor-of .result)
 split-zero c =
     record {
@@ -111,7 +111,7 @@ split-zero c =
 
 split-one : {t : ℕ} (c : split-lts.After-floor-of2 (split-claims t) (split-at t) split.Post)
     → let a = c .before .before .before .before .before .before .before .before .before .args in
-    Made (kindIn (a .board)) (inputsIn (a .board)) (a .m) (a .sets .now) (a .pairs) (a .ranks) (a .p) (a .j) 1 (c .before .before .before .before .before .before .with-bit2 .result)
+    Made (kindIn (a .board)) (boardInputs (a .board)) (a .m) (a .sets .now) (a .pairs) (a .ranks) (a .p) (a .j) 1 (c .before .before .before .before .before .before .with-bit2 .result)
     (c .before .before .before .before .cut-pairs2 .result) (c .before .before .ranks-again2 .result) (c .floor-of2 .result)
 split-one c =
     record {
@@ -163,7 +163,7 @@ split-first-change-requires t c κs = split-pattern (c .before .before .before .
 -- no part is treated yet
 split-none : {t : ℕ} (c : split-lts.Start (split-claims t) (split-at t) split.Post)
     → let a = c .args in
-    Reached (kindIn (a .board)) (inputsIn (a .board)) (a .m) (a .budget) (a .sets .now) (a .p) (a .j) (stateOf (a .best .now) (a .tally .now)) 0 (a .sets .now) (a .best .now) (a .tally .now)
+    Reached (kindIn (a .board)) (boardInputs (a .board)) (a .m) (a .budget) (a .sets .now) (a .p) (a .j) (stateOf (a .best .now) (a .tally .now)) 0 (a .sets .now) (a .best .now) (a .tally .now)
 split-none c = none-reached (c .pre .1 .6)
 
 split-visit-requires : (t : ℕ) → split-lts.Need-visit-requires (split-claims t) (split-at t) split.Post
@@ -178,7 +178,7 @@ split-visit-requires t c κs =
 -- once the first part is treated
 split-first : (t : ℕ) (c : split-lts.Joined1 (split-claims t) (split-at t) split.Post)
     → let a = c .before .before .before .before .before .before .before .before .before .before .before .args in
-    Reached (kindIn (a .board)) (inputsIn (a .board)) (a .m) (a .budget) (a .sets .now) (a .p) (a .j) (stateOf (a .best .now) (a .tally .now)) 1 (c .if1 .sets) (c .if1 .best) (c .if1 .tally)
+    Reached (kindIn (a .board)) (boardInputs (a .board)) (a .m) (a .budget) (a .sets .now) (a .p) (a .j) (stateOf (a .best .now) (a .tally .now)) 1 (c .if1 .sets) (c .if1 .best) (c .if1 .tally)
 split-first t c =
     let made = split-zero (c .before .before) in
     let at = split-none (c .before .before .before .before .before .before .before .before .before .before .before) in
@@ -208,7 +208,7 @@ split-visit-requires-2 t c κs =
 -- and once the second is
 split-second : (t : ℕ) (c : split-lts.Joined2 (split-claims t) (split-at t) split.Post)
     → let a = c .before .before .before .before .before .before .before .before .before .before .before .before .before .args in
-    Reached (kindIn (a .board)) (inputsIn (a .board)) (a .m) (a .budget) (a .sets .now) (a .p) (a .j) (stateOf (a .best .now) (a .tally .now)) 2 (c .if2 .sets) (c .if2 .best) (c .if2 .tally)
+    Reached (kindIn (a .board)) (boardInputs (a .board)) (a .m) (a .budget) (a .sets .now) (a .p) (a .j) (stateOf (a .best .now) (a .tally .now)) 2 (c .if2 .sets) (c .if2 .best) (c .if2 .tally)
 split-second t c =
     let made = split-one (c .before .before .before .before) in
     let at = split-first t (c .before .before) in

@@ -2,7 +2,7 @@ use Rattle.base.proofs.Tests.{told-yes, told-no, denied, granted}
 use Rattle.search.specs.declared.SplitPlace.the-variants.{Pair}
 use Rattle.branch_bound.specs.Search.{picks}
 use Rattle.branch_bound.specs.Boards.{boardOf}
-use Rattle.parts.specs.Inner.Boards.{kindIn, inputsIn}
+use Rattle.parts.specs.Inner.Boards.{kindIn, boardInputs}
 use Rattle.search.specs.Inner.Conflicts.{Settled, splitPlace}
 use borrow.Author.Needs.{needs}
 use mir.Val.{Fits}
@@ -30,7 +30,7 @@ abbrev μ-loop : tie.MeasureT-loop
 
 -- the tables, which the loops do not read, are named as the picks that they are
 abbrev Inv-patterns : tie.InvT-patterns
-Inv-patterns board m from sets count side p₀ j₀ p j = (p ≤ count) × Settled m sets (picks (boardOf (kindIn board) (inputsIn board) m) (ofSets sets)) p
+Inv-patterns board m from sets count side p₀ j₀ p j = (p ≤ count) × Settled m sets (picks (boardOf (kindIn board) (boardInputs board) m) (ofSets sets)) p
 
 abbrev μ-patterns : tie.MeasureT-patterns
 μ-patterns board m from sets count side p₀ j₀ p j = count - p
@@ -99,7 +99,7 @@ patterns-again c =
     let q = c .before .before .before .before .before .before .before .before .before .pre in
     let p = c .before .before .before .before .before .patterns .p in
     let small : (j : ℕ) → Fits w16 (getD (a .tables) j 0) = λ j. search needs in
-    let lp : p < 2 ^ inputsIn (a .board) = omega (arith, counted (c .before .before .before .before .before .before .before .before .inputs-of .ensures) (c .before .before .before .before .before .before .before .patterns-of .ensures .2) (q .0 .n-most)) in
+    let lp : p < 2 ^ boardInputs (a .board) = omega (arith, counted (c .before .before .before .before .before .before .before .before .inputs-of .ensures) (c .before .before .before .before .before .before .before .patterns-of .ensures .2) (q .0 .n-most)) in
     let v = c .before .before .value-in in
     let side = c .before .before .before .before .before .before .side-by-side .ensures in
     let here = allowed-test (kindIn (a .board)) (q .0) (q .1) (q .2) (λ j. small j .fits) p (omega arith) side (v .ensures .0) (c .before .contains .ensures) in (
@@ -118,7 +118,7 @@ returns c =
     let p = c .before .before .patterns .p in
     let small : (j : ℕ) → Fits w16 (getD (a .tables) j 0) = λ j. search needs in
     let few = c .before .before .before .before .patterns-of .ensures in
-    let lp : p < 2 ^ inputsIn (a .board) = omega (arith, c .if3 .taken, counted (c .before .before .before .before .before .inputs-of .ensures) (few .2) (q .0 .n-most)) in
+    let lp : p < 2 ^ boardInputs (a .board) = omega (arith, c .if3 .taken, counted (c .before .before .before .before .before .inputs-of .ensures) (few .2) (q .0 .n-most)) in
     ⊎-elim
     (λ w. absurd (omega (arith, w .0 .left, c .if3 .taken)))
     (λ w.
@@ -130,7 +130,7 @@ returns c =
     ∙ sym
     (pair-open (kindIn (a .board)) (q .0) (q .1) refl p j lp (omega (arith, w .6 .taken)) (c .before .before .patterns .inv .1) (denied here (w .4 .taken)) (w .5 .inv .1)
     (told-yes (w .7 .ensures ∙ free-test (kindIn (a .board)) (q .0) (q .1) (q .2) p j) (w .8 .taken)))
-    ∙ ap (λ ts. splitPlace (inputsIn (a .board)) (a .m) (ofSets (a .sets .now)) (wires ts)) (sym (q .2)))
+    ∙ ap (λ ts. splitPlace (boardInputs (a .board)) (a .m) (ofSets (a .sets .now)) (wires ts)) (sym (q .2)))
     (c .before .patterns-test .came)
 
 returns-2 : tie.Need-returns-2 Inv-loop μ-loop Inv-patterns μ-patterns
@@ -140,7 +140,7 @@ returns-2 c =
     ⊎-elim
     (λ w. sym (none-open (kindIn (a .board)) (q .0) (q .1) refl
     (λ p l. c .before .before .patterns .inv .1 p (omega (arith, w .0 .left, counted (c .before .before .before .before .before .inputs-of .ensures) (c .before .before .before .before .patterns-of .ensures .2) (q .0 .n-most)))))
-    ∙ ap (λ ts. splitPlace (inputsIn (a .board)) (a .m) (ofSets (a .sets .now)) (wires ts)) (sym (q .2)))
+    ∙ ap (λ ts. splitPlace (boardInputs (a .board)) (a .m) (ofSets (a .sets .now)) (wires ts)) (sym (q .2)))
     (λ w. absurd (omega (arith, w .0 .taken, c .if3 .left)))
     (c .before .patterns-test .came)
 

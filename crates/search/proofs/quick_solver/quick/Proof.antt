@@ -2,27 +2,27 @@ use Prim.Native.Nat.{_-_}
 use mathlib.Core.Path.{_≡_, refl, ap, sym, _∙_}
 use native.Mathlib.Omega.{arith}
 use borrow.Author.Needs.{needs}
-use Rattle.parts.specs.Inner.Boards.{kindIn, inputsIn}
+use Rattle.parts.specs.Inner.Boards.{kindIn, boardInputs}
 use Rattle.parts.specs.Inner.Parts.{rankOf}
 use Rattle.search.proofs.FirstAnswer.{ChosenBelow, none-taken, next-taken, all-taken}
 use Rattle.search.proofs.quick_solver.quick.Statement.{statement}
 use Rattle.search.proofs.quick_solver.quick.Tie as tie
 
 abbrev Inv-loop : tie.InvT-loop
-Inv-loop e board m first left₀ tables₀ cells₀ j₀ left tables cells j = ChosenBelow (kindIn board) (inputsIn board) m left₀ j left tables cells × (j ≡ 0 → left ≡ left₀)
+Inv-loop e board m first left₀ tables₀ cells₀ j₀ left tables cells j = ChosenBelow (kindIn board) (boardInputs board) m left₀ j left tables cells × (j ≡ 0 → left ≡ left₀)
 
 abbrev μ-loop : tie.MeasureT-loop
 μ-loop e board m first left₀ tables₀ cells₀ j₀ left tables cells j = m - j
 
 loop-holds : tie.Need-loop-holds Inv-loop μ-loop
-loop-holds c = (none-taken (kindIn (c .args .board)) (inputsIn (c .args .board)) (c .args .m) (c .args .sets) (c .pre .2), λ _. refl)
+loop-holds c = (none-taken (kindIn (c .args .board)) (boardInputs (c .args .board)) (c .args .m) (c .args .sets) (c .pre .2), λ _. refl)
 
 rank-left-requires : tie.Need-rank-left-requires Inv-loop μ-loop
 rank-left-requires c κs =
     let a = c .before .before .args in
     let q = c .before .before .pre in
     let l = c .before .loop in
-    (q .0, q .1, l .inv .0 .kept, omega (arith, q .1 .m-most), λ e. q .3 ∙ ap (λ s. rankOf (kindIn (a .board)) (inputsIn (a .board)) s 0) (sym (l .inv .1 e)))
+    (q .0, q .1, l .inv .0 .kept, omega (arith, q .1 .m-most), λ e. q .3 ∙ ap (λ s. rankOf (kindIn (a .board)) (boardInputs (a .board)) s 0) (sym (l .inv .1 e)))
 
 table-of-requires : tie.Need-table-of-requires Inv-loop μ-loop
 table-of-requires c κs = search needs

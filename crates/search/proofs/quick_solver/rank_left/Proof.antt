@@ -1,5 +1,5 @@
 use mathlib.Core.Path.{_≡_, ap, sym, _∙_}
-use Rattle.parts.specs.Inner.Boards.{kindIn, inputsIn}
+use Rattle.parts.specs.Inner.Boards.{kindIn, boardInputs}
 use Rattle.parts.specs.Inner.Parts.{rankOf}
 use borrow.Author.Needs.{needs}
 use Rattle.search.proofs.quick_solver.rank_left.Statement.{statement}
@@ -12,7 +12,7 @@ returns : tie.Need-returns
 returns c =
     let a = c .before .args in
     let e : a .j ≡ 0 = c .if1 .taken in
-    c .before .pre .4 e ∙ ap (rankOf (kindIn (a .board)) (inputsIn (a .board)) (a .left)) (sym e)
+    c .before .pre .4 e ∙ ap (rankOf (kindIn (a .board)) (boardInputs (a .board)) (a .left)) (sym e)
 
 returns-2 : tie.Need-returns-2
 returns-2 c = search needs

@@ -1,6 +1,6 @@
 -- `block` meets its contract: the entry at its place.
 use native.Mathlib.Omega.{arith}
-use Rattle.table.proofs.Places.{entry-at}
+use Rattle.table.proofs.Places.{block-at}
 use borrow.Author.Needs.{needs}
 use Rattle.table.proofs.picks.block.Statement.{statement}
 use Rattle.table.proofs.picks.block.Tie as tie
@@ -12,10 +12,10 @@ element-copy-out-result : tie.Need-element-copy-out-result
 element-copy-out-result c = search needs
 
 cast-result : tie.Need-cast-result
-cast-result c = omega (arith, entry-at (c .before .pre .0) (c .before .args .at) (c .before .pre .1) .1)
+cast-result c = omega (arith, block-at (c .before .pre .0) (c .before .args .at) (c .before .pre .1) .1)
 
 returns : tie.Need-returns
-returns c = entry-at (c .before .pre .0) (c .before .args .at) (c .before .pre .1)
+returns c = block-at (c .before .pre .0) (c .before .args .at) (c .before .pre .1)
 
 pub block-spec : {M : Type 1} → statement M
 block-spec = tie.close (tie.spec mul-result element-copy-out-result cast-result returns)
