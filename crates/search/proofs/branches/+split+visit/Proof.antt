@@ -234,7 +234,7 @@ visit-returns t c =
     let i = c .before .before in
     let a = i .args in
     let q = i .pre .1 in
-    (refl, discards (q .1) (a .budget) (stateOf (a .best .now) (a .tally .now)) (q .2) (le→leb _ _ (c .if1 .taken)), q .5)
+    (refl, discards (q .1) (a .budget) (stateOf (a .best .now) (a .tally .now)) (q .2) (le→leb (getD (a .tally .now) 0 0) (a .floor) (omega (arith, c .if1 .taken))), q .5)
 
 visit-element-copy-out-if2 : (t : ℕ) → visit-lts.Need-element-copy-out-if2 (visit-claims t) (visit-at t) visit.Post
 visit-element-copy-out-if2 t c = search needs

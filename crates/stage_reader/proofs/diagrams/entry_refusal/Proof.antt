@@ -31,14 +31,14 @@ returns-2 : tie.Need-returns-2
 unfolding entryRefusal
 returns-2 c es e t =
     let a = c .before .before .before .args in
-    rw (in-range (c .before), e, le-leb (a .own) (a .zero) (c .if2 .taken))
+    rw (in-range (c .before), e, le-leb (a .own) (a .zero) (omega (arith, c .if2 .taken)))
 
 returns-3 : tie.Need-returns-3
 unfolding entryRefusal
 returns-3 c es e t =
     let c2 = c .before in
     let a = c2 .before .before .before .args in
-    rw (in-range (c2 .before), e, lt-leb (a .own) (a .zero) (c2 .if2 .left), le-leb (a .own) (a .one) (c .if3 .taken))
+    rw (in-range (c2 .before), e, lt-leb (a .own) (a .zero) (c2 .if2 .left), le-leb (a .own) (a .one) (omega (arith, c2 .if2 .left, c .if3 .taken)))
 
 -- and lower numbers: the inputs that these test decide
 abbrev start : tie.Else3 → tie.Start
@@ -74,7 +74,7 @@ element-copy-out-if4 c = search needs
 returns-4 : tie.Need-returns-4
 returns-4 c es e t =
     let c3 = c .before .before in
-    rw (lower c3 es e t, le-leb (zero-input c3) _ (c .if4 .taken))
+    rw (lower c3 es e t, le-leb (zero-input c3) (start c3 .args .i) (omega (arith, c .if4 .taken)))
 
 element-copy-out-if5 : tie.Need-element-copy-out-if5
 element-copy-out-if5 c = search needs
@@ -83,7 +83,7 @@ returns-5 : tie.Need-returns-5
 returns-5 c es e t =
     let c4 = c .before .before in
     let c3 = c4 .before .before in
-    rw (lower c3 es e t, lt-leb (zero-input c3) _ (c4 .if4 .left), le-leb (one-input c3) _ (c .if5 .taken))
+    rw (lower c3 es e t, lt-leb (zero-input c3) _ (c4 .if4 .left), le-leb (one-input c3) (start c3 .args .i) (omega (arith, c .if5 .taken)))
 
 returns-6 : tie.Need-returns-6
 returns-6 c es e t =

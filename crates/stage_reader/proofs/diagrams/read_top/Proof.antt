@@ -1,5 +1,6 @@
 -- `read_top` meets its contract: a number that the array tells, or none.
 use Prim.Native.Nat.{_<_, _≤_}
+use native.Mathlib.Omega.{arith}
 use lib.ListN.{getD}
 use Rattle.diagram.specs.Diagram.{nextNumber}
 use Rattle.diagram.specs.Diagrams.{diagramDrawing}
@@ -29,7 +30,7 @@ returns-2 : tie.Need-returns-2
 returns-2 c n es e tell counted =
     let d = c .before .before .before in
     let a = d .before .before .args in
-    let past : nextNumber es ≤ getD (a .s .now) (a .at) 0 = rw e (c .before .if2 .taken) in
+    let past : nextNumber es ≤ getD (a .s .now) (a .at) 0 = omega (arith, e, c .before .if2 .taken) in
     step-refused diagramDrawing _ _ _ _ (top-past (a .s .now) es (a .at) (d .if1 .left) past) (c .at2 .ensures)
 
 cast-t7 : tie.Need-cast-t7

@@ -8,7 +8,7 @@ use Rattle.stage_reader.proofs.due.turn_number.Tie as tie
 returns : tie.Need-returns
 returns c =
     let a = c .before .args in
-    rw (le-leb (a .m) (a .i) (c .if1 .taken))
+    rw (le-leb (a .m) (a .i) (omega (arith, c .if1 .taken)))
 
 returns-2 : tie.Need-returns-2
 returns-2 c =
