@@ -1,5 +1,5 @@
--- Worked rows, computed from the meanings: the nodes of small tables, the majority of three inputs written and read, idle entries counted, and one row for each
--- refusal of a sharing stage sheet.
+-- Worked rows, computed from the meanings: the majority of three inputs written and read, idle entries counted, and one row for each refusal of a sharing stage
+-- sheet.
 use Prim.Native.Nat.{ℕ}
 use mathlib.Core.Path.{_≡_, refl}
 use mathlib.Core.List.{List, [], _∷_}
@@ -7,7 +7,7 @@ use Rattle.base.specs.Refusals.{refusalAt, cutShort, unknown, outOfRange, trail
 use Rattle.table.specs.Bits.{bit, sum, ofBits}
 use Rattle.table.specs.Cells.{low, high}
 use Rattle.table.specs.Drawing.{got, noStage, drawnTable}
-use Rattle.nodes.specs.Nodes.{same, has, listing, price, weight, nodes}
+use Rattle.nodes.specs.Nodes.{same, has, listing}
 use Rattle.stage.specs.Steps.{andThen, misplaced, dueNumber, due, operand}
 use Rattle.stage.specs.Bytes.{wiresBytes, stageBytes}
 use Rattle.stage.specs.Read.{wiresAt, nothingAfter, endAt, closed, readSheet}
@@ -18,35 +18,18 @@ use Rattle.diagram.specs.Read.{entryRefusal, entryAt, entriesAt, topAt, 
 use Rattle.diagram.specs.Written.{nodeNumber, numberOf, entriesOf, reducedDiagram}
 use Rattle.diagram.specs.Diagrams.{diagramForm, diagramDrawing, readDiagrams}
 
--- all meanings of the count, of diagrams, of writing, and of reading, open
-unfoldable counting : ℕ
-unfolding low high same has listing price weight nodes
-counting = 0
-
+-- all meanings of diagrams, of writing, and of reading, open
 unfoldable drawing : ℕ
 unfolding inputAt followEntry entryPrice entriesCells
 drawing = 0
 
 unfoldable writing : ℕ
-unfolding counting nodeNumber numberOf entriesOf reducedDiagram entriesBytes diagramWireBytes wiresBytes stageBytes stageDrawn stageOf
+unfolding low high same has listing nodeNumber numberOf entriesOf reducedDiagram entriesBytes diagramWireBytes wiresBytes stageBytes stageDrawn stageOf
 writing = 0
 
 unfoldable reading : ℕ
 unfolding andThen misplaced dueNumber due operand inputAt entryRefusal entryAt entriesAt topAt diagramWireAt wiresAt nothingAfter endAt closed readSheet
 reading = 0
-
--- the majority of three inputs needs four selectors, their parity five, the parity of four inputs seven
-pub majority-nodes : nodes 3 0xE8 ≡ 4
-unfolding counting
-majority-nodes = refl
-
-pub parity-nodes : nodes 3 0x96 ≡ 5
-unfolding counting
-parity-nodes = refl
-
-pub parity-four-nodes : nodes 4 0x6996 ≡ 7
-unfolding counting
-parity-four-nodes = refl
 
 -- input 3; it and input 2; it or input 2; and the choice between these by input 1
 abbrev majority : Diagram

@@ -1,6 +1,6 @@
--- Laws of the listing: it keeps what it had, lists what it is asked for, and nothing twice.
+-- Laws of the listing: what it is for small tables; it keeps what it had, lists what it is asked for, and nothing twice.
 use Prim.Native.Nat.{ℕ, zero, suc, _≤_}
-use mathlib.Core.Path.{_≡_, ap}
+use mathlib.Core.Path.{_≡_, refl, ap}
 use mathlib.Core.Logic.{⊎-elim}
 use mathlib.Core.Bool.{not}
 use mathlib.Core.List.{List, [], _∷_}
@@ -8,9 +8,36 @@ use native.Mathlib.Omega.{arith}
 use lib.Dec.{T, T-not, not-T, eqb, eqb→eq}
 use Rattle.base.proofs.Tests.{cond-has, eq-test}
 use Rattle.table.specs.Cells.{low, high}
-use Rattle.nodes.specs.Nodes.{Node, node, has, listing}
+use Rattle.nodes.specs.Nodes.{Node, node, same, has, listing, price, weight, nodes}
 use Rattle.nodes.specs.Subfunctions.{Distinct}
 use Rattle.nodes.proofs.Lists.{has-later, has-cases}
+
+-- Worked rows, computed from the meanings.
+unfoldable counting : ℕ
+unfolding low high same has listing price weight nodes
+counting = 0
+
+-- the majority of three inputs: input 3; it and input 2; it or input 2; and the choice between these by input 1. The latest stands first
+pub majority-listed : listing 3 0xE8 [] ≡ node 2 0xE8 ∷ node 1 0xE ∷ node 1 0x8 ∷ node 0 0x2 ∷ []
+unfolding counting
+majority-listed = refl
+
+-- the parity of three inputs needs five selectors, that of four inputs seven; input 2 of three needs one, and a constant none
+pub parity-nodes : nodes 3 0x96 ≡ 5
+unfolding counting
+parity-nodes = refl
+
+pub parity-four-nodes : nodes 4 0x6996 ≡ 7
+unfolding counting
+parity-four-nodes = refl
+
+pub input-nodes : nodes 3 0xCC ≡ 1
+unfolding counting
+input-nodes = refl
+
+pub constant-nodes : nodes 4 0xFFFF ≡ 0
+unfolding counting
+constant-nodes = refl
 
 -- what holds of every visit: by the four ways that a visit can go
 module _

@@ -6,7 +6,6 @@ ghost use mathlib.Core.Path.{_≡_};
 ghost use mathlib.Core.List.{[], _∷_};
 ghost use Prim.Native.Nat.{_+_, _^_, _<_, _≤_};
 ghost use Rattle.sheet.specs.Limits.{maxInputs};
-ghost use Rattle.stage.specs.Bytes.{selectorBytes};
 ghost use Rattle.diagram.specs.Bytes.{longestShared};
 ghost use Rattle.base.specs.Inner.Put.{Put};
 
@@ -31,7 +30,7 @@ pub fn put_with_operand(buffer: &mut [u8], at: usize, command: u8, operand: u8) 
 
 // Writes three bytes, and hands back the place after them.
 pub fn put_three(buffer: &mut [u8], at: usize, a: u8, b: u8, c: u8) -> usize
-    requires { ⌜ at + selectorBytes ≤ longestShared ⌝ }
+    requires { ⌜ at + 3 ≤ longestShared ⌝ }
     ensures { λ r. ⌜ Put (now (buffer .entry)) at (a ∷ b ∷ c ∷ []) (now (buffer .exit)) r ⌝ }
 {
     let next = put_with_operand(buffer, at, a, b);
