@@ -5,8 +5,8 @@ mod inputs;
 mod rows;
 mod timing;
 
-use inputs::{sheet, FAMILIES};
-use rows::{copies, quotes, shared_quotes, Searches, Sheets, BUDGET};
+use inputs::{full_sheet, sheet, FAMILIES, FULL};
+use rows::{copies, quotes, shared_quotes, Relations, Searches, Sheets, BUDGET};
 use trials::board::{Board, BOARDS};
 use trials::random::Random;
 
@@ -46,12 +46,25 @@ fn print_sheets<const ROOM: usize>(what: &str, rust: &str, sheets: &[Sheets<ROOM
     }
 }
 
+fn print_relations(formed: &[Relations]) {
+    println!("\nRelations formed of the units' sheets and, in the last row, of sheets with 32 gates and 8 outputs.");
+    println!("The library audits no bytes as a stage: it reads the sheet, forms its relation and refuses the stage.");
+    println!("On Rust's side stand the reader of the trials, which is not tuned, and the tuned forming.");
+    println!("Forming alone: of the library what it takes longer than with the last byte off, where it reads all");
+    println!("other commands and forms nothing; the tests of the end and for 10 are in it. Of Rust the sets alone.");
+    println!("                  us a sheet, read and formed        ns, forming alone");
+    println!("size       gates    library      Rust  ratio    library      Rust  ratio");
+    for row in formed {
+        println!("{}", row.line());
+    }
+}
+
 /// A round goes through all rows. So the rounds of a row are spread over the run, and where something else slows the
 /// machine for a while, the row has others.
 fn main() {
     let mut rng = Random::new(20_131_111);
     let mut searched = BOARDS.map(|_| Vec::new());
-    let (mut quoted, mut shared, mut copied) = (Vec::new(), Vec::new(), Vec::new());
+    let (mut quoted, mut shared, mut copied, mut formed) = (Vec::new(), Vec::new(), Vec::new(), Vec::new());
     for (n, m) in SIZES {
         for (name, draw) in FAMILIES {
             let drawn: Vec<_> = (0..COUNT).map(|_| draw(&mut rng, n, m)).collect();
@@ -62,13 +75,18 @@ fn main() {
         let sheets: Vec<_> = (0..COUNT).map(|_| sheet(&mut rng, n, m)).collect();
         quoted.push(quotes((n, m), sheets.clone()));
         shared.push(shared_quotes((n, m), sheets.clone()));
-        copied.push(copies((n, m), sheets));
+        copied.push(copies((n, m), sheets.clone()));
+        formed.push(Relations::new((n, m), sheets));
     }
+    // Drawn last, so that all the other rows keep what was drawn for them.
+    let full = (0..COUNT).map(|_| full_sheet(&mut rng)).collect();
+    formed.push(Relations::new(FULL, full));
     for _ in 0..ROUNDS {
         searched.iter_mut().flatten().for_each(Searches::round);
         quoted.iter_mut().for_each(Sheets::round);
         shared.iter_mut().for_each(Sheets::round);
         copied.iter_mut().for_each(Sheets::round);
+        formed.iter_mut().for_each(Relations::round);
     }
     header();
     for board in BOARDS {
@@ -77,4 +95,5 @@ fn main() {
     print_sheets("Quotes", "the tuned search stands between the reader and the writer", &quoted);
     print_sheets("Sharing quotes", "the tuned search stands between the reader and the writer", &shared);
     print_sheets("Clean copies", "stand the reader and the copy", &copied);
+    print_relations(&formed);
 }

@@ -1,9 +1,13 @@
 //! The rows of the tables: what is timed together. Each reply is compared once, before the timing.
 
 use crate::timing::{columns, Timing};
+use bench::{Told, REFUSED, STAGE_REFUSED};
+use std::hint::black_box;
 use trials::board::Board;
 use trials::clean::{self, LONGEST_COPY};
 use trials::diagram::LONGEST_SHARED;
+use trials::refusal::CUT_SHORT;
+use trials::sheet::Unit;
 use trials::stage::LONGEST_STAGE;
 use trials::{fast, relation};
 
@@ -130,4 +134,73 @@ fn rust_quote(board: Board, sheet: &[u8], buffer: &mut [u8]) -> u64 {
 /// The reader and the copy of the trials.
 fn rust_copy(sheet: &[u8], buffer: &mut [u8]) -> u64 {
     clean::clean(sheet, buffer).expect("drawn to be read") as u64
+}
+
+/// Relations of sheets of n inputs and m wires, each sheet with what the reader of the trials makes of it.
+pub struct Relations {
+    size: (u8, u8),
+    drawn: Vec<(Vec<u8>, Unit)>,
+    /// Each sheet read and its relation formed.
+    whole: Timing,
+    /// By the library the sheet with its last byte off, where all other commands are read and nothing is formed; by Rust
+    /// the forming alone, of a sheet that was read.
+    apart: Timing,
+}
+
+impl Relations {
+    pub fn new(size: (u8, u8), sheets: Vec<Vec<u8>>) -> Relations {
+        let drawn = sheets.into_iter().map(compared_forming).collect();
+        Relations { size, drawn, whole: Timing::new(), apart: Timing::new() }
+    }
+
+    pub fn round(&mut self) {
+        self.whole.round(&self.drawn, |(sheet, _)| formed(sheet).place, |(sheet, _)| rust_formed(sheet));
+        self.apart.round(&self.drawn, |(sheet, _)| formed(cut(sheet)).place, |(_, unit)| rust_sets(unit));
+    }
+
+    pub fn line(&self) -> String {
+        let gates = self.drawn.iter().map(|(_, unit)| unit.gates.len()).sum::<usize>() as f64 / self.drawn.len() as f64;
+        let forming = [self.whole.least[0] - self.apart.least[0], self.apart.least[1]];
+        let (first, last) = (columns(self.whole.least, 1e3), columns(forming, 1.0));
+        format!("({},{})  {gates:9.1}  {first}  {last}", self.size.0, self.size.1)
+    }
+}
+
+/// A sheet with its last byte off, the command that ends it.
+fn cut(sheet: &[u8]) -> &[u8] {
+    &sheet[..sheet.len() - 1]
+}
+
+/// An audit with no bytes of a stage: the sheet is read, its relation formed, and the stage refused.
+fn formed(sheet: &[u8]) -> Told {
+    bench::audit(Board::Tree, sheet, &[])
+}
+
+/// The reader of the trials and the tuned forming.
+fn rust_formed(sheet: &[u8]) -> u64 {
+    rust_sets(&trials::sheet::read(sheet).expect("drawn to be read"))
+}
+
+/// All sets are formed, and one of them is handed back.
+fn rust_sets(unit: &Unit) -> u64 {
+    black_box(fast::sets_of(unit))[0].into()
+}
+
+/// A sheet with its unit. Both replies of the library are the refusals that tell what is timed, and the tuned sets are
+/// those of the trials.
+fn compared_forming(sheet: Vec<u8>) -> (Vec<u8>, Unit) {
+    let refused = |outcome, place| Told {
+        refusal: CUT_SHORT.into(),
+        outcome,
+        cells: 0,
+        floor: 0,
+        visits: 0,
+        length: 0,
+        place: place as u64,
+    };
+    let told = (formed(&sheet), formed(cut(&sheet)));
+    assert_eq!(told, (refused(STAGE_REFUSED, 0), refused(REFUSED, sheet.len() - 1)), "the replies to {sheet:?}");
+    let unit = trials::sheet::read(&sheet).expect("drawn to be read");
+    assert_eq!(fast::sets_of(&unit), relation::sets_of(&unit), "the sets of {sheet:?}");
+    (sheet, unit)
 }

@@ -162,7 +162,7 @@ impl Prices {
     pub fn new(board: Board) -> Prices {
         let cells = [0, 1, 2, 3, 4].map(|n| (0..=full(n)).map(|t| board.cells(n, t) as u8).collect::<Vec<u8>>());
         let sorted = [0, 1, 2, 3, 4].map(|n| {
-            let mut all: Vec<Priced> = cells[n].iter().map(|&price| price.into()).zip(0..).collect();
+            let mut all: Vec<Priced> = cells[n].iter().map(|&price| price.into()).zip(0..=u16::MAX).collect();
             all.sort_unstable();
             all
         });

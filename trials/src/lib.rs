@@ -8,7 +8,8 @@
 //!   to all calls; `commands`: what their stage sheets have in common.
 //! * `least`: a second solver that tries every function, free of the search.
 //! * `arrange`: a second way to the clean copy, by sorting the sheet's commands.
-//! * `fast`: the same search as `search`, tuned for speed, for the benchmark.
+//! * `fast`: the same search as `search` and the same sets as `relation`, tuned
+//!   for speed, for the benchmark.
 //! * `random`, `draw`, `rows`, `plan`: the cases, from a fixed seed.
 //! * `case`, `check`: a case's record and reply, and what must hold of it.
 //! * `program`: the built program, run as a process.

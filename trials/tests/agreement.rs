@@ -1,15 +1,17 @@
 //! The two searches and the second solver agree on relations drawn by chance, on
-//! both boards.
+//! both boards; and the two ways to form a relation agree on drawn sheets.
 
 use trials::board::BOARDS;
 use trials::case::{Case, Outcome};
 use trials::check::Checker;
 use trials::draw::relations::{half_dense, sets};
+use trials::draw::sheets::{draft, hard_draft, longest_draft};
 use trials::fast;
 use trials::pick::Picker;
 use trials::random::Random;
-use trials::relation::{handed, Relation};
+use trials::relation::{handed, sets_of, Relation};
 use trials::search::search;
+use trials::sheet::read;
 
 fn sizes() -> impl Iterator<Item = (u8, u8)> {
     (1..=4).flat_map(|n| (1..=4).map(move |m| (n, m)))
@@ -54,6 +56,22 @@ fn the_fast_search_is_the_search() {
                 (slow.tables, slow.cells, slow.floor, slow.visits, slow.stopped)
             );
         }
+    }
+}
+
+/// The same sets of sheets of all sizes, with few gates and with as many as there
+/// may be, some of which leave a pattern no value.
+#[test]
+fn the_fast_forming_is_the_forming() {
+    let mut rng = Random::new(19);
+    for i in 0..9_000 {
+        let draft = match i % 3 {
+            0 => draft(&mut rng),
+            1 => hard_draft(&mut rng),
+            _ => longest_draft(&mut rng),
+        };
+        let unit = read(&draft.sheet(&mut rng)).expect("drawn to be read");
+        assert_eq!(fast::sets_of(&unit), sets_of(&unit), "{draft:?}");
     }
 }
 

@@ -10,7 +10,7 @@ use lib.Dec.{T, T-not, eqb, eqb→eq, ltb, ltb→lt, nltb→le}
 use lib.ListN.{length, getD, set, take, List·getD-append, List·getD-eq-default, length-append, length-set, length-take}
 use lib.Seq.{sets, getD-at, getD-set-same, getD-set-other, getD-take, ext-getD}
 use Rattle.base.specs.Tabulate.{tabulate}
-use Rattle.base.proofs.Tests.{decide, below-suc, eq-test, test-yes, test-no}
+use Rattle.base.proofs.Tests.{cond-has, decide, below-suc, eq-test, test-yes, test-no}
 
 -- the entries of a row
 pub tabulate-length : (k : ℕ) (f : ℕ → ℕ) → length (tabulate k f) ≡ k
@@ -51,12 +51,16 @@ tabulate-set k f g i x h e o =
     (decide (eqb j i)))
 
 -- a list filled one place after the other
+pub filled-has : (P : ℕ → ℕ → Type 0) (l : List ℕ) (p x : ℕ) → p < length l → ((q : ℕ) → q < p → P q (getD l q 0)) → P p x
+    → (q : ℕ) → q < p + 1 → P q (getD (set l p x) q 0)
+filled-has P l p x hp h e q lq =
+    ⊎-elim (λ (d : q ≡ p). rw (d, getD-set-same l p x 0 hp) e)
+    (λ (b : q < p). rw (getD-set-other l p q x 0 (λ d. omega arith)) (h q b))
+    (below-suc {i = q} {k = p} (omega arith))
+
 pub filled-more : (f : ℕ → ℕ) (l : List ℕ) (p x : ℕ) → p < length l → ((q : ℕ) → q < p → getD l q 0 ≡ f q) → x ≡ f p
     → (q : ℕ) → q < p + 1 → getD (set l p x) q 0 ≡ f q
-filled-more f l p x hp h e q lq =
-    ⊎-elim (λ (d : q ≡ p). rw d (getD-set-same l p x 0 hp ∙ e))
-    (λ (b : q < p). getD-set-other l p q x 0 (λ d. omega arith) ∙ h q b)
-    (below-suc {i = q} {k = p} (omega arith))
+filled-more f = filled-has (λ q y. y ≡ f q)
 
 pub filled-tabulate : (k : ℕ) (f : ℕ → ℕ) (l : List ℕ) → length l ≡ k → ((q : ℕ) → q < k → getD l q 0 ≡ f q) → l ≡ tabulate k f
 filled-tabulate k f l e h =
@@ -68,6 +72,9 @@ tabulate-entry k f p =
     ⊎-elim (λ (l : T (ltb p k)). rw (test-yes (ltb p k) l) (tabulate-at k f p (ltb→lt p k l)))
     (λ l. let h = nltb→le p k l in rw (test-no (ltb p k) l) (List·getD-eq-default (tabulate k f) 0 (omega (arith, tabulate-length k f))))
     (decide (ltb p k))
+
+pub zeros-entry : (k p : ℕ) → getD (tabulate k (λ _. 0)) p 0 ≡ 0
+zeros-entry k p = rw (tabulate-entry k (λ _. 0) p) (cond-has (λ x. x ≡ 0) (ltb p k) (λ _. refl) (λ _. refl))
 
 pub take-entry : (k : ℕ) (l : List ℕ) (p : ℕ) → getD (take k l) p 0 ≡ cond (ltb p k) (getD l p 0) 0
 take-entry k l p =

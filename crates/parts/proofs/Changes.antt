@@ -6,7 +6,7 @@ use mathlib.Core.Bool.{Bool, not}
 use mathlib.Core.List.{List}
 use native.Mathlib.Omega.{arith}
 use native.Mathlib.Nat.{not-suc-le-zero, le-of-suc-le-suc}
-use lib.Bits.{bitOr, bitXor, or-shr, or-mod, xor-shr, xor-mod, or-add-and, xor-add-and, xor-self, and-le-l, and-le-r}
+use lib.Bits.{bitOr, bitXor, or-shr, or-mod, or-add-and, xor-add-and, xor-self, and-le-l, and-le-r}
 use lib.Count.{trailingZeros, under}
 use lib.Dec.{T, T-not, not-T, eqb, eqb→eq}
 use lib.ListN.{getD}
@@ -14,7 +14,7 @@ use Rattle.sheet.specs.Limits.{maxWires, maxPatterns}
 use Rattle.base.proofs.Tests.{decide, eq-test}
 use Rattle.base.proofs.Lowest.{lowest-at, lowest-none}
 use Rattle.table.specs.Bits.{bit}
-use Rattle.table.proofs.Bits.{any-at, any-intro, bit-div}
+use Rattle.table.proofs.Bits.{any-at, any-intro, bit-div, bit-xor}
 use Rattle.parts.specs.Inner.Ranks.{rankBits}
 use Rattle.parts.specs.Inner.Changes.{bitIn, AlikeBelow, changedOn, firstChange}
 use Rattle.parts.proofs.Packing.{packed-bit}
@@ -50,10 +50,6 @@ trailing (suc d) n = go (n % 2) refl (trailing d (n / 2) .0) (trailing d (n / 2)
 bit-or : (a b q : ℕ) → bit (bitOr a b) q ≡ bitOr (bit a q) (bit b q)
 unfolding bit
 bit-or a b q = ap (λ z. z % 2) (or-shr a b q) ∙ or-mod (a / 2 ^ q) (b / 2 ^ q) 1
-
-bit-xor : (a b q : ℕ) → bit (bitXor a b) q ≡ bitXor (bit a q) (bit b q)
-unfolding bit
-bit-xor a b q = ap (λ z. z % 2) (xor-shr a b q) ∙ xor-mod (a / 2 ^ q) (b / 2 ^ q) 1
 
 or-both : (a b q : ℕ) → bit a q ≡ 0 → bit b q ≡ 0 → bit (bitOr a b) q ≡ 0
 or-both a b q ea eb = omega (arith, bit-or a b q, or-add-and (bit a q) (bit b q))

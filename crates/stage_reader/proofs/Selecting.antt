@@ -1,19 +1,19 @@
 -- Laws of truth tables as the stage reader makes them: of a constant, and of a selector from the tables of its trees.
-use Prim.Native.Nat.{ℕ, zero, suc, _*_, _^_, _-_, _/_, _%_, _<_, _≤_, min}
+use Prim.Native.Nat.{ℕ, zero, suc, _*_, _^_, _-_, _<_, _≤_, min}
 use mathlib.Core.Path.{_≡_, refl, sym, ap, ap₂, _∙_}
 use mathlib.Core.Logic.{_⊎_, inl, inr}
 use mathlib.Core.Bool.{cond}
 use native.Mathlib.Omega.{arith}
 use native.Mathlib.Nat.{lt-of-le-of-lt, lt-of-lt-of-le}
 use lib.Dec.{eqb}
-use lib.Bits.{bitAnd, bitXor, xor-shr, xor-mod, xor-lt, and-le-l}
-use lib.Pow.{pow-pos, pow-mono}
+use lib.Bits.{bitAnd, bitXor, xor-lt, and-le-l}
+use lib.Pow.{pow-mono}
 use Rattle.base.proofs.Tests.{cond-has}
 use Rattle.sheet.specs.Limits.{maxInputs, maxPatterns, maxValues, allOnes}
 use Rattle.table.specs.Bits.{bit, ofBits, sum}
 use Rattle.table.specs.Drawing.{drawnTable}
 use Rattle.table.specs.Tree.{Tree, con, sel, Ordered, follow}
-use Rattle.table.proofs.Bits.{bit-lt, bit-ext, bit-cases, bit-and, ofBits-lt, bit-ofBits, sum-cong}
+use Rattle.table.proofs.Bits.{bit-lt, bit-ext, bit-cases, bit-and, bit-xor, ofBits-lt, ofBits-ones, bit-ofBits, sum-cong}
 use Rattle.stage.proofs.TreeTables.{tableOf, table-bit}
 use Rattle.stage_reader.specs.Inner.Tables.{inputTable, selectOf}
 
@@ -27,17 +27,12 @@ pub table-zero : (n : ℕ) → tableOf n (con 0) ≡ 0
 unfolding drawnTable follow
 table-zero n = no-bits (2 ^ n)
 
-every-bit : (k : ℕ) → ofBits k (λ p. 1) ≡ 2 ^ k - 1
-unfolding ofBits sum
-every-bit zero = refl
-every-bit (suc k) = omega (arith, every-bit k, pow-pos k)
-
 pub table-one : (n : ℕ) → n ≤ maxInputs → allOnes n ≡ tableOf n (con 1)
 unfolding drawnTable follow
 table-one n h =
     let room : 2 ^ n ≤ maxValues = pow-mono {j = maxInputs} h in
     let all : min maxValues (2 ^ n) ≡ 2 ^ n = omega arith in
-    ap (λ (k : ℕ). 2 ^ k - 1) all ∙ sym (every-bit (2 ^ n))
+    ap (λ (k : ℕ). 2 ^ k - 1) all ∙ sym (ofBits-ones (2 ^ n))
 
 -- the selector's table by its trees' tables
 choice-lt : (p j a b : ℕ) → a < 2 → b < 2 → cond (eqb (bit p j) 0) a b < 2
@@ -51,10 +46,6 @@ table-select n i k z o a b =
     ap₂ (λ x y. cond (eqb (bit p (n - i)) 0) x y * 2 ^ p) (table-bit n k z a p l) (table-bit n k o b p l))
 
 -- bits of one table where a column is 0, of another where it is 1
-bit-xor : (a b v : ℕ) → bit (bitXor a b) v ≡ bitXor (bit a v) (bit b v)
-unfolding bit
-bit-xor a b v = ap (λ x. x % 2) (xor-shr a b v) ∙ xor-mod (a / 2 ^ v) (b / 2 ^ v) 1
-
 turned : (x y c : ℕ) → (x ≡ 0) ⊎ (x ≡ 1) → (y ≡ 0) ⊎ (y ≡ 1) → (c ≡ 0) ⊎ (c ≡ 1) → bitXor x (bitAnd (bitXor x y) c) ≡ cond (eqb c 0) x y
 turned x y c (inl e) (inl d) (inl f) = rw (e, d, f)
 turned x y c (inl e) (inl d) (inr f) = rw (e, d, f)

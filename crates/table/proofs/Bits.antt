@@ -1,14 +1,13 @@
 -- Laws of bits, and of numbers made of bits. Those of tests, of sums and of lists told by a function are handed on to the crates above.
-use Prim.Native.Nat.{ℕ, zero, suc, _+_, _*_, _^_, _/_, _%_, _<_, _≤_}
+use Prim.Native.Nat.{ℕ, zero, suc, _+_, _*_, _-_, _^_, _/_, _%_, _<_, _≤_}
 use mathlib.Core.Path.{_≡_, refl, sym, ap, _∙_}
 use mathlib.Core.Logic.{_⊎_, inl, inr, ⊎-elim}
 use mathlib.Core.Bool.{_&&_}
-use native.Mathlib.Numerals.{add-one}
 use native.Mathlib.Omega.{arith}
 use native.Mathlib.Nat.{not-suc-le-zero, le-of-suc-le-suc, lt-of-lt-of-le, le-trans, le-dest, add-comm, pow-suc, mul-le-mul-right}
 use native.Mathlib.Nat.{mod-lt, mod-le, mod-eq-of-lt, mod-add-div', div-eq-of-lt, div-lt-iff-lt-mul, add-mul-div-right, add-mul-mod-self-right}
 use lib.Dec.{eqb}
-use lib.Bits.{bitAnd, and-shr, and-mod}
+use lib.Bits.{bitAnd, bitXor, and-shr, and-mod, xor-shr, xor-mod}
 use lib.Pow.{pow-pos, pow-add, pow-mono, high, shr-shr, shl-exact, split}
 pub use Rattle.base.proofs.Tabulate.{tabulate-length, tabulate-at, tabulate-cong, tabulate-four}
 use Rattle.base.proofs.Tests.{below-suc}
@@ -97,6 +96,10 @@ pub bit-and : (a b v : ℕ) → bit (bitAnd a b) v ≡ bitAnd (bit a v) (bit b v
 unfolding bit
 bit-and a b v = ap (λ x. x % 2) (and-shr a b v) ∙ and-mod (a / 2 ^ v) (b / 2 ^ v) 1
 
+pub bit-xor : (a b v : ℕ) → bit (bitXor a b) v ≡ bitXor (bit a v) (bit b v)
+unfolding bit
+bit-xor a b v = ap (λ x. x % 2) (xor-shr a b v) ∙ xor-mod (a / 2 ^ v) (b / 2 ^ v) 1
+
 pub test-and : (a b v : ℕ) → eqb (bit (bitAnd a b) v) 1 ≡ eqb (bit a v) 1 && eqb (bit b v) 1
 test-and a b v = ap (λ x. eqb x 1) (bit-and a b v) ∙ go (bit a v) (bit b v) (bit-cases a v) (bit-cases b v)
   where
@@ -124,11 +127,16 @@ shifted-one k w h =
     let e : 1 * 2 ^ k ≡ 2 ^ k = omega arith in
     shl-exact 1 k w (omega arith) (omega arith) ∙ e
 
--- one bit more, and none from some place on
-pub ofBits-more : (f : ℕ → ℕ) (p : ℕ) → ofBits (p + 1) f ≡ ofBits p f + f p * 2 ^ p
-unfolding ofBits sum
-ofBits-more f p = rw (add-one p)
-
+-- no bit from some place on
 pub ofBits-short : (f : ℕ → ℕ) (k l : ℕ) → k ≤ l → ((i : ℕ) → k ≤ i → f i ≡ 0) → ofBits l f ≡ ofBits k f
 unfolding ofBits
 ofBits-short f k l h z = sum-short (λ i. f i * 2 ^ i) k l h (λ i b. rw (z i b) (omega arith))
+
+-- a one in each of the first k places
+pub ofBits-ones : (k : ℕ) → ofBits k (λ _. 1) ≡ 2 ^ k - 1
+unfolding ofBits sum
+ofBits-ones zero = refl
+ofBits-ones (suc k) = omega (arith, ofBits-ones k, pow-pos k)
+
+pub ones-bit : (k v : ℕ) → v < k → bit (2 ^ k - 1) v ≡ 1
+ones-bit k v l = ap (λ x. bit x v) (sym (ofBits-ones k)) ∙ bit-ofBits (λ _. 1) k (λ _ _. omega arith) v l

@@ -1,16 +1,15 @@
 -- The relation of a sheet is a function of what was gathered: two sheets that gather the same form the same relation, or are refused alike.
 use Prim.Native.Nat.{ℕ, _^_, _<_}
-use mathlib.Core.Path.{_≡_, refl, sym, ap, subst, _∙_}
+use mathlib.Core.Path.{_≡_, refl, sym, ap, ap₂, subst, _∙_}
 use mathlib.Core.Logic.{⊎-elim}
 use mathlib.Core.Bool.{cond}
-use mathlib.Core.List.{List}
 use native.Mathlib.Nat.{lt-of-lt-of-le}
 use lib.Dec.{T-not, eqb, eqb→eq, ltb, ltb→lt}
+use lib.Bits.{bitAnd}
 use lib.ListN.{length, getD}
 use lib.Seq.{ext-getD}
 use Rattle.base.proofs.Tests.{decide, cond-has₂, eq-test}
-use Rattle.base.proofs.Tabulate.{tabulate-at, tabulate-cong}
-use Rattle.table.specs.Bits.{tabulate}
+use Rattle.base.proofs.Tabulate.{tabulate-cong}
 use Rattle.relation.specs.declared.Relation.{Relation}
 use Rattle.relation.specs.Handed.{checkOf}
 use Rattle.sheet.specs.declared.Sheet.{Sheet}
@@ -19,12 +18,14 @@ use Rattle.sheet.specs.Gathered.{gathered, rowMark}
 use Rattle.sheet.specs.Limits.{maxPatterns, maxValues}
 use Rattle.sheet.proofs.Fields.{inputs-field, wires-field, outputs-field, output-field}
 use Rattle.unit.specs.Gates.{outputsFor}
+use Rattle.unit.specs.Relation.{sameList}
 use Rattle.unit.specs.Formed.{setOn, relationIn, formedOf}
 use Rattle.reader.specs.Inner.WasRead.{WasRead}
-use Rattle.unit.specs.Inner.Forming.{Codes, codeOf, checkedReply}
+use Rattle.unit.specs.Inner.Forming.{checkedReply}
 use Rattle.reader.proofs.Placed.{held-sound}
 use Rattle.unit.proofs.HeldSignals.{signals-is}
-use Rattle.unit.proofs.Allowed.{set-unmarked, set-marked}
+use Rattle.unit.proofs.Members.{told, told-test}
+use Rattle.unit.proofs.Allowed.{HasAlike, set-unmarked, set-marked}
 use Rattle.unit.proofs.Forming.{after-check}
 
 module _ {sheet : Sheet} (a b : WasRead sheet) where
@@ -48,9 +49,9 @@ module _ {sheet : Sheet} (a b : WasRead sheet) where
       ∙ output-field (b .commands) i (lt-of-lt-of-le (subst (λ k. i < k) same-count l) (held-sound b .outputs .few))
 
   -- the same outputs for each value
-  same-code : (v : ℕ) → codeOf (a .commands) v ≡ codeOf (b .commands) v
-  unfolding codeOf outputsFor
-  same-code v = rw (signals-is a v ∙ sym (signals-is b v), same-outputs)
+  same-answers : (v : ℕ) → outputsFor (a .commands) v ≡ outputsFor (b .commands) v
+  unfolding outputsFor
+  same-answers v = rw (signals-is a v ∙ sym (signals-is b v), same-outputs)
 
   -- the same set on each pattern, by its mark
   same-set : (p : ℕ) → p < 2 ^ inputsOf (a .commands) → setOn (a .commands) p ≡ setOn (b .commands) p
@@ -58,7 +59,9 @@ module _ {sheet : Sheet} (a b : WasRead sheet) where
       ⊎-elim
       (λ y.
       let m : getD (gathered (a .commands) .marks) p 0 ≡ rowMark = eqb→eq (getD (gathered (a .commands) .marks) p 0) rowMark y in
-      sym (set-marked (a .commands) (held-sound a) p l codes own m) ∙ rw same (set-marked (b .commands) (held-sound b) p l′ codes other (rw same at m)))
+      sym (set-marked (a .commands) (held-sound a) p l alikes own m)
+      ∙ subst (λ (x : Sheet). bitAnd (getD (x .limits) p 0) alikes ≡ setOn (b .commands) p) (sym same)
+      (set-marked (b .commands) (held-sound b) p l′ alikes other (rw same at m)))
       (λ y.
       let m : getD (gathered (a .commands) .marks) p 0 ≡ rowMark → ⊥ = λ f. T-not (eqb (getD (gathered (a .commands) .marks) p 0) rowMark) y (eq-test f) in
       sym (set-unmarked (a .commands) (held-sound a) p l m) ∙ rw same (set-unmarked (b .commands) (held-sound b) p l′ (rw same at m)))
@@ -67,14 +70,14 @@ module _ {sheet : Sheet} (a b : WasRead sheet) where
       l′ : p < 2 ^ inputsOf (b .commands)
       l′ = subst (λ n. p < 2 ^ n) same-inputs l
 
-      codes : List ℕ
-      codes = tabulate maxValues (codeOf (a .commands))
+      alikes : ℕ
+      alikes = told maxValues (λ v. sameList (outputsFor (a .commands) v) (outputsFor (a .commands) (getD (gathered (a .commands) .values) p 0)))
 
-      own : Codes (a .commands) codes
-      own v h = tabulate-at maxValues (codeOf (a .commands)) v h
+      own : HasAlike (a .commands) (getD (gathered (a .commands) .values) p 0) alikes
+      own v h = told-test (λ v. sameList (outputsFor (a .commands) v) (outputsFor (a .commands) (getD (gathered (a .commands) .values) p 0))) maxValues v h
 
-      other : Codes (b .commands) codes
-      other v h = own v h ∙ same-code v
+      other : HasAlike (b .commands) (getD (gathered (b .commands) .values) p 0) alikes
+      other v h = own v h ∙ rw same (ap₂ sameList (same-answers v) (same-answers (getD (gathered (b .commands) .values) p 0)))
 
   same-relation : relationIn (a .commands) ≡ relationIn (b .commands)
   unfolding relationIn

@@ -1,6 +1,6 @@
 -- The set of a pattern: permitted values that answer alike.
-use Prim.Native.Nat.{ℕ, zero, suc, _-_, _^_, _<_}
-use mathlib.Core.Path.{_≡_, refl, sym, ap, ap₂, subst, _∙_}
+use Prim.Native.Nat.{ℕ, _-_, _^_, _<_}
+use mathlib.Core.Path.{_≡_, sym, ap₂, subst, _∙_}
 use mathlib.Core.Logic.{⊎-elim}
 use mathlib.Core.Bool.{Bool, _&&_, and-assoc}
 use mathlib.Core.List.{List, [], _∷_}
@@ -9,12 +9,12 @@ use native.Mathlib.Omega.{arith}
 use lib.Bits.{bitAnd, and-le-l}
 use lib.Dec.{T, eqb, eqb→eq, ltb, ltb→lt, nltb→le}
 use lib.ListN.{getD}
-use lib.Pow.{pow-pos, pow-mono, ones-lt}
+use lib.Pow.{pow-mono, ones-lt}
 use borrow.Author.Tests.{lt-ltb}
 use Rattle.sheet.specs.Limits.{maxWires, maxPatterns, maxValues, allOnes}
 use Rattle.base.proofs.Tests.{decide, and-intro, and-left, and-right, and-true, eq-test, test-ext}
-use Rattle.table.specs.Bits.{bit, sum, ofBits}
-use Rattle.table.proofs.Bits.{bit-ofBits, bit-past, test-and}
+use Rattle.table.specs.Bits.{bit}
+use Rattle.table.proofs.Bits.{bit-past, ones-bit, test-and}
 use Rattle.sheet.specs.declared.Command.{Command}
 use Rattle.sheet.specs.Commands.{inputsOf, wiresOf, rowsOn, limitsOn}
 use Rattle.sheet.specs.Gathered.{rowMark, limitOn, gathered}
@@ -26,23 +26,13 @@ use Rattle.sheet.proofs.Fields.{limit-field, pattern-room, present-mark, presen
 use Rattle.unit.specs.Gates.{outputsFor}
 use Rattle.unit.specs.Relation.{permits, sameList, alike, unitRelation}
 use Rattle.unit.specs.Formed.{setOn}
-use Rattle.unit.specs.Inner.Forming.{Codes}
-use Rattle.unit.proofs.Codings.{code-test}
-use Rattle.unit.proofs.Members.{told, told-is, told-test}
+use Rattle.unit.proofs.Members.{told-is}
 
--- the values with the outputs of u, from the numbers that tell the outputs
-abbrev pub sameAs : List ℕ → ℕ → ℕ
-sameAs codes u = told maxValues (λ v. eqb (getD codes v 0) (getD codes u 0))
+-- the set w has the values with the outputs of u, and no others
+abbrev pub HasAlike : List Command → ℕ → ℕ → Type 0
+HasAlike cs u w = (v : ℕ) → v < maxValues → eqb (bit w v) 1 ≡ sameList (outputsFor cs v) (outputsFor cs u)
 
 -- the set of the first k values
-ones-is : (k : ℕ) → ofBits k (λ _. 1) ≡ 2 ^ k - 1
-unfolding ofBits sum
-ones-is zero = refl
-ones-is (suc k) = omega (arith, ones-is k, pow-pos k)
-
-ones-bit : (k v : ℕ) → v < k → bit (2 ^ k - 1) v ≡ 1
-ones-bit k v l = ap (λ x. bit x v) (sym (ones-is k)) ∙ bit-ofBits (λ _. 1) k (λ _ _. omega arith) v l
-
 ones-below : (k v : ℕ) → bit (2 ^ k - 1) v ≡ 1 → v < k
 ones-below k v e =
     ⊎-elim (λ l. ltb→lt v k l) (λ l. absurd (omega (arith, bit-past (2 ^ k - 1) k v (ones-lt k) (nltb→le v k l), e))) (decide (ltb v k))
@@ -90,21 +80,16 @@ module _ (cs : List Command) (s : Sound cs) (p : ℕ) where
       (λ v l. limit-test v ∙ rw (e, and-true (permits (limitsOn p cs) v)))
 
   -- a pattern with the present value u: of those the ones with the outputs of u
-  module _ (codes : List ℕ) (is : Codes cs codes) (u : ℕ) (room : u < maxValues) where
-    same-test : (v : ℕ) → v < maxValues → eqb (getD codes v 0) (getD codes u 0) ≡ sameList (outputsFor cs v) (outputsFor cs u)
-    same-test v l = ap₂ eqb (is v l) (is u room) ∙ code-test cs v u
-
-    alike-permitted : rowsOn p cs ≡ u ∷ [] → bitAnd (limitOn p cs) (sameAs codes u) ≡ setOn cs p
-    unfolding setOn unitRelation alike
-    alike-permitted e =
-        let w = sameAs codes u in
-        let same : ℕ → Bool = λ v. sameList (outputsFor cs v) (outputsFor cs u) in
-        told-is (λ v. ltb v (2 ^ wiresOf cs) && unitRelation cs p v) maxValues (bitAnd (limitOn p cs) w)
-        (lt-of-le-of-lt (and-le-l (limitOn p cs) w) limit-lt)
-        (λ v l.
-        test-and (limitOn p cs) w v
-        ∙ ap₂ _&&_ (limit-test v) (told-test (λ v. eqb (getD codes v 0) (getD codes u 0)) maxValues v l ∙ same-test v l)
-        ∙ rw (e, and-true (same v)) (and-assoc (ltb v (2 ^ wiresOf cs)) (permits (limitsOn p cs) v) (same v)))
+  alike-permitted : (u w : ℕ) → HasAlike cs u w → rowsOn p cs ≡ u ∷ [] → bitAnd (limitOn p cs) w ≡ setOn cs p
+  unfolding setOn unitRelation alike
+  alike-permitted u w is e =
+      let same : ℕ → Bool = λ v. sameList (outputsFor cs v) (outputsFor cs u) in
+      told-is (λ v. ltb v (2 ^ wiresOf cs) && unitRelation cs p v) maxValues (bitAnd (limitOn p cs) w)
+      (lt-of-le-of-lt (and-le-l (limitOn p cs) w) limit-lt)
+      (λ v l.
+      test-and (limitOn p cs) w v
+      ∙ ap₂ _&&_ (limit-test v) (is v l)
+      ∙ rw (e, and-true (same v)) (and-assoc (ltb v (2 ^ wiresOf cs)) (permits (limitsOn p cs) v) (same v)))
 
   -- the set by the pattern's mark
   module _ (l : p < 2 ^ inputsOf cs) where
@@ -121,12 +106,12 @@ module _ (cs : List Command) (s : Sound cs) (p : ℕ) where
         go (present v r d b) = absurd (ne (present-mark cs p room v r d))
         go (impossible r d) = limit-field cs p room ∙ all-permitted r
 
-    pub set-marked : (codes : List ℕ) → Codes cs codes → getD (gathered cs .marks) p 0 ≡ rowMark
-        → bitAnd (getD (gathered cs .limits) p 0) (sameAs codes (getD (gathered cs .values) p 0)) ≡ setOn cs p
-    set-marked codes is e = go (s .each-pattern p l)
+    pub set-marked : (w : ℕ) → HasAlike cs (getD (gathered cs .values) p 0) w → getD (gathered cs .marks) p 0 ≡ rowMark
+        → bitAnd (getD (gathered cs .limits) p 0) w ≡ setOn cs p
+    set-marked w is e = go (s .each-pattern p l)
       where
-        go : Given p cs → bitAnd (getD (gathered cs .limits) p 0) (sameAs codes (getD (gathered cs .values) p 0)) ≡ setOn cs p
-        go (present v r d b) = rw (limit-field cs p room, present-value cs p room v r) (alike-permitted codes is v (value-room v b) r)
+        go : Given p cs → bitAnd (getD (gathered cs .limits) p 0) w ≡ setOn cs p
+        go (present v r d b) = rw (limit-field cs p room) (alike-permitted v w (rw (← present-value cs p room v r) is) r)
         go (impossible r d) = absurd (omega (arith, e, impossible-mark cs p room d))
 
     pub value-below : getD (gathered cs .marks) p 0 ≡ rowMark → getD (gathered cs .values) p 0 < maxValues

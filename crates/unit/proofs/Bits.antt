@@ -1,12 +1,12 @@
--- Laws of two bits under a gate.
-use Prim.Native.Nat.{ℕ, zero, suc, _*_, _-_, _<_, _≤_}
-use mathlib.Core.Path.{_≡_, refl, sym, ap, _∙_}
-use mathlib.Core.Bool.{cond}
+-- Laws of words bit by bit, and the gate of two bits by arithmetic.
+use Prim.Native.Nat.{ℕ, zero, suc, _*_, _-_, _^_, _<_, _≤_}
+use mathlib.Core.Path.{_≡_, refl, ap, ap₂, _∙_}
 use native.Mathlib.Omega.{arith}
-use lib.Bits.{bitAnd, bitOr, bitXor}
-use lib.Dec.{eqb}
-use borrow.Author.Tests.{ne-eqb}
-use Rattle.base.proofs.Tests.{cond-has}
+use lib.Bits.{bitAnd, bitXor}
+use Rattle.sheet.specs.Limits.{maxValues}
+use Rattle.table.specs.Bits.{bit}
+use Rattle.table.proofs.Bits.{bit-lt, bit-and, bit-xor, zero-bit, ones-bit}
+use Rattle.reader.specs.Reader.{lastKind}
 use Rattle.unit.specs.Gates.{gateBit}
 
 -- what holds of 0 and 1 on either side holds of two bits
@@ -19,43 +19,62 @@ two-bits P x y z w (suc (suc a)) b p q = absurd (omega arith)
 two-bits P x y z w zero (suc (suc b)) p q = absurd (omega arith)
 two-bits P x y z w (suc zero) (suc (suc b)) p q = absurd (omega arith)
 
--- none of the code's operators on two bits gives more than 1
-pub no-more : {a b : ℕ} → (a < 2) × (b < 2) → (bitAnd a b ≤ 1) × (bitOr a b ≤ 1) × (bitXor a b ≤ 1)
-no-more {a} {b} h =
-    let one : 1 ≤ 1 = omega arith in
-    let none : 0 ≤ 1 = omega arith in
-    two-bits (λ a b. (bitAnd a b ≤ 1) × (bitOr a b ≤ 1) × (bitXor a b ≤ 1)) (none, none, none) (none, one, one) (none, one, one) (one, one, none)
-    a b (h .0) (h .1)
+-- a word taken once or not at all
+pub times-lt : {d x : ℕ} (k : ℕ) → d < 2 → x < 2 ^ k → d * x < 2 ^ k
+times-lt {d = zero} k h l = omega arith
+times-lt {d = suc zero} k h l = omega arith
+times-lt {d = suc (suc d)} k h l = absurd (omega arith)
 
--- what the code makes of two bits at each kind, by its operators
-abbrev operated : (k a b : ℕ) → ℕ
-operated k a b =
-    cond (eqb k 0) (bitAnd a b)
-    (cond (eqb k 1) (bitOr a b)
-    (cond (eqb k 2) (bitXor a b) (cond (eqb k 3) (1 - bitAnd a b) (cond (eqb k 4) (1 - bitOr a b) (1 - bitXor a b)))))
+times-bit : (d x v : ℕ) → d < 2 → bit (d * x) v ≡ d * bit x v
+times-bit zero x v h = let e : 0 * x ≡ 0 = omega arith in let f : 0 * bit x v ≡ 0 = omega arith in rw (e, f) (zero-bit v)
+times-bit (suc zero) x v h = let e : 1 * x ≡ x = omega arith in let f : 1 * bit x v ≡ bit x v = omega arith in rw (e, f)
+times-bit (suc (suc d)) x v h = absurd (omega arith)
 
-operated-is : (k a b : ℕ) → a < 2 → b < 2 → operated k a b ≡ gateBit k a b
+-- so of a one for every value
+pub ones-times : (d v : ℕ) → d < 2 → v < maxValues → bit (d * (2 ^ maxValues - 1)) v ≡ d
+ones-times d v h l =
+    let e : d * 1 ≡ d = omega arith in
+    times-bit d (2 ^ maxValues - 1) v h ∙ ap (λ x. d * x) (ones-bit maxValues v l) ∙ e
+
+-- a gate by arithmetic modulo 2 (its algebraic normal form): the sum of the two bits u times, their product w times, and i
+abbrev added : (u w i a b : ℕ) → ℕ
+added u w i a b = bitXor (bitXor (u * bitXor a b) (w * bitAnd a b)) i
+
+abbrev Takes : (u w i : ℕ) → (sums products ones : ℕ) → Type 0
+Takes u w i sums products ones = (u ≡ sums) × (w ≡ products) × (i ≡ ones)
+
+-- how often a gate takes the sum, the product, and 1: from the last kind to the first
+pub record TakenBy (k u w i : ℕ) : Type 0 where
+  pub xnor : k ≡ 5 → Takes u w i 1 0 1
+  pub nor : k ≡ 4 → Takes u w i 1 1 1
+  pub nand : k ≡ 3 → Takes u w i 0 1 1
+  pub xor : k ≡ 2 → Takes u w i 1 0 0
+  pub or : k ≡ 1 → Takes u w i 1 1 0
+  pub and : k ≡ 0 → Takes u w i 0 1 0
+
+-- a kind by its four rows
+by-rows : {u w i x y z : ℕ} (k : ℕ) → Takes u w i x y z → added x y z 0 0 ≡ gateBit k 0 0 → added x y z 0 1 ≡ gateBit k 0 1
+    → added x y z 1 0 ≡ gateBit k 1 0 → added x y z 1 1 ≡ gateBit k 1 1 → (a b : ℕ) → a < 2 → b < 2 → added u w i a b ≡ gateBit k a b
+by-rows {x} {y} {z} k t = rw (t .0, t .1, t .2) (two-bits (λ a b. added x y z a b ≡ gateBit k a b))
+
+-- that is the gate of document 01, computed for all six kinds and every two bits
+pub gate-added : {u w i : ℕ} (k : ℕ) → k ≤ lastKind → TakenBy k u w i → (a b : ℕ) → a < 2 → b < 2 → added u w i a b ≡ gateBit k a b
 unfolding gateBit
-operated-is k = two-bits (λ a b. operated k a b ≡ gateBit k a b) refl refl refl refl
+gate-added zero h t = by-rows 0 (t .and refl) refl refl refl refl
+gate-added (suc zero) h t = by-rows 1 (t .or refl) refl refl refl refl
+gate-added (suc (suc zero)) h t = by-rows 2 (t .xor refl) refl refl refl refl
+gate-added (suc (suc (suc zero))) h t = by-rows 3 (t .nand refl) refl refl refl refl
+gate-added (suc (suc (suc (suc zero)))) h t = by-rows 4 (t .nor refl) refl refl refl refl
+gate-added (suc (suc (suc (suc (suc zero))))) h t = by-rows 5 (t .xnor refl) refl refl refl refl
+gate-added (suc (suc (suc (suc (suc (suc k)))))) h t = absurd (omega arith)
 
--- a gate makes a bit of two bits
-pub gate-lt : (k a b : ℕ) → a < 2 → b < 2 → gateBit k a b < 2
-unfolding gateBit
-gate-lt k a b p q =
-    cond-has (λ x. x < 2) (eqb k 0) (λ _. two-bits (λ a b. a * b < 2) (omega arith) (omega arith) (omega arith) (omega arith) a b p q)
-    (λ _. cond-has (λ x. x < 2) (eqb k 1) (λ _. omega arith)
-    (λ _. cond-has (λ x. x < 2) (eqb k 2) (λ _. omega arith)
-    (λ _. cond-has (λ x. x < 2) (eqb k 3) (λ _. omega arith)
-    (λ _. cond-has (λ x. x < 2) (eqb k 4) (λ _. omega arith) (λ _. omega arith)))))
-
-gate-made : (k j : ℕ) {a b : ℕ} → operated k a b ≡ operated j a b → (a < 2) × (b < 2) → (operated j a b ≡ gateBit k a b) × (operated j a b < 2)
-gate-made k j {a} {b} e h =
-    let m = sym e ∙ operated-is k a b (h .0) (h .1) in (m, rw m (gate-lt k a b (h .0) (h .1)))
-
--- so the code's operator at kind j is the gate of a kind that is j, and the last of them that of every further kind
-pub gate-is : {k : ℕ} (j : ℕ) {a b : ℕ} → k ≡ j → (a < 2) × (b < 2) → (operated j a b ≡ gateBit k a b) × (operated j a b < 2)
-gate-is {k} j {a} {b} e = gate-made k j (ap (λ k. operated k a b) e)
-
-pub gate-last : {k a b : ℕ} → (k ≡ 0 → ⊥) → (k ≡ 1 → ⊥) → (k ≡ 2 → ⊥) → (k ≡ 3 → ⊥) → (k ≡ 4 → ⊥) → (a < 2) × (b < 2)
-    → (operated 5 a b ≡ gateBit k a b) × (operated 5 a b < 2)
-gate-last {k} n₀ n₁ n₂ n₃ n₄ = gate-made k 5 (simp (ne-eqb k 0 n₀, ne-eqb k 1 n₁, ne-eqb k 2 n₂, ne-eqb k 3 n₃, ne-eqb k 4 n₄))
+-- so of two words, for every value
+pub gate-word : {u w i : ℕ} (k a b : ℕ) → u < 2 → w < 2 → i < 2 → k ≤ lastKind → TakenBy k u w i → (v : ℕ) → v < maxValues
+    → bit (added u w (i * (2 ^ maxValues - 1)) a b) v ≡ gateBit k (bit a v) (bit b v)
+gate-word {u} {w} {i} k a b lu lw li h t v l =
+    bit-xor (bitXor (u * bitXor a b) (w * bitAnd a b)) (i * (2 ^ maxValues - 1)) v
+    ∙ ap₂ bitXor
+    (bit-xor (u * bitXor a b) (w * bitAnd a b) v
+    ∙ ap₂ bitXor (times-bit u (bitXor a b) v lu ∙ ap (λ x. u * x) (bit-xor a b v)) (times-bit w (bitAnd a b) v lw ∙ ap (λ x. w * x) (bit-and a b v)))
+    (ones-times i v li l)
+    ∙ gate-added k h t (bit a v) (bit b v) (bit-lt a v) (bit-lt b v)

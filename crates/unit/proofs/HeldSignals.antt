@@ -4,13 +4,9 @@ use mathlib.Core.Path.{_≡_, sym, _∙_, subst}
 use mathlib.Core.List.{List}
 use native.Mathlib.Nat.{lt-of-lt-of-le}
 use native.Mathlib.Omega.{arith}
-use lib.Dec.{ltb}
 use lib.ListN.{length, getD}
 use Rattle.sheet.specs.Limits.{maxWires, maxGates, maxOutputs}
 use Rattle.table.specs.Bits.{bit, tabulate}
-use Rattle.table.proofs.Bits.{bit-lt}
-use Rattle.base.proofs.Tests.{cond-has}
-use Rattle.base.proofs.Tabulate.{tabulate-entry}
 use Rattle.sheet.specs.declared.Command.{Command}
 use Rattle.sheet.specs.declared.Sheet.{Sheet}
 use Rattle.sheet.specs.Commands.{noGate, wiresOf, gatesOf, signalsMade}
@@ -20,15 +16,11 @@ use Rattle.reader.specs.Inner.WasRead.{WasRead}
 use Rattle.reader.proofs.Sound.{Sound}
 use Rattle.reader.proofs.Placed.{gateOf, gate-held, held-sound, placed}
 use Rattle.unit.specs.Gates.{signalsOn}
-use Rattle.unit.proofs.Signals.{AllBits, upTo, upTo-cong, gates-upTo}
+use Rattle.unit.proofs.Signals.{upTo, upTo-cong, gates-upTo}
 
 -- room for a signal of each wire and of each gate
 abbrev pub maxSignals : ℕ
 maxSignals = maxWires + maxGates
-
--- the wires are bits
-pub wires-bits : (m v : ℕ) → AllBits (tabulate m (bit v))
-wires-bits m v q = rw (tabulate-entry m (bit v) q) (cond-has (λ x. x < 2) (ltb q m) (λ _. bit-lt v q) (λ _. omega arith))
 
 module _ (cs : List Command) (s : Sound cs) where
   -- the signals of the commands are those of the sheet's lists

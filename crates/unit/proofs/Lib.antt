@@ -3,7 +3,7 @@ pub mod Bits
 pub mod Signals
 pub mod HeldSignals
 pub mod Members
-pub mod Codings
+pub mod Outputs
 pub mod Allowed
 pub mod Told
 pub mod Forming

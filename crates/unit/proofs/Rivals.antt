@@ -19,7 +19,7 @@ use Rattle.unit.specs.Gates.{outputsFor}
 use Rattle.unit.specs.Relation.{permits, sameList, alike, unitRelation}
 use Rattle.unit.specs.Rival.{Obeys, Rival}
 use Rattle.unit.specs.Formed.{relationIn}
-use Rattle.unit.proofs.Codings.{same-list, list-same}
+use Rattle.unit.proofs.Outputs.{same-list, list-same}
 use Rattle.unit.proofs.Allowed.{permits-each, each-permits}
 use Rattle.unit.proofs.Told.{emptyIn, family-told}
 use Rattle.table.specs.Drawing.{Drawing, drawnValue}

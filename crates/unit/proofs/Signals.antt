@@ -7,10 +7,10 @@ use native.Mathlib.Numerals.{add-one}
 use native.Mathlib.Omega.{arith}
 use lib.ListN.{length, getD, set, length-append, List·getD-append}
 use lib.Seq.{getD-at}
-use Rattle.base.proofs.Tabulate.{filled-more}
+use Rattle.base.proofs.Tabulate.{filled-has}
+use Rattle.table.specs.Bits.{bit}
 use Rattle.sheet.specs.Commands.{LogicGate, noGate}
 use Rattle.unit.specs.Gates.{gateBit, withGate, withGates}
-use Rattle.unit.proofs.Bits.{gate-lt}
 
 -- the signals s, and after them those of the first k of the gates g
 unfoldable pub upTo : List ℕ → (ℕ → LogicGate) → ℕ → List ℕ
@@ -42,36 +42,19 @@ unfolding withGates upTo
 gates-upTo s [] = refl
 gates-upTo s (g ∷ gs) = gates-upTo (withGate s g) gs ∙ upTo-front s (λ i. getD (g ∷ gs) i noGate) (length gs)
 
--- every signal is a bit
-abbrev pub AllBits : List ℕ → Type 0
-AllBits s = (q : ℕ) → getD s q 0 < 2
-
-one-bit-more : (s : List ℕ) (x : ℕ) → AllBits s → x < 2 → AllBits (s ++ x ∷ [])
-one-bit-more [] x h l zero = l
-one-bit-more [] x h l (suc q) = omega arith
-one-bit-more (y ∷ s) x h l zero = h 0
-one-bit-more (y ∷ s) x h l (suc q) = one-bit-more s x (λ i. h (suc i)) l q
-
-pub upTo-bits : (s : List ℕ) (g : ℕ → LogicGate) (k : ℕ) → AllBits s → AllBits (upTo s g k)
-unfolding upTo
-upTo-bits s g zero h = h
-upTo-bits s g (suc k) h =
-    let b = upTo-bits s g k h in
-    one-bit-more (upTo s g k) (gateBit (g k .kind) (getD (upTo s g k) (g k .left) 0) (getD (upTo s g k) (g k .right) 0)) b
-    (gate-lt (g k .kind) (getD (upTo s g k) (g k .left) 0) (getD (upTo s g k) (g k .right) 0) (b (g k .left)) (b (g k .right)))
-
--- a list that holds the signals so far, with one gate's signal put after them
-module _ (s : List ℕ) (g : ℕ → LogicGate) (m i : ℕ) (wires : length s ≡ m) (signals : List ℕ) (room : m + i < length signals)
-    (so-far : (q : ℕ) → q < m + i → getD signals q 0 ≡ getD (upTo s g i) q 0) where
+-- words that hold the signals so far for value v, with one gate's word put after them
+module _ (s : List ℕ) (g : ℕ → LogicGate) (m i : ℕ) (wires : length s ≡ m) (words : List ℕ) (room : m + i < length words) (v : ℕ)
+    (so-far : (q : ℕ) → q < m + i → bit (getD words q 0) v ≡ getD (upTo s g i) q 0) where
   long : length (upTo s g i) ≡ m + i
   long = upTo-length s g i ∙ ap (λ x. x + i) wires
 
-  pub gate-more : (x : ℕ) → g i .left < m + i → g i .right < m + i → x ≡ gateBit (g i .kind) (getD signals (g i .left) 0) (getD signals (g i .right) 0)
-      → (q : ℕ) → q < m + (i + 1) → getD (set signals (m + i) x) q 0 ≡ getD (upTo s g (i + 1)) q 0
+  pub gate-more : (x : ℕ) → g i .left < m + i → g i .right < m + i
+      → bit x v ≡ gateBit (g i .kind) (bit (getD words (g i .left) 0) v) (bit (getD words (g i .right) 0) v)
+      → (q : ℕ) → q < m + (i + 1) → bit (getD (set words (m + i) x) q 0) v ≡ getD (upTo s g (i + 1)) q 0
   gate-more x l r e q h =
       let y : ℕ = gateBit (g i .kind) (getD (upTo s g i) (g i .left) 0) (getD (upTo s g i) (g i .right) 0) in
       rw (upTo-more s g i)
-      (filled-more (λ q. getD (upTo s g i ++ y ∷ []) q 0) signals (m + i) x room
+      (filled-has (λ q w. bit w v ≡ getD (upTo s g i ++ y ∷ []) q 0) words (m + i) x room
       (λ q b. so-far q b ∙ sym (List·getD-append (upTo s g i) (y ∷ []) 0 q (rw long b)))
       (e ∙ ap₂ (gateBit (g i .kind)) (so-far (g i .left) l) (so-far (g i .right) r) ∙ sym (getD-at (upTo s g i) y [] 0 (m + i) long))
       q (omega arith))

@@ -1,81 +1,82 @@
-// The soldered second stage: its gates, and its outputs for a wire value.
+// The soldered second stage for all wire values at once: a signal is one word, whose bit v is the signal for value v (bit-parallel simulation).
 use sheet::Sheet;
+use table::columns::column;
 ghost use mathlib.Core.Path.{_≡_};
-ghost use Prim.Native.Nat.{ℕ, _<_};
+ghost use Prim.Native.Nat.{ℕ, _<_, _≤_};
 ghost use lib.ListN.{getD};
-ghost use Rattle.sheet.specs.Limits.{maxWires};
+ghost use Rattle.sheet.specs.Limits.{maxWires, maxValues};
 ghost use Rattle.table.specs.Bits.{bit};
-ghost use Rattle.unit.specs.Gates.{gateBit};
+ghost use Rattle.reader.specs.Reader.{lastKind};
 ghost use Rattle.reader.specs.Inner.WasRead.{WasRead};
-ghost use Rattle.unit.specs.Inner.Forming.{Signals, codeOf};
+ghost use Rattle.unit.specs.Gates.{gateBit};
+ghost use Rattle.unit.specs.Inner.Forming.{SignalWords, OutputWords};
 
 // Room for a signal of each wire and of each gate.
 const MAX_SIGNALS: usize = Sheet::WIRES + Sheet::MAX_GATES as usize;
 
-// What a gate of a kind makes of two bits. A sheet that was read names no other kind.
-fn gate_bit(kind: u8, a: u8, b: u8) -> u8
-    requires { ⌜ (a < 2) × (b < 2) ⌝ }
-    ensures { λ r. ⌜ (r ≡ gateBit kind a b) × (r < 2) ⌝ }
-{
-    match kind {
-        0 => a & b,
-        1 => a | b,
-        2 => a ^ b,
-        3 => 1 - (a & b),
-        4 => 1 - (a | b),
-        _ => 1 - (a ^ b),
-    }
-}
+// AND, OR and XOR; after them come the same inverted.
+const PLAIN_KINDS: u8 = 3;
 
-// Wire j of a value.
-fn wire(v: u8, j: u8) -> u8
-    requires { ⌜ j < 8 ⌝ }
-    ensures { λ r. ⌜ r ≡ bit v j ⌝ }
+const KINDS: u8 = 2 * PLAIN_KINDS;
+
+// A one for every value.
+pub(crate) const ALL_VALUES: u16 = ((1u32 << Sheet::MAX_VALUES) - 1) as u16;
+
+// What a gate of a kind makes of two signals. It is arithmetic modulo 2 and asks nowhere which kind it has: AND is the product of two bits, XOR their sum, OR
+// the sum and the product together, and inverting adds 1 (the algebraic normal form of a gate). How often each of these terms counts is told by the kind: once
+// or not at all.
+fn gate_word(kind: u8, a: u16, b: u16) -> u16
+    ensures { λ r. ⌜ (kind ≤ lastKind → (v : ℕ) → v < maxValues → bit r v ≡ gateBit kind (bit a v) (bit b v)) ⌝ }
 {
-    (v >> j) % 2
+    let plain = (kind % PLAIN_KINDS) as u16;
+    let sums = (plain + 1) / 2;
+    let products = 1 - plain / 2;
+    let ones = (kind % KINDS / PLAIN_KINDS) as u16;
+    (sums * (a ^ b)) ^ (products * (a & b)) ^ (ones * ALL_VALUES)
 }
 
 // The wires' signals. All that a sheet may have are there, four of them; those past the last wire give way to gates.
-fn wires_on(v: u8) -> [u8; MAX_SIGNALS]
-    ensures { λ r. ⌜ ((j : ℕ) → j < maxWires → getD r j 0 ≡ bit v j) ⌝ }
+fn wire_words() -> [u16; MAX_SIGNALS]
+    ensures { λ r. ⌜ ((j v : ℕ) → j < maxWires → v < maxValues → bit (getD r j 0) v ≡ bit v j) ⌝ }
 {
     let mut signals = [0; MAX_SIGNALS];
-    signals[0] = wire(v, 0);
-    signals[1] = wire(v, 1);
-    signals[2] = wire(v, 2);
-    signals[3] = wire(v, 3);
+    signals[0] = column(0, 1);
+    signals[1] = column(1, 1);
+    signals[2] = column(2, 1);
+    signals[3] = column(3, 1);
     signals
 }
 
-// The signals for a wire value: the wires, and after them the gates as they come.
-fn signals_on(sheet: Sheet, v: u8) -> [u8; MAX_SIGNALS]
+// The signals: the wires, and after them the gates as they come.
+fn signal_words(sheet: Sheet) -> [u16; MAX_SIGNALS]
     requires { ⌜ WasRead sheet ⌝ }
-    ensures { λ r. ⌜ ((h : WasRead sheet) → Signals (h .commands) v r) ⌝ }
+    ensures { λ r. ⌜ ((h : WasRead sheet) → SignalWords (h .commands) r) ⌝ }
 {
     let m = sheet.m;
     let kinds = sheet.kinds;
     let lefts = sheet.lefts;
     let rights = sheet.rights;
-    let mut signals = wires_on(v);
+    let mut signals = wire_words();
     for i in 0..sheet.gate_count {
         let g = i as usize;
         let a = signals[lefts[g] as usize];
         let b = signals[rights[g] as usize];
-        signals[(m + i) as usize] = gate_bit(kinds[g], a, b);
+        signals[(m + i) as usize] = gate_word(kinds[g], a, b);
     }
     signals
 }
 
-// The outputs for a wire value as one number, so that two values are alike where the numbers are equal. `form` has the sheet from its reader.
-pub(crate) fn outputs_on(sheet: Sheet, v: u8) -> u8
+// The outputs; past the last one words of 0, which are the same for any two values. `form` has the sheet from its reader.
+pub(crate) fn output_words(sheet: Sheet) -> [u16; Sheet::MAX_OUTPUTS as usize]
     requires { ⌜ WasRead sheet ⌝ }
-    ensures { λ r. ⌜ ((h : WasRead sheet) → r ≡ codeOf (h .commands) v) ⌝ }
+    ensures { λ r. ⌜ ((h : WasRead sheet) → OutputWords (h .commands) r) ⌝ }
 {
     let outputs = sheet.signals;
-    let signals = signals_on(sheet, v);
-    let mut code: u8 = 0;
+    let signals = signal_words(sheet);
+    let mut words = [0; Sheet::MAX_OUTPUTS as usize];
     for i in 0..sheet.output_count {
-        code += signals[outputs[i as usize] as usize] << i;
+        let at = i as usize;
+        words[at] = signals[outputs[at] as usize];
     }
-    code
+    words
 }

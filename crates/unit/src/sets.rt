@@ -1,55 +1,50 @@
 // The relation of a sheet that was read, pattern by pattern.
-use crate::gates::outputs_on;
+use crate::gates::ALL_VALUES;
+use crate::gates::output_words;
 use relation::Relation;
 use sheet::Sheet;
 use sheet::limits::patterns_of;
 ghost use mathlib.Core.Path.{_≡_};
 ghost use Prim.Native.Nat.{_<_, _^_};
 ghost use lib.Dec.{eqb};
-ghost use lib.ListN.{getD};
-ghost use Rattle.table.specs.Bits.{ofBits, isOne};
+ghost use Rattle.table.specs.Bits.{bit, ofBits, isOne};
 ghost use Rattle.sheet.specs.Limits.{maxValues};
 ghost use Rattle.reader.specs.Inner.WasRead.{WasRead};
-ghost use Rattle.unit.specs.Inner.Forming.{Codes};
+ghost use Rattle.unit.specs.Inner.Forming.{OutputWords, sameOutputs};
 ghost use Rattle.unit.specs.Formed.{setOn, relationIn};
 
-// The outputs of every wire value, each as one number.
-fn codes_of(sheet: Sheet) -> [u8; Sheet::MAX_VALUES]
-    requires { ⌜ WasRead sheet ⌝ }
-    ensures { λ r. ⌜ ((h : WasRead sheet) → Codes (h .commands) r) ⌝ }
+// The values for which a signal is what it is for value v: its word, or the word inverted.
+fn agreeing(word: u16, v: u8) -> u16
+    requires { ⌜ v < maxValues ⌝ }
+    ensures { λ r. ⌜ r ≡ ofBits maxValues (λ u. isOne (eqb (bit word u) (bit word v))) ⌝ }
 {
-    let mut codes = [0; Sheet::MAX_VALUES];
-    for v in 0..Sheet::MAX_VALUES as u8 {
-        codes[v as usize] = outputs_on(sheet, v);
-    }
-    codes
+    let zero = 1 - (word >> v) % 2;
+    word ^ (zero * ALL_VALUES)
 }
 
-// The set of the values with these outputs.
-fn alike(codes: [u8; Sheet::MAX_VALUES], code: u8) -> u16
-    ensures { λ r. ⌜ r ≡ ofBits maxValues (λ v. isOne (eqb (getD codes v 0) code)) ⌝ }
+// The values for which every output is what it is for value v.
+fn alike(outputs: [u16; Sheet::MAX_OUTPUTS as usize], v: u8) -> u16
+    requires { ⌜ v < maxValues ⌝ }
+    ensures { λ r. ⌜ r ≡ ofBits maxValues (λ u. isOne (sameOutputs outputs v u)) ⌝ }
 {
-    let mut found: u16 = 0;
-    for v in 0..Sheet::MAX_VALUES as u8 {
-        if codes[v as usize] == code {
-            found += 1 << v;
-        }
+    let mut found = ALL_VALUES;
+    for i in 0..Sheet::MAX_OUTPUTS {
+        found &= agreeing(outputs[i as usize], v);
     }
     found
 }
 
 // The values that pattern p may have: the permitted ones and, unless it is impossible, of those only the ones that are alike to its present value.
-fn set_on(sheet: Sheet, codes: [u8; Sheet::MAX_VALUES], p: u8) -> u16
+fn set_on(sheet: Sheet, outputs: [u16; Sheet::MAX_OUTPUTS as usize], p: u8) -> u16
     requires { ⌜ WasRead sheet × (p < 2 ^ sheet .n) ⌝ }
-    ensures { λ r. ⌜ ((h : WasRead sheet) → Codes (h .commands) codes → r ≡ setOn (h .commands) p) ⌝ }
+    ensures { λ r. ⌜ ((h : WasRead sheet) → OutputWords (h .commands) outputs → r ≡ setOn (h .commands) p) ⌝ }
 {
     let at = p as usize;
     let allowed = sheet.limits[at];
     if sheet.marks[at] != Sheet::ROW {
         return allowed;
     }
-    let present = sheet.values[at] as usize;
-    allowed & alike(codes, codes[present])
+    allowed & alike(outputs, sheet.values[at])
 }
 
 // The relation, with empty sets past the last pattern. `form` has the sheet from its reader.
@@ -59,10 +54,10 @@ pub(crate) fn relation_of(sheet: Sheet) -> Relation
 {
     let n = sheet.n;
     let m = sheet.m;
-    let codes = codes_of(sheet);
+    let outputs = output_words(sheet);
     let mut sets = [0; Sheet::MAX_PATTERNS];
     for p in 0..patterns_of(n) {
-        sets[p as usize] = set_on(sheet, codes, p);
+        sets[p as usize] = set_on(sheet, outputs, p);
     }
     Relation { n, m, sets }
 }

@@ -1,5 +1,7 @@
-//! The search of document 01, tuned for speed: the benchmark's other side.
-//! This folder stands alone; `tests/agreement.rs` holds it to `search`.
+//! The search of document 01, tuned for speed: the benchmark's other side. So is
+//! the forming of a unit's relation, in `forming`. This folder stands alone, but
+//! for `board` and `sheet`, which have the types that it is handed;
+//! `tests/agreement.rs` holds it to `search` and to `relation`.
 //!
 //! * There is one search for both boards. It is compiled for each of them and
 //!   for each number of inputs, and only the pick looks at the board.
@@ -20,8 +22,11 @@
 // Patterns and wires are numbers here; loops go over the numbers.
 #![allow(clippy::needless_range_loop)]
 
+mod forming;
 mod shared;
 mod tree;
+
+pub use forming::sets_of;
 
 use crate::board::Board;
 

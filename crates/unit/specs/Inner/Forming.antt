@@ -1,30 +1,31 @@
 -- What the steps towards the relation give, for a sheet that was read, in terms of its commands.
 use Prim.Native.Nat.{ℕ, _<_}
 use mathlib.Core.Path.{_≡_}
-use mathlib.Core.Bool.{cond}
+use mathlib.Core.Bool.{Bool, cond}
 use mathlib.Core.List.{List}
-use lib.ListN.{length, getD}
+use lib.Dec.{eqb}
+use lib.ListN.{getD}
 use Rattle.base.specs.Cases.{Case, isRefused}
-use Rattle.table.specs.Bits.{ofBits}
+use Rattle.table.specs.Bits.{bit, all}
 use Rattle.relation.specs.declared.Relation.{Relation}
 use Rattle.sheet.specs.declared.Command.{Command}
-use Rattle.sheet.specs.Commands.{signalsMade, outputsOf}
-use Rattle.sheet.specs.Limits.{maxValues}
+use Rattle.sheet.specs.Commands.{signalsMade}
+use Rattle.sheet.specs.Limits.{maxOutputs, maxValues}
 use Rattle.unit.specs.Cases.{FormedReply}
 use Rattle.unit.specs.Gates.{signalsOn, outputsFor}
 use Rattle.unit.specs.Formed.{noRelation}
 
--- the signals that there are, each at its place
-abbrev pub Signals : List Command → ℕ → List ℕ → Type 0
-Signals cs v signals = (s : ℕ) → s < signalsMade cs → getD signals s 0 ≡ getD (signalsOn cs v) s 0
+-- the signals that there are, each in the word at its place: bit v is the signal for value v
+abbrev pub SignalWords : List Command → List ℕ → Type 0
+SignalWords cs words = (s v : ℕ) → s < signalsMade cs → v < maxValues → bit (getD words s 0) v ≡ getD (signalsOn cs v) s 0
 
--- G(v) as one number: bit i is output i
-unfoldable pub codeOf : List Command → ℕ → ℕ
-codeOf cs v = ofBits (length (outputsOf cs)) (λ i. getD (outputsFor cs v) i 0)
+-- the outputs in the same way, and 0 past the last
+abbrev pub OutputWords : List Command → List ℕ → Type 0
+OutputWords cs words = (i v : ℕ) → i < maxOutputs → v < maxValues → bit (getD words i 0) v ≡ getD (outputsFor cs v) i 0
 
--- G(v) for every value, each at its place
-abbrev pub Codes : List Command → List ℕ → Type 0
-Codes cs codes = (v : ℕ) → v < maxValues → getD codes v 0 ≡ codeOf cs v
+-- every output is the same for v as for u
+unfoldable pub sameOutputs : List ℕ → ℕ → ℕ → Bool
+sameOutputs words u v = all maxOutputs (λ i. eqb (bit (getD words i 0) v) (bit (getD words i 0) u))
 
 -- a relation that was tested: refused or whole
 abbrev pub checkedReply : Relation → Case → FormedReply

@@ -1,7 +1,7 @@
 -- `relation_of` meets its contract: the patterns passed have their sets, and the others none.
 use Prim.Native.Nat.{ℕ, _-_, _^_, _<_, _≤_}
-use mathlib.Core.Path.{_≡_, refl, ap, subst, _∙_}
-use mathlib.Core.Bool.{Bool, true, false, cond}
+use mathlib.Core.Path.{_≡_, ap, subst, _∙_}
+use mathlib.Core.Bool.{cond}
 use mathlib.Core.List.{List}
 use native.Mathlib.Omega.{arith}
 use lib.Dec.{ltb, ltb→lt, nltb→le}
@@ -11,7 +11,7 @@ use borrow.Author.Needs.{needs}
 use Rattle.base.proofs.Tests.{cond-has}
 use Rattle.table.specs.Bits.{tabulate}
 use Rattle.relation.specs.declared.Relation.{Relation}
-use Rattle.base.proofs.Tabulate.{filled-more, filled-tabulate, tabulate-entry}
+use Rattle.base.proofs.Tabulate.{filled-more, filled-tabulate, zeros-entry}
 use Rattle.sheet.specs.Limits.{maxPatterns}
 use Rattle.sheet.specs.declared.Sheet.{Sheet}
 use Rattle.sheet.specs.Commands.{inputsOf, wiresOf}
@@ -23,16 +23,12 @@ use Rattle.unit.proofs.sets.relation_of.Statement.{statement}
 use Rattle.unit.proofs.sets.relation_of.Tie as tie
 
 abbrev Inv-loop : tie.InvT-loop
-Inv-loop sheet n m codes sets₀ p₀ p-end sets p =
+Inv-loop sheet n m outputs sets₀ p₀ p-end sets p =
     (p ≤ p-end) × (length sets ≡ maxPatterns) × ((q : ℕ) → p ≤ q → getD sets q 0 ≡ 0)
     × ((h : WasRead sheet) (q : ℕ) → q < p → getD sets q 0 ≡ setOn (h .commands) q)
 
 abbrev μ-loop : tie.MeasureT-loop
-μ-loop sheet n m codes sets₀ p₀ p-end sets p = p-end - p
-
-cond-same : (b : Bool) → _≡_ {A = ℕ} (cond b 0 0) 0
-cond-same true = refl
-cond-same false = refl
+μ-loop sheet n m outputs sets₀ p₀ p-end sets p = p-end - p
 
 -- the sets of the patterns there are, and none past them
 module _ {sheet : Sheet} (h : WasRead sheet) (sets : List ℕ) (long : length sets ≡ maxPatterns)
@@ -56,8 +52,8 @@ module _ {sheet : Sheet} (h : WasRead sheet) (sets : List ℕ) (long : length se
           → _≡_ {A = Relation} (record { n = n; m = m; sets = s }) (record { n = n′; m = m′; sets = s′ })
       same a b d = cc
 
-codes-of-requires : tie.Need-codes-of-requires Inv-loop μ-loop
-codes-of-requires c κs = c .pre
+output-words-requires : tie.Need-output-words-requires Inv-loop μ-loop
+output-words-requires c κs = c .pre
 
 patterns-of-requires : tie.Need-patterns-of-requires Inv-loop μ-loop
 patterns-of-requires c κs = search needs
@@ -65,7 +61,7 @@ patterns-of-requires c κs = search needs
 loop-holds : tie.Need-loop-holds Inv-loop μ-loop
 unfolding tabulate
 loop-holds c =
-    (omega arith, search needs, λ q l. tabulate-entry maxPatterns (λ _. 0) q ∙ cond-same (ltb q maxPatterns), λ h q l. absurd (omega arith))
+    (omega arith, search needs, λ q l. zeros-entry maxPatterns q, λ h q l. absurd (omega arith))
 
 set-on-requires : tie.Need-set-on-requires Inv-loop μ-loop
 set-on-requires c κs =
@@ -90,12 +86,12 @@ loop-less c = search needs
 loop-again : tie.Need-loop-again Inv-loop μ-loop
 loop-again c =
     let l = c .before .before .loop in
-    let codes = c .before .before .before .before .codes-of in
+    let outputs = c .before .before .before .before .output-words in
     let b : l .p < length (l .sets) = omega (arith, c .before .before .before .patterns-of .ensures .1) in (
       omega arith,
       simp length-set (l .inv .1),
       λ q d. getD-set-other (l .sets) (l .p) q (c .set-on .result) 0 (λ e. omega arith) ∙ l .inv .2 q (omega arith),
-      λ h. filled-more (setOn (h .commands)) (l .sets) (l .p) (c .set-on .result) b (l .inv .3 h) (c .set-on .ensures h (codes .ensures h)),
+      λ h. filled-more (setOn (h .commands)) (l .sets) (l .p) (c .set-on .result) b (l .inv .3 h) (c .set-on .ensures h (outputs .ensures h)),
     )
 
 returns : tie.Need-returns Inv-loop μ-loop
@@ -112,7 +108,7 @@ relation-of-spec =
     (tie.spec
     Inv-loop
     μ-loop
-    codes-of-requires
+    output-words-requires
     patterns-of-requires
     loop-holds
     set-on-requires

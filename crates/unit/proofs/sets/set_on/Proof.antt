@@ -1,10 +1,11 @@
 -- `set_on` meets its contract: by the pattern's mark.
 use Prim.Native.Nat.{ℕ, _^_, _<_}
 use mathlib.Core.Path.{_≡_, sym, ap, subst, _∙_}
-use mathlib.Core.List.{List}
 use native.Mathlib.Omega.{arith}
 use lib.Bits.{bitAnd}
+use lib.Dec.{eqb}
 use lib.ListN.{getD}
+use Rattle.table.specs.Bits.{bit}
 use Rattle.sheet.specs.declared.Sheet.{Sheet}
 use Rattle.sheet.specs.Commands.{inputsOf}
 use Rattle.sheet.specs.Limits.{maxPatterns, maxValues}
@@ -12,9 +13,11 @@ use Rattle.sheet.specs.Gathered.{rowMark}
 use Rattle.sheet.proofs.Fields.{inputs-field, pattern-room}
 use Rattle.unit.specs.Formed.{setOn}
 use Rattle.reader.specs.Inner.WasRead.{WasRead}
-use Rattle.unit.specs.Inner.Forming.{Codes}
+use Rattle.unit.specs.Inner.Forming.{sameOutputs}
 use Rattle.reader.proofs.Placed.{held-sound}
-use Rattle.unit.proofs.Allowed.{sameAs, set-unmarked, set-marked, value-below}
+use Rattle.unit.proofs.Allowed.{HasAlike, set-unmarked, set-marked, value-below}
+use Rattle.unit.proofs.Members.{told-test}
+use Rattle.unit.proofs.Outputs.{words-test}
 use borrow.Author.Needs.{needs}
 use Rattle.unit.proofs.sets.set_on.Statement.{statement}
 use Rattle.unit.proofs.sets.set_on.Tie as tie
@@ -31,15 +34,14 @@ module _ {sheet : Sheet} (h : WasRead sheet) (p : ℕ) (l : p < 2 ^ sheet .n) wh
       subst (λ (x : Sheet). (getD (x .marks) p 0 ≡ rowMark → ⊥) → getD (x .limits) p 0 ≡ setOn (h .commands) p) (sym (h .gathers))
       (set-unmarked (h .commands) (held-sound h) p inside)
 
-  marked : (codes : List ℕ) → Codes (h .commands) codes → getD (sheet .marks) p 0 ≡ rowMark
-      → bitAnd (getD (sheet .limits) p 0) (sameAs codes (getD (sheet .values) p 0)) ≡ setOn (h .commands) p
-  marked codes is =
+  marked : (w : ℕ) → HasAlike (h .commands) (getD (sheet .values) p 0) w → getD (sheet .marks) p 0 ≡ rowMark
+      → bitAnd (getD (sheet .limits) p 0) w ≡ setOn (h .commands) p
+  marked w =
       subst
       (λ (x : Sheet).
-      getD (x .marks) p 0 ≡ rowMark
-      → bitAnd (getD (x .limits) p 0) (sameAs codes (getD (x .values) p 0)) ≡ setOn (h .commands) p)
+      HasAlike (h .commands) (getD (x .values) p 0) w → getD (x .marks) p 0 ≡ rowMark → bitAnd (getD (x .limits) p 0) w ≡ setOn (h .commands) p)
       (sym (h .gathers))
-      (set-marked (h .commands) (held-sound h) p inside codes is)
+      (set-marked (h .commands) (held-sound h) p inside w)
 
   value-room : getD (sheet .marks) p 0 ≡ rowMark → getD (sheet .values) p 0 < maxValues
   value-room =
@@ -60,24 +62,25 @@ returns c =
     let i = c .before .before .before in
     λ h is. unmarked h (i .args .p) (i .pre .1) (c .if1 .taken)
 
-element-copy-out-present : tie.Need-element-copy-out-present
-element-copy-out-present c = let i = c .before .before .before in omega (arith, room (i .pre .0) (i .args .p) (i .pre .1))
-
-cast-present : tie.Need-cast-present
-cast-present c = search needs
-
-array-read-alike : tie.Need-array-read-alike
-array-read-alike c =
-    let i = c .before .before .before .before in
-    value-room (i .pre .0) (i .args .p) (i .pre .1) (c .before .if1 .left)
+element-copy-out-alike : tie.Need-element-copy-out-alike
+element-copy-out-alike c = let i = c .before .before .before in omega (arith, room (i .pre .0) (i .args .p) (i .pre .1))
 
 alike-requires : tie.Need-alike-requires
-alike-requires c κs = search needs
+alike-requires c κs =
+    let i = c .before .before .before .before in
+    value-room (i .pre .0) (i .args .p) (i .pre .1) (c .before .if1 .left)
 
 returns-2 : tie.Need-returns-2
 returns-2 c =
     let i = c .before .before .before .before .before in
-    λ h is. rw (c .alike .ensures) (marked h (i .args .p) (i .pre .1) (i .args .t2) is (c .before .before .if1 .left))
+    let u = getD (i .args .t1 .values) (i .args .p) 0 in
+    λ h is.
+    marked h (i .args .p) (i .pre .1) (c .alike .result)
+    (λ v l.
+    ap (λ x. eqb (bit x v) 1) (c .alike .ensures)
+    ∙ told-test (sameOutputs (i .args .outputs) u) maxValues v l
+    ∙ words-test (h .commands) (held-sound h .outputs .few) (i .args .outputs) is u v (value-room h (i .args .p) (i .pre .1) (c .before .before .if1 .left)) l)
+    (c .before .before .if1 .left)
 
 pub set-on-spec : {M : Type 1} → statement M
 set-on-spec =
@@ -87,8 +90,6 @@ set-on-spec =
     element-copy-out-allowed
     element-copy-out-if1
     returns
-    element-copy-out-present
-    cast-present
-    array-read-alike
+    element-copy-out-alike
     alike-requires
     returns-2)
