@@ -54,14 +54,15 @@ pub fn sheet(rng: &mut Random, n: u8, m: u8) -> Vec<u8> {
 
 /// The size of full sheets.
 pub const FULL: (u8, u8) = (4, 4);
+const GATE_KINDS: usize = 6;
 
 /// The bytes of a sheet that takes as much forming as any: all the gates and outputs that there may be, and a present
 /// value for each pattern. Having no limits, it is not refused.
 pub fn full_sheet(rng: &mut Random) -> Vec<u8> {
     let (n, m) = FULL;
     let made = |gates: usize| usize::from(m) + gates;
-    // One of the six kinds, and two of the signals made so far.
-    let gates = (0..MOST_GATES).map(|g| [6, made(g), made(g)].map(|limit| rng.below(limit) as u8)).collect();
+    // A kind, and two of the signals made so far.
+    let gates = (0..MOST_GATES).map(|g| [GATE_KINDS, made(g), made(g)].map(|limit| rng.below(limit) as u8)).collect();
     let outputs = (0..MOST_OUTPUTS).map(|_| rng.below(made(MOST_GATES)) as u8).collect();
     let rows = (0..1 << n).map(|_| Some(rng.below(1 << m) as u8)).collect();
     Draft { n, m, gates, outputs, rows, limits: Vec::new() }.sheet(rng)

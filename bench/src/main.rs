@@ -1,4 +1,5 @@
-//! Prints the library's times beside those of the tuned Rust search, on the same relations in the same run.
+//! Prints the library's times beside those of the tuned Rust search and forming, on the same relations and sheets in the
+//! same run.
 
 mod clock;
 mod inputs;
@@ -48,10 +49,12 @@ fn print_sheets<const ROOM: usize>(what: &str, rust: &str, sheets: &[Sheets<ROOM
 
 fn print_relations(formed: &[Relations]) {
     println!("\nRelations formed of the units' sheets and, in the last row, of sheets with 32 gates and 8 outputs.");
-    println!("The library audits no bytes as a stage: it reads the sheet, forms its relation and refuses the stage.");
-    println!("On Rust's side stand the reader of the trials, which is not tuned, and the tuned forming.");
+    println!("The library is asked for an audit with no bytes for a stage: it reads the sheet, forms its relation");
+    println!("and refuses the stage. On Rust's side stand the reader of the trials, which is not tuned, and the");
+    println!("tuned forming, whose sets were compared with those of the trials; this call hands out none of its own.");
     println!("Forming alone: of the library what it takes longer than with the last byte off, where it reads all");
-    println!("other commands and forms nothing; the tests of the end and for 10 are in it. Of Rust the sets alone.");
+    println!("other commands, is refused and forms nothing; so the tests at the end and for 10 and the refusal of");
+    println!("the stage are in it, less the blank sheet that a refused one is given. Of Rust the sets alone.");
     println!("                  us a sheet, read and formed        ns, forming alone");
     println!("size       gates    library      Rust  ratio    library      Rust  ratio");
     for row in formed {

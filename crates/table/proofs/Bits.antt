@@ -4,11 +4,11 @@ use mathlib.Core.Path.{_≡_, refl, sym, ap, _∙_}
 use mathlib.Core.Logic.{_⊎_, inl, inr, ⊎-elim}
 use mathlib.Core.Bool.{_&&_}
 use native.Mathlib.Omega.{arith}
-use native.Mathlib.Nat.{not-suc-le-zero, le-of-suc-le-suc, lt-of-lt-of-le, le-trans, le-dest, add-comm, pow-suc, mul-le-mul-right}
-use native.Mathlib.Nat.{mod-lt, mod-le, mod-eq-of-lt, mod-add-div', div-eq-of-lt, div-lt-iff-lt-mul, add-mul-div-right, add-mul-mod-self-right}
+use native.Mathlib.Nat.{not-suc-le-zero, le-of-suc-le-suc, lt-of-lt-of-le, le-dest, add-comm, pow-suc, mul-le-mul-right}
+use native.Mathlib.Nat.{mod-lt, mod-eq-of-lt, mod-add-div', div-eq-of-lt, div-lt-iff-lt-mul, add-mul-div-right, add-mul-mod-self-right}
 use lib.Dec.{eqb}
 use lib.Bits.{bitAnd, bitXor, and-shr, and-mod, xor-shr, xor-mod}
-use lib.Pow.{pow-pos, pow-add, pow-mono, high, shr-shr, shl-exact, split}
+use lib.Pow.{pow-pos, pow-add, pow-mono, high, shr-shr, shl-exact}
 pub use Rattle.base.proofs.Tabulate.{tabulate-length, tabulate-at, tabulate-cong, tabulate-four}
 use Rattle.base.proofs.Tests.{below-suc}
 pub use Rattle.table.proofs.Below.{all-at, all-intro, all-cong, any-intro, any-at, any-cong}
@@ -113,13 +113,9 @@ pub bit-past : (x k v : ℕ) → x < 2 ^ k → k ≤ v → bit x v ≡ 0
 unfolding bit
 bit-past x k v h l = ap (λ y. y % 2) (div-eq-of-lt (lt-of-lt-of-le h (pow-mono l)))
 
--- the bits of 0, and a bit of a number in its place
+-- the bits of 0
 pub zero-bit : (v : ℕ) → bit 0 v ≡ 0
 zero-bit v = bit-past 0 0 v (omega arith) (omega arith)
-
-pub bit-part : (x p : ℕ) → bit x p * 2 ^ p ≤ x
-unfolding bit
-bit-part x p = le-trans (mul-le-mul-right (2 ^ p) (mod-le (x / 2 ^ p) 2)) (omega (arith, split x p))
 
 -- a power of two, as the code makes it by a shift at width w
 pub shifted-one : (k w : ℕ) → k < w → 1 * 2 ^ k % 2 ^ w ≡ 2 ^ k

@@ -2,7 +2,7 @@
 use Prim.Native.Nat.{ℕ, _^_, _<_}
 use mathlib.Core.Path.{_≡_, refl, sym, ap, ap₂, subst, _∙_}
 use mathlib.Core.Logic.{⊎-elim}
-use mathlib.Core.Bool.{cond}
+use mathlib.Core.Bool.{Bool, cond}
 use native.Mathlib.Nat.{lt-of-lt-of-le}
 use lib.Dec.{T-not, eqb, eqb→eq, ltb, ltb→lt}
 use lib.Bits.{bitAnd}
@@ -70,11 +70,14 @@ module _ {sheet : Sheet} (a b : WasRead sheet) where
       l′ : p < 2 ^ inputsOf (b .commands)
       l′ = subst (λ n. p < 2 ^ n) same-inputs l
 
+      answersAlike : ℕ → Bool
+      answersAlike v = sameList (outputsFor (a .commands) v) (outputsFor (a .commands) (getD (gathered (a .commands) .values) p 0))
+
       alikes : ℕ
-      alikes = told maxValues (λ v. sameList (outputsFor (a .commands) v) (outputsFor (a .commands) (getD (gathered (a .commands) .values) p 0)))
+      alikes = told maxValues answersAlike
 
       own : HasAlike (a .commands) (getD (gathered (a .commands) .values) p 0) alikes
-      own v h = told-test (λ v. sameList (outputsFor (a .commands) v) (outputsFor (a .commands) (getD (gathered (a .commands) .values) p 0))) maxValues v h
+      own v h = told-test answersAlike maxValues v h
 
       other : HasAlike (b .commands) (getD (gathered (b .commands) .values) p 0) alikes
       other v h = own v h ∙ rw same (ap₂ sameList (same-answers v) (same-answers (getD (gathered (b .commands) .values) p 0)))

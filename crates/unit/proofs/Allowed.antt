@@ -1,6 +1,6 @@
 -- The set of a pattern: permitted values that answer alike.
 use Prim.Native.Nat.{ℕ, _-_, _^_, _<_}
-use mathlib.Core.Path.{_≡_, sym, ap₂, subst, _∙_}
+use mathlib.Core.Path.{_≡_, sym, ap, ap₂, subst, _∙_}
 use mathlib.Core.Logic.{⊎-elim}
 use mathlib.Core.Bool.{Bool, _&&_, and-assoc}
 use mathlib.Core.List.{List, [], _∷_}
@@ -77,7 +77,9 @@ module _ (cs : List Command) (s : Sound cs) (p : ℕ) where
   unfolding setOn unitRelation alike
   all-permitted e =
       told-is (λ v. ltb v (2 ^ wiresOf cs) && unitRelation cs p v) maxValues (limitOn p cs) limit-lt
-      (λ v l. limit-test v ∙ rw (e, and-true (permits (limitsOn p cs) v)))
+      (λ v l.
+      let all = permits (limitsOn p cs) v in
+      limit-test v ∙ ap (λ x. ltb v (2 ^ wiresOf cs) && x) (sym (and-true all) ∙ ap (λ us. all && alike cs us v) (sym e)))
 
   -- a pattern with the present value u: of those the ones with the outputs of u
   alike-permitted : (u w : ℕ) → HasAlike cs u w → rowsOn p cs ≡ u ∷ [] → bitAnd (limitOn p cs) w ≡ setOn cs p

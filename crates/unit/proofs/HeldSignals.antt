@@ -37,7 +37,7 @@ module _ {sheet : Sheet} (h : WasRead sheet) where
   pub gate-room : (i : ℕ) → i < sheet .«gate_count» → i < maxGates
   gate-room i l = lt-of-lt-of-le l (placed h .few-gates)
 
-  pub signal-room : {s : ℕ} (i : ℕ) → i ≤ sheet .«gate_count» → s < sheet .m + i → s < maxSignals
+  signal-room : {s : ℕ} (i : ℕ) → i ≤ sheet .«gate_count» → s < sheet .m + i → s < maxSignals
   signal-room i l b = omega (arith, placed h .few-wires, placed h .few-gates)
 
   pub sources-room : (i : ℕ) → i < sheet .«gate_count» → (gateOf sheet i .left < maxSignals) × (gateOf sheet i .right < maxSignals)
@@ -48,6 +48,9 @@ module _ {sheet : Sheet} (h : WasRead sheet) where
 
   pub output-room : (i : ℕ) → i < sheet .«output_count» → i < maxOutputs
   output-room i l = lt-of-lt-of-le l (placed h .few-outputs)
+
+  pub output-made : (i : ℕ) → i < sheet .«output_count» → getD (sheet .signals) i 0 < maxSignals
+  output-made i l = signal-room (sheet .«gate_count») (omega arith) (placed h .made i l)
 
   pub signals-is : (v : ℕ) → signalsOn (h .commands) v ≡ upTo (tabulate (sheet .m) (bit v)) (gateOf sheet) (sheet .«gate_count»)
   signals-is v =

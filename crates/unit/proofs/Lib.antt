@@ -1,5 +1,6 @@
 -- Laws of the second stage and of the relation of a sheet.
 pub mod Bits
+pub mod GateTerms
 pub mod Signals
 pub mod HeldSignals
 pub mod Members

@@ -14,6 +14,7 @@ use Rattle.table.proofs.Bits.{bit-lt, bit-ext, bit-past, bit-ofBits, ofBits-lt,
 use Rattle.table.proofs.BitColumns.{one-test, isOne-lt-two}
 use Rattle.sheet.specs.Limits.{maxValues}
 use Rattle.sheet.proofs.Lists.{never}
+use Rattle.unit.specs.Inner.Forming.{sameBit}
 use Rattle.unit.proofs.Bits.{two-bits, times-lt, ones-times}
 
 -- the numbers below k that pass
@@ -21,7 +22,7 @@ abbrev pub told : ℕ → (ℕ → Bool) → ℕ
 told k f = ofBits k (λ v. isOne (f v))
 
 module _ (f : ℕ → Bool) where
-  pub told-lt : (k : ℕ) → told k f < 2 ^ k
+  told-lt : (k : ℕ) → told k f < 2 ^ k
   told-lt k = ofBits-lt (λ v. isOne (f v)) k (λ v _. isOne-lt-two (f v))
 
   pub told-test : (k v : ℕ) → v < k → eqb (bit (told k f) v) 1 ≡ f v
@@ -40,17 +41,17 @@ module _ (f : ℕ → Bool) where
   told-below j k l h = subst (λ x. x < 2 ^ j) (sym (ofBits-short (λ v. isOne (f v)) j k l (λ v b. ap isOne (h v b)))) (told-lt j)
 
 -- bits are equal by their tests
-pub same-bit : (a b : ℕ) → a < 2 → b < 2 → eqb a 1 ≡ eqb b 1 → a ≡ b
-same-bit = two-bits (λ a b. eqb a 1 ≡ eqb b 1 → a ≡ b) (λ _. refl) (λ e. never e) (λ e. never (sym e)) (λ _. refl)
+pub bit-by-test : (a b : ℕ) → a < 2 → b < 2 → eqb a 1 ≡ eqb b 1 → a ≡ b
+bit-by-test = two-bits (λ a b. eqb a 1 ≡ eqb b 1 → a ≡ b) (λ _. refl) (λ e. never e) (λ e. never (sym e)) (λ _. refl)
 
 -- a number whose bits are the test's
 pub told-is : (f : ℕ → Bool) (k x : ℕ) → x < 2 ^ k → ((v : ℕ) → v < k → eqb (bit x v) 1 ≡ f v) → x ≡ told k f
 told-is f k x h e =
     bit-ext k x (told k f) h (told-lt f k)
-    (λ v l. same-bit (bit x v) (bit (told k f) v) (bit-lt x v) (bit-lt (told k f) v) (e v l ∙ sym (told-test f k v l)))
+    (λ v l. bit-by-test (bit x v) (bit (told k f) v) (bit-lt x v) (bit-lt (told k f) v) (e v l ∙ sym (told-test f k v l)))
 
 -- the numbers that pass two tests
-pub told-and : (f g : ℕ → Bool) (k : ℕ) → bitAnd (told k f) (told k g) ≡ told k (λ v. f v && g v)
+told-and : (f g : ℕ → Bool) (k : ℕ) → bitAnd (told k f) (told k g) ≡ told k (λ v. f v && g v)
 told-and f g k =
     told-is (λ v. f v && g v) k (bitAnd (told k f) (told k g)) (and-lt k (told k f) (told k g) (told-lt f k) (told-lt g k))
     (λ v l. test-and (told k f) (told k g) v ∙ ap₂ _&&_ (told-test f k v l) (told-test g k v l))
@@ -61,11 +62,11 @@ unfolding all
 told-more f k i = rw (add-one i) (told-and (λ v. all i (f v)) (λ v. f v i) k)
 
 -- the values for which a word is what it is for v: of the word inverted, where its bit for v is 0
-pub told-agreeing : {z : ℕ} (word v : ℕ) → word < 2 ^ maxValues → z ≡ 1 - bit word v
-    → bitXor word (z * (2 ^ maxValues - 1)) ≡ told maxValues (λ u. eqb (bit word u) (bit word v))
-told-agreeing {z} word v l e =
+pub told-alike : {z : ℕ} (word v : ℕ) → word < 2 ^ maxValues → z ≡ 1 - bit word v
+    → bitXor word (z * (2 ^ maxValues - 1)) ≡ told maxValues (sameBit word v)
+told-alike {z} word v l e =
     let small : z < 2 = omega arith in
-    told-is (λ u. eqb (bit word u) (bit word v)) maxValues (bitXor word (z * (2 ^ maxValues - 1)))
+    told-is (sameBit word v) maxValues (bitXor word (z * (2 ^ maxValues - 1)))
     (xor-lt maxValues word (z * (2 ^ maxValues - 1)) l (times-lt maxValues small (ones-lt maxValues)))
     (λ u b.
     ap (λ x. eqb x 1) (bit-xor word (z * (2 ^ maxValues - 1)) u ∙ ap (bitXor (bit word u)) (ones-times z u small b ∙ e))

@@ -19,9 +19,9 @@ use Rattle.sheet.proofs.Fields.{outputs-field, output-field}
 use Rattle.unit.specs.Gates.{signalsOn, outputsFor}
 use Rattle.unit.specs.Relation.{sameList}
 use Rattle.reader.specs.Inner.WasRead.{WasRead}
-use Rattle.unit.specs.Inner.Forming.{SignalWords, OutputWords, sameOutputs}
+use Rattle.unit.specs.Inner.Forming.{SignalWords, OutputWords, sameBit, sameOutputs}
 use Rattle.reader.proofs.Placed.{placed}
-use Rattle.unit.proofs.HeldSignals.{signals-made}
+use Rattle.unit.proofs.HeldSignals.{signals-made, output-room}
 
 getD-map : (f : ℕ → ℕ) (l : List ℕ) (i : ℕ) → i < length l → getD (map f l) i 0 ≡ f (getD l i 0)
 getD-map f [] i h = absurd (not-suc-le-zero h)
@@ -58,7 +58,7 @@ module _ (cs : List Command) where
       → sameOutputs words u v ≡ sameList (outputsFor cs v) (outputsFor cs u)
   unfolding sameOutputs
   words-test few words is u v lu lv =
-      let same : ℕ → Bool = λ i. eqb (bit (getD words i 0) v) (bit (getD words i 0) u) in
+      let same : ℕ → Bool = λ i. sameBit (getD words i 0) u v in
       test-ext (sameOutputs words u v) (sameList (outputsFor cs v) (outputsFor cs u))
       (λ t. list-same (outputsFor cs v) (outputsFor cs u)
       (ext-getD 0 (outputsFor cs v) (outputsFor cs u) (outputs-length v ∙ sym (outputs-length u))
@@ -77,7 +77,7 @@ module _ {sheet : Sheet} (h : WasRead sheet) where
   named : (i : ℕ) → i < sheet .«output_count» → getD (sheet .signals) i 0 ≡ outputAt i (h .commands)
   named i l =
       subst (λ x. getD (x .signals) i 0 ≡ outputAt i (h .commands)) (sym (h .gathers))
-      (output-field (h .commands) i (lt-of-lt-of-le l (placed h .few-outputs)))
+      (output-field (h .commands) i (output-room h i l))
 
   pub output-is : (words : List ℕ) → SignalWords (h .commands) words → (i v : ℕ) → i < sheet .«output_count» → v < maxValues
       → bit (getD words (getD (sheet .signals) i 0) 0) v ≡ getD (outputsFor (h .commands) v) i 0

@@ -14,7 +14,7 @@ ghost use Rattle.unit.specs.Inner.Forming.{SignalWords, OutputWords};
 // Room for a signal of each wire and of each gate.
 const MAX_SIGNALS: usize = Sheet::WIRES + Sheet::MAX_GATES as usize;
 
-// AND, OR and XOR; after them come the same inverted.
+// AND, OR and XOR are the first kinds; the others are the same inverted.
 const PLAIN_KINDS: u8 = 3;
 
 const KINDS: u8 = 2 * PLAIN_KINDS;
@@ -22,9 +22,9 @@ const KINDS: u8 = 2 * PLAIN_KINDS;
 // A one for every value.
 pub(crate) const ALL_VALUES: u16 = ((1u32 << Sheet::MAX_VALUES) - 1) as u16;
 
-// What a gate of a kind makes of two signals. It is arithmetic modulo 2 and asks nowhere which kind it has: AND is the product of two bits, XOR their sum, OR
-// the sum and the product together, and inverting adds 1 (the algebraic normal form of a gate). How often each of these terms counts is told by the kind: once
-// or not at all.
+// What a gate of a kind makes of two signals (document 02, E3). Modulo 2, AND is the product of two bits, XOR their sum, OR the sum and the product together,
+// and inverting adds 1 (the algebraic normal form of a gate). So every gate is the same three terms, each taken once or not at all, and the kind is only counted
+// with: the sum is taken 0, 1, 1 times by AND, OR, XOR, the product 1, 1, 0 times. Above the last kind the remainder keeps the third term within a word.
 fn gate_word(kind: u8, a: u16, b: u16) -> u16
     ensures { λ r. ⌜ (kind ≤ lastKind → (v : ℕ) → v < maxValues → bit r v ≡ gateBit kind (bit a v) (bit b v)) ⌝ }
 {
@@ -71,12 +71,12 @@ pub(crate) fn output_words(sheet: Sheet) -> [u16; Sheet::MAX_OUTPUTS as usize]
     requires { ⌜ WasRead sheet ⌝ }
     ensures { λ r. ⌜ ((h : WasRead sheet) → OutputWords (h .commands) r) ⌝ }
 {
-    let outputs = sheet.signals;
+    let numbers = sheet.signals;
     let signals = signal_words(sheet);
     let mut words = [0; Sheet::MAX_OUTPUTS as usize];
     for i in 0..sheet.output_count {
         let at = i as usize;
-        words[at] = signals[outputs[at] as usize];
+        words[at] = signals[numbers[at] as usize];
     }
     words
 }

@@ -1,4 +1,4 @@
-// The second stage of a unit: its gates, its outputs for a wire value, and the relation that its sheet leaves to the first stage.
+// The second stage of a unit: its gates, its outputs for all wire values, and the relation that its sheet leaves to the first stage.
 use crate::sets::relation_of;
 use base::Refusal;
 use base::Verdict;
@@ -10,7 +10,7 @@ ghost use Rattle.unit.specs.Cases.{formedReply};
 ghost use Rattle.unit.specs.Formed.{turnedAway, formedOf};
 ghost use Rattle.unit.specs.Inner.Forming.{checkedReply};
 
-mod gates; // gates.rt: signals and outputs for a wire value
+mod gates; // gates.rt: signals and outputs, for all wire values at once
 mod sets; // sets.rt: the relation, pattern by pattern
 
 // The relation of a sheet, or the refusal; the relation has no sizes and empty sets on a refusal.

@@ -6,17 +6,16 @@ use sheet::Sheet;
 use sheet::limits::patterns_of;
 ghost use mathlib.Core.Path.{_≡_};
 ghost use Prim.Native.Nat.{_<_, _^_};
-ghost use lib.Dec.{eqb};
-ghost use Rattle.table.specs.Bits.{bit, ofBits, isOne};
+ghost use Rattle.table.specs.Bits.{ofBits, isOne};
 ghost use Rattle.sheet.specs.Limits.{maxValues};
 ghost use Rattle.reader.specs.Inner.WasRead.{WasRead};
-ghost use Rattle.unit.specs.Inner.Forming.{OutputWords, sameOutputs};
+ghost use Rattle.unit.specs.Inner.Forming.{OutputWords, sameBit, sameOutputs};
 ghost use Rattle.unit.specs.Formed.{setOn, relationIn};
 
-// The values for which a signal is what it is for value v: its word, or the word inverted.
-fn agreeing(word: u16, v: u8) -> u16
+// The values for which one signal is what it is for value v: of its word the ones or, where it is 0 for v, the zeros.
+fn alike_on(word: u16, v: u8) -> u16
     requires { ⌜ v < maxValues ⌝ }
-    ensures { λ r. ⌜ r ≡ ofBits maxValues (λ u. isOne (eqb (bit word u) (bit word v))) ⌝ }
+    ensures { λ r. ⌜ r ≡ ofBits maxValues (λ u. isOne (sameBit word v u)) ⌝ }
 {
     let zero = 1 - (word >> v) % 2;
     word ^ (zero * ALL_VALUES)
@@ -29,7 +28,7 @@ fn alike(outputs: [u16; Sheet::MAX_OUTPUTS as usize], v: u8) -> u16
 {
     let mut found = ALL_VALUES;
     for i in 0..Sheet::MAX_OUTPUTS {
-        found &= agreeing(outputs[i as usize], v);
+        found &= alike_on(outputs[i as usize], v);
     }
     found
 }

@@ -11,14 +11,13 @@ const MOST_SIGNALS: usize = 4 + MOST_GATES;
 
 /// For each kind, all bits or none: of the words' AND, of their XOR, and of what
 /// is turned round at the end. OR is AND and XOR together.
-const KINDS: [[u16; 3]; 6] = [[!0, 0, 0], [!0, !0, 0], [0, !0, 0], [!0, 0, !0], [!0, !0, !0], [0, !0, !0]];
+const TERMS: [[u16; 3]; 6] = [[!0, 0, 0], [!0, !0, 0], [0, !0, 0], [!0, 0, !0], [!0, !0, !0], [0, !0, !0]];
 
-/// What a gate makes of two words. There is no branch on the kind, which would
-/// often be guessed wrong: with a `match`, sheets of 32 gates took 210 ns in place
-/// of 75, those of few gates about the same.
+/// What a gate makes of two words. There is no branch on the kind, which the
+/// processor would often guess wrong.
 #[inline(always)]
 fn gate(kind: u8, a: u16, b: u16) -> u16 {
-    let [and, xor, turned] = KINDS[usize::from(kind)];
+    let [and, xor, turned] = TERMS[usize::from(kind)];
     a & b & and ^ (a ^ b) & xor ^ turned
 }
 

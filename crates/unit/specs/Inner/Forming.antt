@@ -23,9 +23,13 @@ SignalWords cs words = (s v : ℕ) → s < signalsMade cs → v < maxValues → 
 abbrev pub OutputWords : List Command → List ℕ → Type 0
 OutputWords cs words = (i v : ℕ) → i < maxOutputs → v < maxValues → bit (getD words i 0) v ≡ getD (outputsFor cs v) i 0
 
--- every output is the same for v as for u
+-- a word has the same bit for v as for u
+abbrev pub sameBit : ℕ → ℕ → ℕ → Bool
+sameBit word u v = eqb (bit word v) (bit word u)
+
+-- so has the word of every output
 unfoldable pub sameOutputs : List ℕ → ℕ → ℕ → Bool
-sameOutputs words u v = all maxOutputs (λ i. eqb (bit (getD words i 0) v) (bit (getD words i 0) u))
+sameOutputs words u v = all maxOutputs (λ i. sameBit (getD words i 0) u v)
 
 -- a relation that was tested: refused or whole
 abbrev pub checkedReply : Relation → Case → FormedReply

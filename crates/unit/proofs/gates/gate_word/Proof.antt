@@ -1,11 +1,12 @@
--- `gate_word` meets its contract: at each kind it takes what that kind takes.
+-- `gate_word` meets its contract: it takes each term as often as a gate of the kind does.
 use native.Mathlib.Omega.{arith}
 use mir.Syntax.{w16}
 use mir.Val.{Fits}
 use lib.Bits.{and-lt, xor-lt}
 use borrow.Author.Needs.{needs}
 use Rattle.sheet.specs.Limits.{wordBits}
-use Rattle.unit.proofs.Bits.{times-lt, gate-word}
+use Rattle.unit.proofs.Bits.{times-lt}
+use Rattle.unit.proofs.GateTerms.{gate-word}
 use Rattle.unit.proofs.gates.gate_word.Statement.{statement}
 use Rattle.unit.proofs.gates.gate_word.Tie as tie
 
@@ -37,17 +38,7 @@ mul-result-3 : tie.Need-mul-result-3
 mul-result-3 c = search needs
 
 returns : tie.Need-returns
-returns c h v l =
-    gate-word (c .args .kind) (c .args .a) (c .args .b) (omega arith) (omega arith) (omega arith) h
-    (record {
-      xnor = λ e. (omega arith, omega arith, omega arith);
-      nor = λ e. (omega arith, omega arith, omega arith);
-      nand = λ e. (omega arith, omega arith, omega arith);
-      xor = λ e. (omega arith, omega arith, omega arith);
-      or = λ e. (omega arith, omega arith, omega arith);
-      and = λ e. (omega arith, omega arith, omega arith);
-    })
-    v l
+returns c h = gate-word (c .args .kind) (c .args .a) (c .args .b) (omega arith) (omega arith) (omega arith) h
 
 pub gate-word-spec : {M : Type 1} → statement M
 gate-word-spec =

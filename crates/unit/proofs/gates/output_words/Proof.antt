@@ -12,19 +12,18 @@ use Rattle.base.proofs.Tabulate.{filled-more, zeros-entry}
 use Rattle.table.specs.Bits.{bit, tabulate}
 use Rattle.table.proofs.Bits.{zero-bit}
 use Rattle.sheet.specs.Limits.{maxOutputs}
-use Rattle.reader.proofs.Placed.{placed}
-use Rattle.unit.proofs.HeldSignals.{signal-room, output-room}
+use Rattle.unit.proofs.HeldSignals.{output-room, output-made}
 use Rattle.unit.proofs.Outputs.{output-is, output-past}
 use Rattle.unit.proofs.gates.output_words.Statement.{statement}
 use Rattle.unit.proofs.gates.output_words.Tie as tie
 
 abbrev Inv-loop : tie.InvT-loop
-Inv-loop outputs signals words₀ i₀ i-end words i =
-    ((k : ℕ) → k < i → getD words k 0 ≡ getD signals (getD outputs k 0) 0) × ((k : ℕ) → i ≤ k → getD words k 0 ≡ 0)
+Inv-loop numbers signals words₀ i₀ i-end words i =
+    ((k : ℕ) → k < i → getD words k 0 ≡ getD signals (getD numbers k 0) 0) × ((k : ℕ) → i ≤ k → getD words k 0 ≡ 0)
     × (i ≤ i-end) × (length words ≡ maxOutputs)
 
 abbrev μ-loop : tie.MeasureT-loop
-μ-loop outputs signals words₀ i₀ i-end words i = i-end - i
+μ-loop numbers signals words₀ i₀ i-end words i = i-end - i
 
 signal-words-requires : tie.Need-signal-words-requires Inv-loop μ-loop
 signal-words-requires c κs = search needs
@@ -43,16 +42,10 @@ cast-words : tie.Need-cast-words Inv-loop μ-loop
 cast-words c = search needs
 
 mul-words : tie.Need-mul-words Inv-loop μ-loop
-mul-words c =
-    let h = c .before .before .before .before .pre in
-    let b = signal-room h (c .before .before .before .before .args .sheet .«gate_count») (omega arith) (placed h .made (c .before .loop .i) (omega arith)) in
-    omega arith
+mul-words c = omega (arith, output-made (c .before .before .before .before .pre) (c .before .loop .i) (omega arith))
 
 array-read-words-2 : tie.Need-array-read-words-2 Inv-loop μ-loop
-array-read-words-2 c =
-    let h = c .before .before .before .before .pre in
-    let b = signal-room h (c .before .before .before .before .args .sheet .«gate_count») (omega arith) (placed h .made (c .before .loop .i) (omega arith)) in
-    omega arith
+array-read-words-2 c = output-made (c .before .before .before .before .pre) (c .before .loop .i) (omega arith)
 
 mul-words-2 : tie.Need-mul-words-2 Inv-loop μ-loop
 mul-words-2 c = search needs

@@ -9,7 +9,7 @@ use Rattle.table.specs.Bits.{bit, tabulate}
 use Rattle.table.specs.Inner.Columns.{columnOf}
 use Rattle.table.proofs.Bits.{bit-lt}
 use Rattle.table.proofs.BitColumns.{column-test}
-use Rattle.unit.proofs.Members.{same-bit}
+use Rattle.unit.proofs.Members.{bit-by-test}
 use borrow.Author.Needs.{needs}
 use Rattle.unit.proofs.gates.wire_words.Statement.{statement}
 use Rattle.unit.proofs.gates.wire_words.Tie as tie
@@ -25,7 +25,7 @@ by-place P rest a b c d (suc (suc (suc (suc j)))) h = absurd (omega arith)
 
 -- the values that have wire j at 1 are a word with that wire's bit
 wire-bit : (j v : ℕ) → v < maxValues → bit (columnOf j 1) v ≡ bit v j
-wire-bit j v l = same-bit (bit (columnOf j 1) v) (bit v j) (bit-lt (columnOf j 1) v) (bit-lt v j) (column-test j 1 v l)
+wire-bit j v l = bit-by-test (bit (columnOf j 1) v) (bit v j) (bit-lt (columnOf j 1) v) (bit-lt v j) (column-test j 1 v l)
 
 column-requires : tie.Need-column-requires
 column-requires c κs = search needs

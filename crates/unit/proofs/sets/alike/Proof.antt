@@ -1,26 +1,19 @@
 -- `alike` meets its contract: what is found so far is the set of the values on which the outputs passed are the same.
-use Prim.Native.Nat.{ℕ, _-_, _≤_}
+use Prim.Native.Nat.{_-_, _≤_}
 use mathlib.Core.Path.{_≡_, refl, ap, ap₂, _∙_}
-use mathlib.Core.Bool.{Bool}
-use mathlib.Core.List.{List}
 use native.Mathlib.Omega.{arith}
 use lib.Bits.{bitAnd}
-use lib.Dec.{eqb}
 use lib.ListN.{getD}
 use borrow.Author.Needs.{needs}
-use Rattle.table.specs.Bits.{bit, all, isOne, ofBits, sum}
+use Rattle.table.specs.Bits.{all, isOne, ofBits, sum}
 use Rattle.sheet.specs.Limits.{maxOutputs, maxValues}
-use Rattle.unit.specs.Inner.Forming.{sameOutputs}
+use Rattle.unit.specs.Inner.Forming.{sameBit, sameOutputs}
 use Rattle.unit.proofs.Members.{told, told-more}
 use Rattle.unit.proofs.sets.alike.Statement.{statement}
 use Rattle.unit.proofs.sets.alike.Tie as tie
 
--- output k is the same for u as for v
-abbrev agrees : List ℕ → (v u k : ℕ) → Bool
-agrees outputs v u k = eqb (bit (getD outputs k 0) u) (bit (getD outputs k 0) v)
-
 abbrev Inv-loop : tie.InvT-loop
-Inv-loop v outputs found₀ i₀ found i = (i ≤ maxOutputs) × (found ≡ told maxValues (λ u. all i (agrees outputs v u)))
+Inv-loop v outputs found₀ i₀ found i = (i ≤ maxOutputs) × (found ≡ told maxValues (λ u. all i (λ k. sameBit (getD outputs k 0) v u)))
 
 abbrev μ-loop : tie.MeasureT-loop
 μ-loop v outputs found₀ i₀ found i = maxOutputs - i
@@ -29,17 +22,17 @@ loop-holds : tie.Need-loop-holds Inv-loop μ-loop
 unfolding all isOne ofBits sum
 loop-holds c = (omega arith, refl)
 
-cast-agreeing : tie.Need-cast-agreeing Inv-loop μ-loop
-cast-agreeing c = search needs
+cast-alike-on : tie.Need-cast-alike-on Inv-loop μ-loop
+cast-alike-on c = search needs
 
-mul-agreeing : tie.Need-mul-agreeing Inv-loop μ-loop
-mul-agreeing c = search needs
+mul-alike-on : tie.Need-mul-alike-on Inv-loop μ-loop
+mul-alike-on c = search needs
 
-array-read-agreeing : tie.Need-array-read-agreeing Inv-loop μ-loop
-array-read-agreeing c = search needs
+array-read-alike-on : tie.Need-array-read-alike-on Inv-loop μ-loop
+array-read-alike-on c = search needs
 
-agreeing-requires : tie.Need-agreeing-requires Inv-loop μ-loop
-agreeing-requires c κs = search needs
+alike-on-requires : tie.Need-alike-on-requires Inv-loop μ-loop
+alike-on-requires c κs = search needs
 
 add-i : tie.Need-add-i Inv-loop μ-loop
 add-i c = search needs
@@ -51,14 +44,14 @@ loop-again : tie.Need-loop-again Inv-loop μ-loop
 loop-again c =
     let a = c .before .before .before .args in
     let l = c .before .before .loop in
-    (omega arith, ap₂ bitAnd (l .inv .1) (c .agreeing .ensures) ∙ told-more (agrees (a .t1) (a .v)) maxValues (l .i))
+    (omega arith, ap₂ bitAnd (l .inv .1) (c .alike-on .ensures) ∙ told-more (λ u k. sameBit (getD (a .t1) k 0) (a .v) u) maxValues (l .i))
 
 returns : tie.Need-returns Inv-loop μ-loop
 unfolding sameOutputs
 returns c =
     let a = c .before .before .args in
     let e : c .before .loop .i ≡ maxOutputs = omega arith in
-    c .before .loop .inv .1 ∙ ap (λ i. told maxValues (λ u. all i (agrees (a .t1) (a .v) u))) e
+    c .before .loop .inv .1 ∙ ap (λ i. told maxValues (λ u. all i (λ k. sameBit (getD (a .t1) k 0) (a .v) u))) e
 
 pub alike-spec : {M : Type 1} → statement M
 alike-spec =
@@ -67,10 +60,10 @@ alike-spec =
     Inv-loop
     μ-loop
     loop-holds
-    cast-agreeing
-    mul-agreeing
-    array-read-agreeing
-    agreeing-requires
+    cast-alike-on
+    mul-alike-on
+    array-read-alike-on
+    alike-on-requires
     add-i
     loop-less
     loop-again
