@@ -10,6 +10,7 @@ use inputs::{full_sheet, sheet, FAMILIES, FULL};
 use rows::{copies, quotes, shared_quotes, Relations, Searches, Sheets, BUDGET};
 use trials::board::{Board, BOARDS};
 use trials::random::Random;
+use trials::sheet::{MOST_GATES, MOST_OUTPUTS};
 
 const SIZES: [(u8, u8); 4] = [(2, 2), (3, 3), (4, 3), (4, 4)];
 
@@ -48,10 +49,11 @@ fn print_sheets<const ROOM: usize>(what: &str, rust: &str, sheets: &[Sheets<ROOM
 }
 
 fn print_relations(formed: &[Relations]) {
-    println!("\nRelations formed of the units' sheets and, in the last row, of sheets with 32 gates and 8 outputs.");
+    print!("\nRelations formed of the units' sheets and, in the last row, of sheets with {MOST_GATES} gates and ");
+    println!("{MOST_OUTPUTS} outputs.");
     println!("The library is asked for an audit with no bytes for a stage: it reads the sheet, forms its relation");
     println!("and refuses the stage. On Rust's side stand the reader of the trials, which is not tuned, and the");
-    println!("tuned forming, whose sets were compared with those of the trials; this call hands out none of its own.");
+    println!("tuned forming, whose sets were compared with those of the trials; the library's call hands out no sets.");
     println!("Forming alone: of the library what it takes longer than with the last byte off, where it reads all");
     println!("other commands, is refused and forms nothing; so the tests at the end and for 10 and the refusal of");
     println!("the stage are in it, less the blank sheet that a refused one is given. Of Rust the sets alone.");

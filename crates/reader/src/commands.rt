@@ -87,7 +87,7 @@ fn refused(number: u8, place: usize) -> Step
 }
 
 impl Reader {
-    const LAST_KIND: u8 = 5;
+    pub const LAST_KIND: u8 = 5;
 
     pub fn new() -> Self
         ensures { λ r. ⌜ r ≡ readerAt 0 [] ⌝ }

@@ -1,4 +1,4 @@
-// The values that have a bit. Inner: the functions on sets of values name a wire that there is, and a bit.
+// The values that have a bit. Inner: its callers name a wire that there is, and a bit.
 ghost use mathlib.Core.Path.{_≡_};
 ghost use Prim.Native.Nat.{_<_};
 ghost use Rattle.sheet.specs.Limits.{maxWires};

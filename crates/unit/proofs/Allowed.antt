@@ -78,8 +78,7 @@ module _ (cs : List Command) (s : Sound cs) (p : ℕ) where
   all-permitted e =
       told-is (λ v. ltb v (2 ^ wiresOf cs) && unitRelation cs p v) maxValues (limitOn p cs) limit-lt
       (λ v l.
-      let all = permits (limitsOn p cs) v in
-      limit-test v ∙ ap (λ x. ltb v (2 ^ wiresOf cs) && x) (sym (and-true all) ∙ ap (λ us. all && alike cs us v) (sym e)))
+      rw e (limit-test v ∙ ap (λ x. ltb v (2 ^ wiresOf cs) && x) (sym (and-true (permits (limitsOn p cs) v)))))
 
   -- a pattern with the present value u: of those the ones with the outputs of u
   alike-permitted : (u w : ℕ) → HasAlike cs u w → rowsOn p cs ≡ u ∷ [] → bitAnd (limitOn p cs) w ≡ setOn cs p
@@ -116,8 +115,8 @@ module _ (cs : List Command) (s : Sound cs) (p : ℕ) where
         go (present v r d b) = rw (limit-field cs p room) (alike-permitted v w (rw (← present-value cs p room v r) is) r)
         go (impossible r d) = absurd (omega (arith, e, impossible-mark cs p room d))
 
-    pub value-below : getD (gathered cs .marks) p 0 ≡ rowMark → getD (gathered cs .values) p 0 < maxValues
-    value-below e = go (s .each-pattern p l)
+    pub present-below : getD (gathered cs .marks) p 0 ≡ rowMark → getD (gathered cs .values) p 0 < maxValues
+    present-below e = go (s .each-pattern p l)
       where
         go : Given p cs → getD (gathered cs .values) p 0 < maxValues
         go (present v r d b) = rw (present-value cs p room v r) (value-room v b)

@@ -10,28 +10,37 @@ use Rattle.reader.specs.Reader.{lastKind}
 use Rattle.unit.specs.Gates.{gateBit}
 use Rattle.unit.proofs.Bits.{two-bits, times-bit, ones-times}
 
--- the sum of a and b so many times, their product so many times, and the third term
+-- the sum of a and b and their product, each so many times, and a third term, added up modulo 2
 abbrev byTerms : (sums products third a b : ℕ) → ℕ
 byTerms sums products third a b = bitXor (bitXor (sums * bitXor a b) (products * bitAnd a b)) third
 
+-- half of the kinds are plain, the others are inverted
+abbrev kinds : ℕ
+kinds = lastKind + 1
+
+abbrev plain : ℕ
+plain = kinds / 2
+
 -- how often a gate of kind k takes the sum, the product, and 1
-abbrev pub sumsOf : ℕ → ℕ
-sumsOf k = (k % 3 + 1) / 2
+abbrev sumsOf : ℕ → ℕ
+sumsOf k = (k % plain + 1) / 2
 
-abbrev pub productsOf : ℕ → ℕ
-productsOf k = 1 - k % 3 / 2
+abbrev productsOf : ℕ → ℕ
+productsOf k = 1 - k % plain / 2
 
-abbrev pub onesOf : ℕ → ℕ
-onesOf k = k % 6 / 3
+abbrev onesOf : ℕ → ℕ
+onesOf k = k % kinds / plain
 
+-- what that makes of two bits
 abbrev gateSum : (k a b : ℕ) → ℕ
 gateSum k = byTerms (sumsOf k) (productsOf k) (onesOf k)
 
+-- a kind by its four rows
 by-rows : (k : ℕ) → gateSum k 0 0 ≡ gateBit k 0 0 → gateSum k 0 1 ≡ gateBit k 0 1 → gateSum k 1 0 ≡ gateBit k 1 0 → gateSum k 1 1 ≡ gateBit k 1 1
     → (a b : ℕ) → a < 2 → b < 2 → gateSum k a b ≡ gateBit k a b
 by-rows k = two-bits (λ a b. gateSum k a b ≡ gateBit k a b)
 
--- it is the gate of document 01: all 24 rows are computed
+-- the arithmetic is the gate of document 01: all 24 rows are computed
 pub gate-sum : (k : ℕ) → k ≤ lastKind → (a b : ℕ) → a < 2 → b < 2 → gateSum k a b ≡ gateBit k a b
 unfolding gateBit
 gate-sum zero h = by-rows 0 refl refl refl refl

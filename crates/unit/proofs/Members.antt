@@ -61,13 +61,12 @@ pub told-more : (f : ℕ → ℕ → Bool) (k i : ℕ) → bitAnd (told k (λ v.
 unfolding all
 told-more f k i = rw (add-one i) (told-and (λ v. all i (f v)) (λ v. f v i) k)
 
--- the values for which a word is what it is for v: of the word inverted, where its bit for v is 0
-pub told-alike : {z : ℕ} (word v : ℕ) → word < 2 ^ maxValues → z ≡ 1 - bit word v
-    → bitXor word (z * (2 ^ maxValues - 1)) ≡ told maxValues (sameBit word v)
-told-alike {z} word v l e =
+-- the values for which a word is what it is for u: the word, inverted where its bit for u is 0
+pub told-alike : {z : ℕ} (word u : ℕ) → word < 2 ^ maxValues → z ≡ 1 - bit word u → bitXor word (z * (2 ^ maxValues - 1)) ≡ told maxValues (sameBit word u)
+told-alike {z} word u l e =
     let small : z < 2 = omega arith in
-    told-is (sameBit word v) maxValues (bitXor word (z * (2 ^ maxValues - 1)))
+    told-is (sameBit word u) maxValues (bitXor word (z * (2 ^ maxValues - 1)))
     (xor-lt maxValues word (z * (2 ^ maxValues - 1)) l (times-lt maxValues small (ones-lt maxValues)))
-    (λ u b.
-    ap (λ x. eqb x 1) (bit-xor word (z * (2 ^ maxValues - 1)) u ∙ ap (bitXor (bit word u)) (ones-times z u small b ∙ e))
-    ∙ two-bits (λ x y. eqb (bitXor x (1 - y)) 1 ≡ eqb x y) refl refl refl refl (bit word u) (bit word v) (bit-lt word u) (bit-lt word v))
+    (λ v b.
+    ap (λ x. eqb x 1) (bit-xor word (z * (2 ^ maxValues - 1)) v ∙ ap (bitXor (bit word v)) (ones-times z v small b ∙ e))
+    ∙ two-bits (λ x y. eqb (bitXor x (1 - y)) 1 ≡ eqb x y) refl refl refl refl (bit word v) (bit word u) (bit-lt word v) (bit-lt word u))

@@ -17,11 +17,11 @@ unfoldable pub upTo : List ℕ → (ℕ → LogicGate) → ℕ → List ℕ
 upTo s g zero = s
 upTo s g (suc k) = withGate (upTo s g k) (g k)
 
-pub upTo-more : (s : List ℕ) (g : ℕ → LogicGate) (k : ℕ) → upTo s g (k + 1) ≡ withGate (upTo s g k) (g k)
+upTo-more : (s : List ℕ) (g : ℕ → LogicGate) (k : ℕ) → upTo s g (k + 1) ≡ withGate (upTo s g k) (g k)
 unfolding upTo
 upTo-more s g k = rw (add-one k)
 
-pub upTo-length : (s : List ℕ) (g : ℕ → LogicGate) (k : ℕ) → length (upTo s g k) ≡ length s + k
+upTo-length : (s : List ℕ) (g : ℕ → LogicGate) (k : ℕ) → length (upTo s g k) ≡ length s + k
 unfolding upTo
 upTo-length s g zero = sym (add-zero (length s))
 upTo-length s g (suc k) = simp length-append (omega (arith, upTo-length s g k))

@@ -1,4 +1,5 @@
 // The soldered second stage for all wire values at once: a signal is one word, whose bit v is the signal for value v (bit-parallel simulation).
+use reader::Reader;
 use sheet::Sheet;
 use table::columns::column;
 ghost use mathlib.Core.Path.{_≡_};
@@ -14,17 +15,17 @@ ghost use Rattle.unit.specs.Inner.Forming.{SignalWords, OutputWords};
 // Room for a signal of each wire and of each gate.
 const MAX_SIGNALS: usize = Sheet::WIRES + Sheet::MAX_GATES as usize;
 
-// AND, OR and XOR are the first kinds; the others are the same inverted.
-const PLAIN_KINDS: u8 = 3;
+// The first half of the kinds are AND, OR and XOR; the second half are the same inverted.
+const KINDS: u8 = Reader::LAST_KIND + 1;
 
-const KINDS: u8 = 2 * PLAIN_KINDS;
+const PLAIN_KINDS: u8 = KINDS / 2;
 
 // A one for every value.
 pub(crate) const ALL_VALUES: u16 = ((1u32 << Sheet::MAX_VALUES) - 1) as u16;
 
 // What a gate of a kind makes of two signals (document 02, E3). Modulo 2, AND is the product of two bits, XOR their sum, OR the sum and the product together,
-// and inverting adds 1 (the algebraic normal form of a gate). So every gate is the same three terms, each taken once or not at all, and the kind is only counted
-// with: the sum is taken 0, 1, 1 times by AND, OR, XOR, the product 1, 1, 0 times. Above the last kind the remainder keeps the third term within a word.
+// and inverting adds 1 (the algebraic normal form of a gate). So every gate is the same three terms, and the kind says by arithmetic how often each is taken: the
+// sum 0, 1, 1 times for AND, OR, XOR, the product 1, 1, 0 times. The remainder by the kinds keeps the third term within a word for any kind.
 fn gate_word(kind: u8, a: u16, b: u16) -> u16
     ensures { λ r. ⌜ (kind ≤ lastKind → (v : ℕ) → v < maxValues → bit r v ≡ gateBit kind (bit a v) (bit b v)) ⌝ }
 {

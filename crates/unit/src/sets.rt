@@ -12,23 +12,23 @@ ghost use Rattle.reader.specs.Inner.WasRead.{WasRead};
 ghost use Rattle.unit.specs.Inner.Forming.{OutputWords, sameBit, sameOutputs};
 ghost use Rattle.unit.specs.Formed.{setOn, relationIn};
 
-// The values for which one signal is what it is for value v: of its word the ones or, where it is 0 for v, the zeros.
-fn alike_on(word: u16, v: u8) -> u16
-    requires { ⌜ v < maxValues ⌝ }
-    ensures { λ r. ⌜ r ≡ ofBits maxValues (λ u. isOne (sameBit word v u)) ⌝ }
+// The values for which one signal is what it is for value u: of its word the ones or, where it is 0 for u, the zeros.
+fn alike_on(word: u16, u: u8) -> u16
+    requires { ⌜ u < maxValues ⌝ }
+    ensures { λ r. ⌜ r ≡ ofBits maxValues (λ v. isOne (sameBit word u v)) ⌝ }
 {
-    let zero = 1 - (word >> v) % 2;
+    let zero = 1 - (word >> u) % 2;
     word ^ (zero * ALL_VALUES)
 }
 
-// The values for which every output is what it is for value v.
-fn alike(outputs: [u16; Sheet::MAX_OUTPUTS as usize], v: u8) -> u16
-    requires { ⌜ v < maxValues ⌝ }
-    ensures { λ r. ⌜ r ≡ ofBits maxValues (λ u. isOne (sameOutputs outputs v u)) ⌝ }
+// The values for which every output is what it is for value u.
+fn alike(outputs: [u16; Sheet::MAX_OUTPUTS as usize], u: u8) -> u16
+    requires { ⌜ u < maxValues ⌝ }
+    ensures { λ r. ⌜ r ≡ ofBits maxValues (λ v. isOne (sameOutputs outputs u v)) ⌝ }
 {
     let mut found = ALL_VALUES;
     for i in 0..Sheet::MAX_OUTPUTS {
-        found &= alike_on(outputs[i as usize], v);
+        found &= alike_on(outputs[i as usize], u);
     }
     found
 }

@@ -1,4 +1,4 @@
--- What the steps towards the relation give, for a sheet that was read, in terms of its commands.
+-- What the steps towards the relation give: words that hold signals and outputs for all values, told by the commands of a sheet that was read, and what is made of them.
 use Prim.Native.Nat.{ℕ, _<_}
 use mathlib.Core.Path.{_≡_}
 use mathlib.Core.Bool.{Bool, cond}

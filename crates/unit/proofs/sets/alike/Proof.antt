@@ -13,10 +13,10 @@ use Rattle.unit.proofs.sets.alike.Statement.{statement}
 use Rattle.unit.proofs.sets.alike.Tie as tie
 
 abbrev Inv-loop : tie.InvT-loop
-Inv-loop v outputs found₀ i₀ found i = (i ≤ maxOutputs) × (found ≡ told maxValues (λ u. all i (λ k. sameBit (getD outputs k 0) v u)))
+Inv-loop u outputs found₀ i₀ found i = (i ≤ maxOutputs) × (found ≡ told maxValues (λ v. all i (λ k. sameBit (getD outputs k 0) u v)))
 
 abbrev μ-loop : tie.MeasureT-loop
-μ-loop v outputs found₀ i₀ found i = maxOutputs - i
+μ-loop u outputs found₀ i₀ found i = maxOutputs - i
 
 loop-holds : tie.Need-loop-holds Inv-loop μ-loop
 unfolding all isOne ofBits sum
@@ -44,14 +44,14 @@ loop-again : tie.Need-loop-again Inv-loop μ-loop
 loop-again c =
     let a = c .before .before .before .args in
     let l = c .before .before .loop in
-    (omega arith, ap₂ bitAnd (l .inv .1) (c .alike-on .ensures) ∙ told-more (λ u k. sameBit (getD (a .t1) k 0) (a .v) u) maxValues (l .i))
+    (omega arith, ap₂ bitAnd (l .inv .1) (c .alike-on .ensures) ∙ told-more (λ v k. sameBit (getD (a .t1) k 0) (a .u) v) maxValues (l .i))
 
 returns : tie.Need-returns Inv-loop μ-loop
 unfolding sameOutputs
 returns c =
     let a = c .before .before .args in
     let e : c .before .loop .i ≡ maxOutputs = omega arith in
-    c .before .loop .inv .1 ∙ ap (λ i. told maxValues (λ u. all i (λ k. sameBit (getD (a .t1) k 0) (a .v) u))) e
+    c .before .loop .inv .1 ∙ ap (λ i. told maxValues (λ v. all i (λ k. sameBit (getD (a .t1) k 0) (a .u) v))) e
 
 pub alike-spec : {M : Type 1} → statement M
 alike-spec =

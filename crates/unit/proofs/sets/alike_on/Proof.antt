@@ -19,7 +19,7 @@ mul-result c = search needs
 
 returns : tie.Need-returns
 unfolding bit
-returns c = let small : Fits w16 (c .args .word) = search needs in told-alike (c .args .word) (c .args .v) (small .fits) (omega arith)
+returns c = let small : Fits w16 (c .args .word) = search needs in told-alike (c .args .word) (c .args .u) (small .fits) (omega arith)
 
 pub alike-on-spec : {M : Type 1} → statement M
 alike-on-spec = tie.close (tie.spec shr-zero sub-zero mul-result returns)

@@ -32,7 +32,7 @@ abbrev μ-loop : tie.MeasureT-loop
 
 -- the sets of the patterns there are, and none past them
 module _ {sheet : Sheet} (h : WasRead sheet) (sets : List ℕ) (long : length sets ≡ maxPatterns)
-    (told : (q : ℕ) → q < 2 ^ sheet .n → getD sets q 0 ≡ setOn (h .commands) q) (past : (q : ℕ) → 2 ^ sheet .n ≤ q → getD sets q 0 ≡ 0) where
+    (held : (q : ℕ) → q < 2 ^ sheet .n → getD sets q 0 ≡ setOn (h .commands) q) (past : (q : ℕ) → 2 ^ sheet .n ≤ q → getD sets q 0 ≡ 0) where
   inputs : sheet .n ≡ inputsOf (h .commands)
   inputs = ap (λ (x : Sheet). x .n) (h .gathers) ∙ inputs-field (h .commands)
 
@@ -42,7 +42,7 @@ module _ {sheet : Sheet} (h : WasRead sheet) (sets : List ℕ) (long : length se
   entry : (q : ℕ) → q < maxPatterns → getD sets q 0 ≡ cond (ltb q (2 ^ inputsOf (h .commands))) (setOn (h .commands) q) 0
   entry q _ =
       subst (λ n. getD sets q 0 ≡ cond (ltb q (2 ^ n)) (setOn (h .commands) q) 0) inputs
-      (cond-has (λ x. getD sets q 0 ≡ x) (ltb q (2 ^ sheet .n)) (λ l. told q (ltb→lt q (2 ^ sheet .n) l)) (λ l. past q (nltb→le q (2 ^ sheet .n) l)))
+      (cond-has (λ x. getD sets q 0 ≡ x) (ltb q (2 ^ sheet .n)) (λ l. held q (ltb→lt q (2 ^ sheet .n) l)) (λ l. past q (nltb→le q (2 ^ sheet .n) l)))
 
   whole : _≡_ {A = Relation} (record { n = sheet .n; m = sheet .m; sets = sets }) (relationIn (h .commands))
   unfolding relationIn

@@ -15,7 +15,7 @@ use Rattle.unit.specs.Formed.{setOn}
 use Rattle.reader.specs.Inner.WasRead.{WasRead}
 use Rattle.unit.specs.Inner.Forming.{sameOutputs}
 use Rattle.reader.proofs.Placed.{held-sound}
-use Rattle.unit.proofs.Allowed.{HasAlike, set-unmarked, set-marked, value-below}
+use Rattle.unit.proofs.Allowed.{HasAlike, set-unmarked, set-marked, present-below}
 use Rattle.unit.proofs.Members.{told-test}
 use Rattle.unit.proofs.Outputs.{words-test}
 use borrow.Author.Needs.{needs}
@@ -43,10 +43,10 @@ module _ {sheet : Sheet} (h : WasRead sheet) (p : ℕ) (l : p < 2 ^ sheet .n) wh
       (sym (h .gathers))
       (set-marked (h .commands) (held-sound h) p inside w)
 
-  value-room : getD (sheet .marks) p 0 ≡ rowMark → getD (sheet .values) p 0 < maxValues
-  value-room =
+  present-room : getD (sheet .marks) p 0 ≡ rowMark → getD (sheet .values) p 0 < maxValues
+  present-room =
       subst (λ (x : Sheet). getD (x .marks) p 0 ≡ rowMark → getD (x .values) p 0 < maxValues) (sym (h .gathers))
-      (value-below (h .commands) (held-sound h) p inside)
+      (present-below (h .commands) (held-sound h) p inside)
 
 mul-allowed : tie.Need-mul-allowed
 mul-allowed c = search needs
@@ -68,7 +68,7 @@ element-copy-out-alike c = let i = c .before .before .before in omega (arith, ro
 alike-requires : tie.Need-alike-requires
 alike-requires c κs =
     let i = c .before .before .before .before in
-    value-room (i .pre .0) (i .args .p) (i .pre .1) (c .before .if1 .left)
+    present-room (i .pre .0) (i .args .p) (i .pre .1) (c .before .if1 .left)
 
 returns-2 : tie.Need-returns-2
 returns-2 c =
@@ -79,7 +79,7 @@ returns-2 c =
     (λ v l.
     ap (λ x. eqb (bit x v) 1) (c .alike .ensures)
     ∙ told-test (sameOutputs (i .args .outputs) u) maxValues v l
-    ∙ words-test (h .commands) (held-sound h .outputs .few) (i .args .outputs) is u v (value-room h (i .args .p) (i .pre .1) (c .before .before .if1 .left)) l)
+    ∙ words-test (h .commands) (held-sound h .outputs .few) (i .args .outputs) is u v (present-room h (i .args .p) (i .pre .1) (c .before .before .if1 .left)) l)
     (c .before .before .if1 .left)
 
 pub set-on-spec : {M : Type 1} → statement M
