@@ -48,7 +48,7 @@ fn wire_words() -> [u16; MAX_SIGNALS]
     signals
 }
 
-// The signals: the wires, and after them the gates as they come.
+// The signals: the wires, and after them the gates as they come. `form` has the sheet from its reader.
 fn signal_words(sheet: Sheet) -> [u16; MAX_SIGNALS]
     requires { ⌜ WasRead sheet ⌝ }
     ensures { λ r. ⌜ ((h : WasRead sheet) → SignalWords (h .commands) r) ⌝ }

@@ -12,7 +12,7 @@ ghost use Rattle.reader.specs.Inner.WasRead.{WasRead};
 ghost use Rattle.unit.specs.Inner.Forming.{OutputWords, sameBit, sameOutputs};
 ghost use Rattle.unit.specs.Formed.{setOn, relationIn};
 
-// The values for which one signal is what it is for value u: of its word the ones or, where it is 0 for u, the zeros.
+// The values for which one signal is what it is for value u: of its word the ones or, where it is 0 for u, the zeros. `alike` has a value that there is.
 fn alike_on(word: u16, u: u8) -> u16
     requires { ⌜ u < maxValues ⌝ }
     ensures { λ r. ⌜ r ≡ ofBits maxValues (λ v. isOne (sameBit word u v)) ⌝ }
@@ -21,7 +21,7 @@ fn alike_on(word: u16, u: u8) -> u16
     word ^ (zero * ALL_VALUES)
 }
 
-// The values for which every output is what it is for value u.
+// The values for which every output is what it is for value u. `set_on` asks for a present value, which a sheet that was read has in range.
 fn alike(outputs: [u16; Sheet::MAX_OUTPUTS as usize], u: u8) -> u16
     requires { ⌜ u < maxValues ⌝ }
     ensures { λ r. ⌜ r ≡ ofBits maxValues (λ v. isOne (sameOutputs outputs u v)) ⌝ }
@@ -34,6 +34,7 @@ fn alike(outputs: [u16; Sheet::MAX_OUTPUTS as usize], u: u8) -> u16
 }
 
 // The values that pattern p may have: the permitted ones and, unless it is impossible, of those only the ones that are alike to its present value.
+// `relation_of` goes through the patterns that there are.
 fn set_on(sheet: Sheet, outputs: [u16; Sheet::MAX_OUTPUTS as usize], p: u8) -> u16
     requires { ⌜ WasRead sheet × (p < 2 ^ sheet .n) ⌝ }
     ensures { λ r. ⌜ ((h : WasRead sheet) → OutputWords (h .commands) outputs → r ≡ setOn (h .commands) p) ⌝ }
