@@ -79,7 +79,8 @@ enum {
 uint32_t dagmetzi_quote(const uint8_t *sheet, size_t sheet_length, uint32_t budget, uint8_t *buffer,
                         size_t buffer_length, uint64_t reply[DAGMETZI_NUMBERS]);
 
-/* Whether a stage keeps to a unit sheet, and its cells. Where both are at fault, the unit sheet is told. */
+/* Whether a stage keeps to a unit sheet, and its cells: its selectors, but for those with the constants 0 and 1 for
+ * their trees, in this order, which are soldered through. Where both are at fault, the unit sheet is told. */
 uint32_t dagmetzi_audit(const uint8_t *sheet, size_t sheet_length, const uint8_t *stage, size_t stage_length,
                         uint64_t reply[DAGMETZI_NUMBERS]);
 
@@ -91,9 +92,9 @@ uint32_t dagmetzi_search(uint8_t n, uint8_t m, const uint16_t sets[DAGMETZI_PATT
                          uint16_t tables[DAGMETZI_WIRES], uint64_t reply[DAGMETZI_NUMBERS]);
 
 /* The same three for the board where what one selector yields can drive more than one other of its wire: a wire is a list
- * of entries, a decision diagram, and each entry is a cell. The stage sheets are this board's own (docs/FORMATS.md), and
- * the audit counts every entry, also one that repeats another or is never reached. Sizes, refusals and replies are as
- * above. */
+ * of entries, a decision diagram, and each entry is a cell but for one that goes on to the constants 0 and 1, in this
+ * order. The stage sheets are this board's own (docs/FORMATS.md), and the audit counts every other entry, also one that
+ * repeats another or is never reached. Sizes, refusals and replies are as above. */
 uint32_t dagmetzi_quote_shared(const uint8_t *sheet, size_t sheet_length, uint32_t budget, uint8_t *buffer,
                                size_t buffer_length, uint64_t reply[DAGMETZI_NUMBERS]);
 

@@ -9,6 +9,7 @@ use trials::clean::LONGEST_COPY;
 use trials::diagram::LONGEST_LISTS;
 use trials::draw::diagrams::largest_stage;
 use trials::draw::relations::{half_dense, junk_past_the_last, malformed, sets};
+use trials::draw::straight;
 use trials::fast;
 use trials::pick::Picker;
 use trials::plan::cases;
@@ -95,15 +96,17 @@ fn library_clean(sheet: &[u8], room: usize) -> (Told, Vec<u8>) {
     lent(room, |buffer| bench::clean(sheet, buffer))
 }
 
-/// All sizes, well-defined and malformed relations, with anything past the last pattern.
+/// All sizes, well-defined and malformed relations and such that inputs soldered through fit, with anything past the last
+/// pattern.
 #[test]
 fn searches_agree() {
     let mut rng = Random::new(31);
     for (n, m) in (1..=4).flat_map(|n| (1..=4).map(move |m| (n, m))) {
-        for i in 0..600 {
-            let (n, m, mut given) = match i % 3 {
+        for i in 0..800 {
+            let (n, m, mut given) = match i % 4 {
                 0 => malformed(&mut rng, n, m),
                 1 => (n, m, half_dense(&mut rng, n.into(), m.into()).sets),
+                2 => (n, m, straight::sets(&mut rng, n, m)),
                 _ => (n, m, sets(&mut rng, n, m)),
             };
             if (1..=4).contains(&n) {
@@ -139,8 +142,8 @@ fn sheet_a_agrees() {
             assert_eq!(library_quote(board, &A, 10_000, room), quoted(board, &A, 10_000, room, &mut picker));
         }
         let (told, buffer) = library_quote(board, &A, 10_000, board.longest());
-        assert_eq!(told, found(2, 2, 0, false, length));
-        assert_eq!(bench::audit(board, &A, &buffer[..length]), found(2, 0, 0, false, 0));
+        assert_eq!(told, found(1, 1, 0, false, length));
+        assert_eq!(bench::audit(board, &A, &buffer[..length]), found(1, 0, 0, false, 0));
     }
 }
 

@@ -1,10 +1,12 @@
 //! The two boards: document 01's, where a wire is a tree of selectors, and that
 //! of document 02, E2, where a selector may feed several of its wire. A board
 //! tells what a table costs and how a stage is written down. The search, the
-//! calls and the order of their tests are the same on both.
+//! calls and the order of their tests are the same on both, and so is what E4
+//! says of both: an input that is soldered through costs nothing, and is written
+//! down as any other selector.
 
 use crate::buffer::put;
-use crate::cells::{cells, full};
+use crate::cells::{self, full};
 use crate::refusal::*;
 use crate::{diagram, stage};
 
@@ -31,12 +33,12 @@ impl Stage {
         Stage { n, m, tables: [0; 4], cells: 0 }
     }
 
-    /// Puts in a wire: what it is on each pattern, and its selectors.
-    pub fn put(&mut self, wire: u32, follow: impl Fn(usize) -> bool, selectors: u32) {
+    /// Puts in a wire: what it is on each pattern, and its cells.
+    pub fn put(&mut self, wire: u32, follow: impl Fn(usize) -> bool, cells: u32) {
         for p in 0..1usize << self.n {
             self.tables[wire as usize] |= u16::from(follow(p)) << p;
         }
-        self.cells += selectors;
+        self.cells += cells;
     }
 }
 
@@ -44,8 +46,16 @@ impl Board {
     /// The cells of a table of n inputs.
     pub fn cells(self, n: u32, table: u16) -> u32 {
         match self {
-            Board::Tree => cells(n, table),
+            Board::Tree => cells::cells(n, table),
             Board::Shared => diagram::count(n, table),
+        }
+    }
+
+    /// The selectors that a table is written with.
+    pub fn selectors(self, n: u32, table: u16) -> u32 {
+        match self {
+            Board::Tree => cells::selectors(n, table),
+            Board::Shared => diagram::selectors(n, table),
         }
     }
 
@@ -54,13 +64,18 @@ impl Board {
         (0..m as usize).map(|j| self.cells(n, tables[j])).sum()
     }
 
-    /// The length of a written stage of so many cells.
-    pub fn length(self, m: u32, cells: u32) -> usize {
+    /// Its selectors likewise.
+    pub fn stage_selectors(self, n: u32, m: u32, tables: &[u16; 4]) -> u32 {
+        (0..m as usize).map(|j| self.selectors(n, tables[j])).sum()
+    }
+
+    /// The length of a written stage of so many selectors.
+    pub fn length(self, m: u32, selectors: u32) -> usize {
         let wire = match self {
             Board::Tree => 3,
             Board::Shared => 4,
         };
-        (4 + wire * m + 3 * cells) as usize
+        (4 + wire * m + 3 * selectors) as usize
     }
 
     /// No written stage is longer.
@@ -77,7 +92,7 @@ impl Board {
             Board::Tree => stage::bytes_of(n, m, tables),
             Board::Shared => diagram::bytes_of(n, m, tables),
         };
-        assert_eq!(bytes.len(), self.length(m, self.stage_cells(n, m, tables)));
+        assert_eq!(bytes.len(), self.length(m, self.stage_selectors(n, m, tables)));
         bytes
     }
 

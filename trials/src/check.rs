@@ -1,9 +1,9 @@
 //! What must hold of the cases: of every search, told by the second solver; of
 //! every clean copy, told by the sheet's own commands; of every stage that is
-//! read, told by its tables.
+//! read, written or found, told by its tables.
 
 use crate::arrange::arrange;
-use crate::board::{Board, BOARDS};
+use crate::board::{Board, Stage, BOARDS};
 use crate::case::{Case, Outcome};
 use crate::clean::{clean, copy};
 use crate::least::{least, Prices};
@@ -15,13 +15,14 @@ use crate::{fast, relation};
 
 /// How many searches were held against the second solver and how many were too
 /// long for it, on each board; how many copies were held against their sheets;
-/// and how many stages against their tables.
+/// and how many stages against their tables, read ones and written ones.
 #[derive(Default)]
 pub struct Checked {
     pub held: [usize; 2],
     pub left: [usize; 2],
     pub copies: usize,
     pub stages: usize,
+    pub written: usize,
 }
 
 pub struct Checker {
@@ -44,6 +45,9 @@ impl Checker {
                 self.check_search(*board, *budget, case, outcome);
             }
             Case::Audit { board, stage, .. } | Case::Read { board, stage } => self.check_stage(*board, stage),
+            Case::Write { board, n, m, tables, .. } if *outcome == Outcome::Written => {
+                self.check_written(*board, (*n).into(), (*m).into(), tables);
+            }
             Case::Write { .. } => {}
         }
     }
@@ -54,6 +58,17 @@ impl Checker {
             assert!(board.stage_cells(it.n, it.m, &it.tables) <= it.cells, "fewer cells than counted: {stage:?}");
             self.checked.stages += 1;
         }
+    }
+
+    /// The stage that is written of some tables reads as those tables, with the
+    /// cells that they count: no more than its selectors.
+    fn check_written(&mut self, board: Board, n: u32, m: u32, tables: &[u16; 4]) {
+        let cells = board.stage_cells(n, m, tables);
+        let mut meant = Stage { n, m, tables: *tables, cells };
+        meant.tables[m as usize..].fill(0);
+        assert_eq!(board.read(&board.bytes_of(n, m, tables)), Ok(meant), "written otherwise on {board:?}");
+        assert!(cells <= board.stage_selectors(n, m, tables), "more cells than selectors: {tables:?} on {board:?}");
+        self.checked.written += 1;
     }
 
     /// Document 02, E1: what reading refuses, then 12 at the copy's length, and
@@ -97,6 +112,8 @@ impl Checker {
         }
         if let Some(answer) = answer {
             same_as_fast(answer, &fast::search(board, n, &sets, budget));
+            assert_eq!(answer.cells, board.stage_cells(n, m, &answer.tables), "miscounted: {case:?}");
+            self.check_written(board, n, m, &answer.tables);
         }
     }
 }

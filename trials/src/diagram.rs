@@ -1,9 +1,10 @@
 //! Document 02, E2: the board that shares selectors. A wire is a reduced
 //! ordered binary decision diagram, told as a list of its nodes. Here are the
-//! count, the list, and the writer and the reader of stage sheets.
+//! count, the list, and the writer and the reader of stage sheets. With E4 a
+//! node that is an input itself counts nothing.
 
 use crate::board::Stage;
-use crate::cells::{full, halves};
+use crate::cells::{full, halves, is_straight};
 use crate::commands::{Due, Reader};
 use crate::refusal::*;
 
@@ -18,20 +19,30 @@ pub const LONGEST_LISTS: usize = 4 + 4 * (4 + 3 * MOST_ENTRIES as usize);
 /// 0 and 1 name the constants; the entries are named from here on.
 pub const FIRST: u8 = 2;
 
-/// The cells of a table: the different parts that need a selector, that is,
-/// whose halves differ. A part is what is left of the table where the inputs
-/// before it are fixed.
-pub fn count(n: u32, table: u16) -> u32 {
-    let mut parts = vec![table];
-    let mut count = 0;
+/// The different parts of a table that need a selector, that is, whose halves
+/// differ, each with how many inputs it has left. A part is what is left of the
+/// table where the inputs before it are fixed.
+fn parts(n: u32, table: u16) -> Vec<(u32, u16)> {
+    let mut level = vec![table];
+    let mut needed = Vec::new();
     for left in (1..=n).rev() {
-        let split: Vec<(u16, u16)> = parts.iter().map(|&part| halves(left, part)).collect();
-        count += split.iter().filter(|(zero, one)| zero != one).count() as u32;
-        parts = split.into_iter().flat_map(|(zero, one)| [zero, one]).collect();
-        parts.sort_unstable();
-        parts.dedup();
+        let split: Vec<(u16, u16)> = level.iter().map(|&part| halves(left, part)).collect();
+        needed.extend(level.iter().zip(&split).filter(|(_, (zero, one))| zero != one).map(|(&part, _)| (left, part)));
+        level = split.into_iter().flat_map(|(zero, one)| [zero, one]).collect();
+        level.sort_unstable();
+        level.dedup();
     }
-    count
+    needed
+}
+
+/// The selectors of a table's list.
+pub fn selectors(n: u32, table: u16) -> u32 {
+    parts(n, table).len() as u32
+}
+
+/// The cells of a table: its selectors but for the inputs soldered through.
+pub fn count(n: u32, table: u16) -> u32 {
+    parts(n, table).iter().filter(|&&(left, part)| !is_straight(left, part)).count() as u32
 }
 
 /// A selector on an input, and what it passes on: the entry for 0 or for 1.
@@ -61,6 +72,12 @@ impl Diagram {
             Some(at) => self.entries[usize::from(at)].input,
             None => u8::MAX,
         }
+    }
+
+    /// Every entry is a cell, one that repeats another or is not reached too,
+    /// but for those that have the constants 0 and 1 as their branches.
+    pub fn cells(&self) -> u32 {
+        self.entries.iter().filter(|it| (it.zero, it.one) != (0, 1)).count() as u32
     }
 
     /// The wire on pattern p, whose highest bit is the first input.
@@ -185,7 +202,7 @@ fn top(reader: &mut Reader, list: &Diagram) -> Result<u8, Refusal> {
     Ok(top)
 }
 
-/// The stage reader: any lists that are in order. Every entry is a cell.
+/// The stage reader: any lists that are in order.
 pub fn read(bytes: &[u8]) -> Result<Stage, Refusal> {
     let mut reader = Reader::new(bytes, known);
     let (n, m) = reader.sizes()?;
@@ -198,7 +215,7 @@ pub fn read(bytes: &[u8]) -> Result<Stage, Refusal> {
             list.entries.push(entry);
         }
         list.top = top(&mut reader, &list)?;
-        stage.put(j, |p| list.follow(n, p), c.into());
+        stage.put(j, |p| list.follow(n, p), list.cells());
     }
     reader.end()?;
     Ok(stage)
@@ -296,36 +313,54 @@ mod tests {
         (0..1 << n).fold(0, |table, p| table | u16::from(list.follow(n, p)) << p)
     }
 
-    /// The count by parts is the length of the list, which means the table.
+    /// The list has an entry for each selector, as many cells as are counted,
+    /// and means the table.
     #[test]
-    fn as_many_entries_as_counted() {
-        let mut most = 0;
+    fn the_list_is_as_counted() {
+        let (mut most_selectors, mut most_cells) = (0, 0);
         for n in 1..=4 {
             for table in 0..=full(n) {
                 let list = list(n, table);
-                assert_eq!((table_of(n, &list), list.entries.len() as u32), (table, count(n, table)));
-                most = most.max(count(n, table));
+                let (selectors, cells) = (selectors(n, table), count(n, table));
+                assert_eq!((table_of(n, &list), list.entries.len() as u32, list.cells()), (table, selectors, cells));
+                assert!(cells <= selectors);
+                most_selectors = most_selectors.max(selectors);
+                most_cells = most_cells.max(cells);
             }
         }
-        assert_eq!(most, 9);
+        assert_eq!((most_selectors, most_cells), (9, 8));
     }
 
+    /// Table, cells, selectors.
     #[test]
     fn counted_by_hand() {
-        for (n, table, cells) in [(3, 0xE8, 4), (3, 0x96, 5), (4, 0x6996, 7), (4, 0x8412, 9), (4, 0xF888, 4), (1, 1, 1)]
-        {
-            assert_eq!(count(n, table), cells, "{table:x}");
+        for (n, table, expected) in [
+            (1, 0b01, (1, 1)),
+            (1, 0b10, (0, 1)),
+            (3, 0xE8, (3, 4)),
+            (3, 0x96, (4, 5)),
+            (3, 0xCA, (1, 3)),
+            (4, 0x6996, (6, 7)),
+            (4, 0x8412, (8, 9)),
+            // Input 2 below input 1, and input 4 below input 3.
+            (4, 0xF888, (3, 4)),
+            (4, 0xFF00, (0, 1)),
+            (4, 0xF0F0, (0, 1)),
+            (4, 0xAAAA, (0, 1)),
+            (4, 0x3333, (1, 1)),
+        ] {
+            assert_eq!((count(n, table), selectors(n, table)), expected, "{table:x}");
         }
     }
 
-    /// Every list of up to so many entries, each with every top: none has
-    /// fewer entries than its table's count.
-    fn every_list(n: u32, list: &mut Diagram, most: usize) {
+    /// Every list that goes on from this one by up to so many entries, each with
+    /// every top: none has fewer cells than its table's count.
+    fn every_list(n: u32, list: &mut Diagram, more: usize) {
         for top in 0..list.next() {
             list.top = top;
-            assert!(count(n, table_of(n, list)) <= list.entries.len() as u32, "{list:?}");
+            assert!(count(n, table_of(n, list)) <= list.cells(), "{list:?}");
         }
-        if list.entries.len() == most {
+        if more == 0 {
             return;
         }
         for input in 1..=n as u8 {
@@ -333,17 +368,41 @@ mod tests {
             for &zero in &names {
                 for &one in &names {
                     list.entries.push(Entry { input, zero, one });
-                    every_list(n, list, most);
+                    every_list(n, list, more - 1);
                     list.entries.pop();
                 }
             }
         }
     }
 
+    /// From nothing on, and from all inputs on, which cost nothing.
     #[test]
-    fn no_list_has_fewer_entries() {
+    fn no_list_has_fewer_cells() {
         for (n, most) in [(1, 3), (2, 4), (3, 4), (4, 3)] {
             every_list(n, &mut Diagram { entries: vec![], top: 0 }, most);
+            let inputs = (1..=n as u8).map(|input| Entry { input, zero: 0, one: 1 });
+            every_list(n, &mut Diagram { entries: inputs.collect(), top: 0 }, most - 1);
         }
+    }
+
+    /// A wire of two inputs.
+    fn cells_of(entries: &[[u8; 3]], top: u8) -> u32 {
+        let stage = [&[0x20, 2, 1, 0x26, 0, entries.len() as u8], &entries.concat()[..], &[top, 0x2F]].concat();
+        read(&stage).expect("to be read").cells
+    }
+
+    #[test]
+    fn straight_entries_are_no_cells() {
+        assert_eq!(cells_of(&[[1, 0, 1]], 2), 0);
+        assert_eq!(cells_of(&[[1, 0, 1], [1, 0, 1], [2, 0, 1]], 2), 0);
+        assert_eq!(cells_of(&[[1, 0, 1]], 0), 0);
+        assert_eq!(cells_of(&[[1, 1, 0]], 2), 1);
+        assert_eq!(cells_of(&[[1, 0, 0]], 2), 1);
+        assert_eq!(cells_of(&[[1, 1, 1]], 2), 1);
+        assert_eq!(cells_of(&[[1, 1, 1], [1, 1, 0], [1, 1, 0]], 0), 3);
+        assert_eq!(cells_of(&[[2, 0, 1], [1, 2, 1]], 3), 1);
+        // An entry worth the constant is not the constant.
+        assert_eq!(cells_of(&[[2, 0, 0], [1, 2, 1]], 3), 2);
+        assert_eq!(cells_of(&[[2, 1, 1], [1, 0, 2]], 3), 2);
     }
 }

@@ -109,36 +109,55 @@ impl Ledger {
     }
 }
 
-/// Every function on either half. A wire with equal halves pays for one of
-/// them, any other wire for both and 1 more. So for each choice of the wires
-/// that are to have equal halves ("joined"): the cheapest lower half and the
-/// cheapest upper half that agree on the joined wires. (A wire that happens to
-/// be equal without being joined is only priced too high here, and right
-/// where it is joined.)
+/// How the two halves of a wire are to go together.
+#[derive(Clone, Copy, PartialEq, Eq)]
+enum Halves {
+    /// One is paid for.
+    Equal,
+    /// Both are paid for, and a selector.
+    Apart,
+    /// 0 below and 1 above: nothing is paid for.
+    Straight,
+}
+
+/// Every choice of these for so many wires.
+fn every_choice(wires: usize) -> Vec<Vec<Halves>> {
+    let mut all = vec![vec![]];
+    for _ in 0..wires {
+        let longer = |choice: &Vec<Halves>| {
+            [Halves::Equal, Halves::Apart, Halves::Straight].map(|halves| [&choice[..], &[halves]].concat())
+        };
+        all = all.iter().flat_map(longer).collect();
+    }
+    all
+}
+
+/// Every function on either half. For each choice of how the halves of each wire
+/// are to go together: the cheapest lower half and the cheapest upper half that
+/// do so. (A wire whose halves are called apart and happen to be equal or
+/// straight is only priced too high here, and right where they are called so.)
 pub fn by_halves(n: u32, m: u32, sets: &[u16; 16]) -> Option<u32> {
     let width = 1usize << (n - 1);
     let wires = m as usize;
     let lower = every_function(wires, &sets[..width]);
     let upper = every_function(wires, &sets[width..2 * width]);
     let price: Vec<u16> = (0..1u32 << width).map(|t| cells(n - 1, t as u16) as u16).collect();
-    let of = |tuple: &Tuple, j: usize| price[usize::from(tuple[j])];
 
     let mut least: Option<u16> = None;
-    for joined in 0..1usize << wires {
-        let is_joined = |j: usize| joined >> j & 1 == 1;
-        let key =
-            |tuple: &Tuple| (0..wires).filter(|&j| is_joined(j)).fold(0u32, |k, j| k << width | u32::from(tuple[j]));
-        let free = |tuple: &Tuple| -> u16 { (0..wires).filter(|&j| !is_joined(j)).map(|j| of(tuple, j)).sum() };
-        let common = |tuple: &Tuple| -> u16 { (0..wires).filter(|&j| is_joined(j)).map(|j| of(tuple, j)).sum() };
-        let selectors = (wires as u32 - joined.count_ones()) as u16;
+    for choice in every_choice(wires) {
+        let with = |halves: Halves| (0..wires).filter(|&j| choice[j] == halves).collect::<Vec<usize>>();
+        let (equal, apart, straight) = (with(Halves::Equal), with(Halves::Apart), with(Halves::Straight));
+        let cost = |tuple: &Tuple, some: &[usize]| -> u16 { some.iter().map(|&j| price[usize::from(tuple[j])]).sum() };
+        let key = |tuple: &Tuple| equal.iter().fold(0u32, |key, &j| key << width | u32::from(tuple[j]));
+        let suits = |tuple: &&Tuple, half: u16| straight.iter().all(|&j| u16::from(tuple[j]) == half);
 
-        let mut ledger = Ledger::new(width * joined.count_ones() as usize);
-        for tuple in &lower {
-            ledger.lower(key(tuple), free(tuple));
+        let mut ledger = Ledger::new(width * equal.len());
+        for tuple in lower.iter().filter(|tuple| suits(tuple, 0)) {
+            ledger.lower(key(tuple), cost(tuple, &apart));
         }
-        for tuple in &upper {
+        for tuple in upper.iter().filter(|tuple| suits(tuple, full(n - 1))) {
             if let Some(below) = ledger.get(key(tuple)) {
-                let total = below + free(tuple) + common(tuple) + selectors;
+                let total = below + cost(tuple, &apart) + apart.len() as u16 + cost(tuple, &equal);
                 least = Some(least.map_or(total, |l| l.min(total)));
             }
         }

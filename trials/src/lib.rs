@@ -6,6 +6,8 @@
 //! * `clean`: document 02, E1; `buffer`: how all writers treat what is lent.
 //! * `diagram`: document 02, E2; `board`: which of the two boards it is, handed
 //!   to all calls; `commands`: what their stage sheets have in common.
+//! * Document 02, E4, is where cells are counted: of tables in `cells` and
+//!   `diagram`, of what is read in `stage` and `diagram`.
 //! * `least`: a second solver that tries every function, free of the search.
 //! * `arrange`: a second way to the clean copy, by sorting the sheet's commands.
 //! * `fast`: the same search as `search` and the same sets as `relation`, tuned

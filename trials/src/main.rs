@@ -52,14 +52,14 @@ fn write(directory: &Path) -> ExitCode {
 }
 
 fn count() -> ExitCode {
-    let (tally, Checked { held, left, copies, stages }) = tallied();
+    let (tally, Checked { held, left, copies, stages, written }) = tallied();
     print!("{}", tally.report());
     for (name, board) in NAMES {
         let (held, left) = (held[board as usize], left[board as usize]);
         println!("{name}: searches held against the second solver: {held}, too long for it: {left}");
     }
     println!("clean copies held against their sheets: {copies}");
-    println!("stages held against their tables' count: {stages}");
+    println!("stages held against their tables' count: {stages} read, {written} written");
     ExitCode::SUCCESS
 }
 

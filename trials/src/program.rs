@@ -485,8 +485,8 @@ mod tests {
     fn the_lines_of_sheet_a() {
         for board in BOARDS {
             let stage = stage_of_a(board);
-            assert_eq!(audit_line(board, &A, stage), "fits cells 2\n");
-            assert_eq!(audit_line(board, &long_sheet(), stage), "fits cells 2\n");
+            assert_eq!(audit_line(board, &A, stage), "fits cells 1\n");
+            assert_eq!(audit_line(board, &long_sheet(), stage), "fits cells 1\n");
             assert_eq!(audit_line(board, &A, &[]), "stage refused 1 at 0\n");
             assert_eq!(audit_line(board, &[0; LONGEST_SHEET + 1], &[]), "sheet refused 14 at 4096\n");
         }

@@ -1,4 +1,5 @@
-//! Document 01, "Stage sheet": the tree board's writer and reader.
+//! Document 01, "Stage sheet": the tree board's writer and reader. A stage's
+//! cells are those of document 02, E4.
 
 use crate::board::Stage;
 use crate::cells::{full, halves};
@@ -30,10 +31,15 @@ impl Tree {
         }
     }
 
-    pub fn selectors(&self) -> u32 {
+    /// A selector whose branches are the constants 0 and 1 themselves passes its
+    /// input straight through; every other one is a cell.
+    pub fn cells(&self) -> u32 {
         match self {
             Tree::Constant(_) => 0,
-            Tree::Selector(_, zero, one) => 1 + zero.selectors() + one.selectors(),
+            Tree::Selector(_, zero, one) => match (&**zero, &**one) {
+                (Tree::Constant(false), Tree::Constant(true)) => 0,
+                (zero, one) => 1 + zero.cells() + one.cells(),
+            },
         }
     }
 }
@@ -118,7 +124,7 @@ pub fn read(bytes: &[u8]) -> Result<Stage, Refusal> {
     for j in 0..m {
         wire(&mut reader, m, j)?;
         let tree = tree(&mut reader, n, 0)?;
-        stage.put(j, |p| tree.follow(n, p), tree.selectors());
+        stage.put(j, |p| tree.follow(n, p), tree.cells());
     }
     reader.end()?;
     Ok(stage)
@@ -127,6 +133,7 @@ pub fn read(bytes: &[u8]) -> Result<Stage, Refusal> {
 #[cfg(test)]
 mod tests {
     use super::*;
+    use crate::cells::cells;
 
     fn refusal(bytes: &[u8]) -> (u8, usize) {
         let r = read(bytes).expect_err("to be refused");
@@ -168,6 +175,54 @@ mod tests {
     fn a_wire_too_many() {
         for more in [vec![0x21], vec![0x21, 0], vec![0x21, 1], vec![0x21, 9]] {
             assert_eq!(refusal(&[vec![0x20, 1, 1, 0x21, 0, 0x23], more].concat()), (5, 6));
+        }
+    }
+
+    /// A wire of two inputs.
+    fn cells_of(tree: &[u8]) -> u32 {
+        let stage = [&[0x20, 2, 1, 0x21, 0], tree, &[0x2F]].concat();
+        read(&stage).expect("to be read").cells
+    }
+
+    #[test]
+    fn straight_selectors_are_no_cells() {
+        assert_eq!(cells_of(&[0x22, 1, 0x23, 0x24]), 0);
+        assert_eq!(cells_of(&[0x22, 2, 0x23, 0x24]), 0);
+        assert_eq!(cells_of(&[0x22, 1, 0x24, 0x23]), 1);
+        assert_eq!(cells_of(&[0x22, 1, 0x23, 0x23]), 1);
+        assert_eq!(cells_of(&[0x22, 1, 0x24, 0x24]), 1);
+        assert_eq!(cells_of(&[0x22, 1, 0x22, 2, 0x23, 0x24, 0x24]), 1);
+        assert_eq!(cells_of(&[0x22, 1, 0x22, 2, 0x23, 0x24, 0x22, 2, 0x23, 0x24]), 1);
+        // A larger branch, though it is worth the constant.
+        assert_eq!(cells_of(&[0x22, 1, 0x22, 2, 0x23, 0x23, 0x24]), 2);
+        assert_eq!(cells_of(&[0x22, 1, 0x23, 0x22, 2, 0x24, 0x24]), 2);
+    }
+
+    /// Every ordered tree on the inputs from k to n.
+    fn every_tree(n: u32, k: u32) -> Vec<Tree> {
+        if k > n {
+            return vec![Tree::Constant(false), Tree::Constant(true)];
+        }
+        let below = every_tree(n, k + 1);
+        let mut all = below.clone();
+        for zero in &below {
+            all.extend(below.iter().map(|one| Tree::Selector(k, Box::new(zero.clone()), Box::new(one.clone()))));
+        }
+        all
+    }
+
+    /// No tree has fewer cells than its table's count, and one has as many.
+    #[test]
+    fn no_tree_has_fewer_cells() {
+        for (n, count) in [(1, 6), (2, 42), (3, 1_806)] {
+            let mut least = vec![u32::MAX; 1 << (1 << n)];
+            let trees = every_tree(n, 1);
+            assert_eq!(trees.len(), count);
+            for tree in trees {
+                let table = (0..1 << n).fold(0, |table, p| table | usize::from(tree.follow(n, p)) << p);
+                least[table] = least[table].min(tree.cells());
+            }
+            assert!((0..=full(n)).all(|table| least[usize::from(table)] == cells(n, table)));
         }
     }
 }

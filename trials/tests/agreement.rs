@@ -6,6 +6,7 @@ use trials::case::{Case, Outcome};
 use trials::check::Checker;
 use trials::draw::relations::{half_dense, sets};
 use trials::draw::sheets::{draft, hard_draft, longest_draft};
+use trials::draw::straight;
 use trials::fast;
 use trials::pick::Picker;
 use trials::random::Random;
@@ -26,8 +27,8 @@ fn the_search_finds_the_least() {
     let mut checker = Checker::default();
     for board in BOARDS {
         for (n, m) in sizes() {
-            for _ in 0..250 {
-                let sets = sets(&mut rng, n, m);
+            for i in 0..300 {
+                let sets = if i % 6 == 0 { straight::sets(&mut rng, n, m) } else { sets(&mut rng, n, m) };
                 let budget = rng.of(&[0, 1, 3, 30, 2_000, 2_000]);
                 let r = handed(n, m, &sets).expect("drawn to be well defined");
                 let answer = search(board, &r, budget, &mut picker);
@@ -45,8 +46,12 @@ fn the_fast_search_is_the_search() {
     let mut rng = Random::new(7);
     let mut picker = Picker::new();
     for (board, (n, m)) in BOARDS.into_iter().flat_map(|board| sizes().map(move |size| (board, size))) {
-        for i in 0..400 {
-            let sets = if i % 4 == 0 { half_dense(&mut rng, n.into(), m.into()).sets } else { sets(&mut rng, n, m) };
+        for i in 0..500 {
+            let sets = match i % 5 {
+                0 => half_dense(&mut rng, n.into(), m.into()).sets,
+                1 => straight::sets(&mut rng, n, m),
+                _ => sets(&mut rng, n, m),
+            };
             let budget = rng.of(&[0, 1, 2, 5, 20, 100, 600]);
             let r = handed(n, m, &sets).expect("drawn to be well defined");
             let slow = search(board, &r, budget, &mut picker);

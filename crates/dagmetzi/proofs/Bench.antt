@@ -1,4 +1,4 @@
--- Document 01, "Bench sheets": the starred rows, proved together over the written meanings.
+-- Document 01, "Bench sheets": the starred rows, proved together over the written meanings, with the figures that document 02 (E4) has for them.
 use Prim.Native.Nat.{ℕ}
 use mathlib.Core.Path.{_≡_, refl}
 use mathlib.Core.List.{List, [], _∷_}
@@ -6,7 +6,7 @@ use Rattle.base.specs.Cases.{accepting, acceptedCase}
 use Rattle.base.specs.Lowest.{lowest}
 use Rattle.base.specs.Refusals.{refusalAt, cutShort, outOfTurn, empty}
 use Rattle.table.specs.Bits.{bit, all, any, sum, ofBits, tabulate, isOne}
-use Rattle.table.specs.Cells.{low, high, cells, total}
+use Rattle.table.specs.Cells.{low, high, full, wiredTable, selectorCells, cells, total}
 use Rattle.table.specs.Tree.{reduced}
 use Rattle.table.specs.Pick.{suits, nearer, least, orZero, leastOf}
 use Rattle.relation.specs.declared.Relation.{Relation}
@@ -35,7 +35,7 @@ use Rattle.printed.specs.Printed.{budget, printedOf}
 
 -- all that a search computes by: tables and picks, relations, the search itself,
 unfoldable tables-opened : ℕ
-unfolding bit all any sum ofBits tabulate low high cells reduced suits nearer least orZero leastOf
+unfolding bit all any sum ofBits tabulate low high full wiredTable selectorCells cells reduced suits nearer least orZero leastOf
 tables-opened = 0
 
 unfoldable relations-opened : ℕ
@@ -64,12 +64,12 @@ unfoldable opened : ℕ
 unfolding UnitRows.opened tables-opened relations-opened search-opened quote-opened printing printedOf
 opened = 0
 
--- sheet A as it is printed. Its first line is "cells 2 floor 2 visits 0 best";
+-- sheet A as it is printed. Its first line is "cells 1 floor 1 visits 0 best";
 -- its second, "20 02 02 21 00 22 01 24 23 21 01 22 02 23 24 2F"
 abbrev linesA : List ℕ
 linesA =
-    0x63 ∷ 0x65 ∷ 0x6C ∷ 0x6C ∷ 0x73 ∷ 0x20 ∷ 0x32 ∷ 0x20
-    ∷ 0x66 ∷ 0x6C ∷ 0x6F ∷ 0x6F ∷ 0x72 ∷ 0x20 ∷ 0x32 ∷ 0x20
+    0x63 ∷ 0x65 ∷ 0x6C ∷ 0x6C ∷ 0x73 ∷ 0x20 ∷ 0x31 ∷ 0x20
+    ∷ 0x66 ∷ 0x6C ∷ 0x6F ∷ 0x6F ∷ 0x72 ∷ 0x20 ∷ 0x31 ∷ 0x20
     ∷ 0x76 ∷ 0x69 ∷ 0x73 ∷ 0x69 ∷ 0x74 ∷ 0x73 ∷ 0x20 ∷ 0x30 ∷ 0x20
     ∷ 0x62 ∷ 0x65 ∷ 0x73 ∷ 0x74 ∷ newline
     ∷ 0x32 ∷ 0x30 ∷ 0x20 ∷ 0x30 ∷ 0x32 ∷ 0x20 ∷ 0x30 ∷ 0x32 ∷ 0x20
@@ -98,15 +98,15 @@ pub record Starred : Type 0 where
   -- what the program prints for its bytes, to the last one
   pub a-printed : printedOf Tree sheetA ≡ linesA
   -- the cells of the present stage, by the tables that its own 02 commands tell
-  pub a-present : presentCells (readingOf sheetA) ≡ 4
+  pub a-present : presentCells (readingOf sheetA) ≡ 3
   -- B with a budget of 1, and B0 with none
-  pub b : Says (searchOf Tree relationB 1) 3 3 1 bestOutcome
-  pub b0 : Says (searchOf Tree relationB 0) 3 2 0 stoppedOutcome
-  -- C with a budget of 2, and C1 with 1
-  pub c : Says (searchOf Tree relationC 2) 0 0 2 bestOutcome
-  pub c1 : Says (searchOf Tree relationC 1) 1 0 1 stoppedOutcome
+  pub b : Says (searchOf Tree relationB 1) 1 1 1 bestOutcome
+  pub b0 : Says (searchOf Tree relationB 0) 1 0 0 stoppedOutcome
+  -- C with a budget of 2, and C1 with 1: the first answer has no cells, so nothing is left to visit
+  pub c : Says (searchOf Tree relationC 2) 0 0 0 bestOutcome
+  pub c1 : Says (searchOf Tree relationC 1) 0 0 0 bestOutcome
   -- Tables: the cells of five functions of three inputs
-  pub tables : (cells 3 0x00 ≡ 0) × (cells 3 0xAA ≡ 1) × (cells 3 0xF0 ≡ 1) × (cells 3 0xE8 ≡ 5) × (cells 3 0x96 ≡ 7)
+  pub tables : (cells 3 0x00 ≡ 0) × (cells 3 0xAA ≡ 0) × (cells 3 0xF0 ≡ 0) × (cells 3 0xE8 ≡ 3) × (cells 3 0x96 ≡ 5)
   -- the empty sheet and the lone 00, with any buffer
   pub empty-sheet : (room : ℕ) → quotedOf Tree [] budget room ≡ refusedQuote (refusalAt cutShort 0)
   pub lone-end : (room : ℕ) → quotedOf Tree (0 ∷ []) budget room ≡ refusedQuote (refusalAt outOfTurn 0)

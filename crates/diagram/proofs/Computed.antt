@@ -1,18 +1,18 @@
--- Worked rows, computed from the meanings: the majority of three inputs written and read, idle entries counted, and one row for each refusal of a sharing stage
--- sheet.
+-- Worked rows, computed from the meanings: the majority of three inputs written and read, which entries are counted, and one row for each refusal of a sharing
+-- stage sheet.
 use Prim.Native.Nat.{ℕ}
 use mathlib.Core.Path.{_≡_, refl}
 use mathlib.Core.List.{List, [], _∷_}
 use Rattle.base.specs.Refusals.{refusalAt, cutShort, unknown, outOfRange, trailing, outOfTurn, noSignal, notAscending}
 use Rattle.table.specs.Bits.{bit, sum, ofBits}
-use Rattle.table.specs.Cells.{low, high}
+use Rattle.table.specs.Cells.{low, high, selectorCells}
 use Rattle.table.specs.Drawing.{got, noStage, drawnTable}
 use Rattle.nodes.specs.Nodes.{same, has, listing}
 use Rattle.stage.specs.Steps.{andThen, misplaced, dueNumber, due, operand}
 use Rattle.stage.specs.Bytes.{wiresBytes, stageBytes}
 use Rattle.stage.specs.Read.{wiresAt, nothingAfter, endAt, closed, readSheet}
 use Rattle.stage.specs.Written.{stageDrawn, stageOf}
-use Rattle.diagram.specs.Diagram.{entry, Diagram, diagram, inputAt, followEntry, entryPrice, entriesCells, diagramCells}
+use Rattle.diagram.specs.Diagram.{entry, Diagram, diagram, inputAt, followEntry, wiredEntry, entryPrice, entriesCells, diagramCells}
 use Rattle.diagram.specs.Bytes.{entriesBytes, diagramWireBytes}
 use Rattle.diagram.specs.Read.{entryRefusal, entryAt, entriesAt, topAt, diagramWireAt}
 use Rattle.diagram.specs.Written.{nodeNumber, numberOf, entriesOf, reducedDiagram}
@@ -20,7 +20,7 @@ use Rattle.diagram.specs.Diagrams.{diagramForm, diagramDrawing, readDiag
 
 -- all meanings of diagrams, of writing, and of reading, open
 unfoldable drawing : ℕ
-unfolding inputAt followEntry entryPrice entriesCells
+unfolding inputAt followEntry selectorCells wiredEntry entryPrice entriesCells
 drawing = 0
 
 unfoldable writing : ℕ
@@ -55,13 +55,22 @@ unfolding drawing drawnTable ofBits sum bit
 majority-table = refl
 
 -- an entry to which nothing leads, and one that repeats another, count as any other
-pub unreached-counted : diagramCells (diagram (entry 1 0 1 ∷ entry 2 0 1 ∷ []) 2) ≡ 2
+pub unreached-counted : diagramCells (diagram (entry 1 1 0 ∷ entry 2 1 0 ∷ []) 2) ≡ 2
 unfolding drawing
 unreached-counted = refl
 
-pub repeated-counted : diagramCells (diagram (entry 1 2 3 ∷ entry 2 0 1 ∷ entry 2 0 1 ∷ []) 4) ≡ 3
+pub repeated-counted : diagramCells (diagram (entry 1 2 3 ∷ entry 2 1 0 ∷ entry 2 1 0 ∷ []) 4) ≡ 3
 unfolding drawing
 repeated-counted = refl
+
+-- an entry that goes on to the constants 0 and 1 is soldered through, reached or not; one that goes on to an entry worth 0 is a cell
+pub straight-free : diagramCells (diagram (entry 1 0 1 ∷ entry 2 0 1 ∷ []) 2) ≡ 0
+unfolding drawing
+straight-free = refl
+
+pub larger-counted : diagramCells (diagram (entry 1 2 1 ∷ entry 2 0 0 ∷ []) 3) ≡ 2
+unfolding drawing
+larger-counted = refl
 
 -- the refusals of a wire: its place is its first byte. Trees' commands are unknown here, and an end is known but not due
 pub tree-unknown : readDiagrams (0x20 ∷ 1 ∷ 1 ∷ 0x21 ∷ 0 ∷ 0x23 ∷ 0x2F ∷ []) ≡ noStage (refusalAt unknown 3)

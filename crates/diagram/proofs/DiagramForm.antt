@@ -14,6 +14,7 @@ use Rattle.stage.specs.Bytes.{sheetFrame, selectorBytes}
 use Rattle.stage.specs.Written.{stageOf}
 use Rattle.stage.specs.Inner.Laws.{FormLaws}
 use Rattle.stage.proofs.Lengths.{sheet-length, sheet-length-most}
+use Rattle.stage.proofs.TreeTables.{patterns-most}
 use Rattle.stage.proofs.Prefix.{none-longer as sheet-none-longer, front-tells as sheet-front}
 use Rattle.diagram.specs.Diagram.{Diagram, mostEntries, followDiagram}
 use Rattle.diagram.specs.Bytes.{diagramFrame, longestShared}
@@ -21,7 +22,7 @@ use Rattle.diagram.specs.Written.{reducedDiagram}
 use Rattle.diagram.specs.Diagrams.{diagramForm, diagramDrawing, readDiagrams}
 use Rattle.diagram.proofs.Entries.{diagram-drives}
 use Rattle.diagram.proofs.Least.{least-diagram}
-use Rattle.diagram.proofs.Reduced.{reduced-few, reduced-formed, reduced-means, reduced-cells, reduced-entries, entries-length}
+use Rattle.diagram.proofs.Reduced.{listing-short, reduced-formed, reduced-means, reduced-cells, entries-length}
 use Rattle.diagram.proofs.Reading.{wire-length, wire-told, wire-back, wire-more}
 
 -- nodes are fair to diagrams: none of a function has fewer cells, and the one that is written has as many
@@ -77,10 +78,10 @@ stage-length n m tables h = sheet-length diagramForm diagram-laws n (λ t. lengt
 
 pub stage-length-most : (n m : ℕ) (tables : List ℕ) → m ≤ length tables → n ≤ maxInputs → m ≤ maxWires
     → length (stageOf diagramForm n m tables) ≤ longestShared
-unfolding diagram-laws
+unfolding diagram-laws reducedDiagram
 stage-length-most n m tables h a b =
     omega (
       arith,
-      sheet-length-most diagramForm diagram-laws n (nodes n) (reduced-entries n) m tables h (maxPatterns - 1)
-          (λ t. omega (arith, reduced-few n t a, reduced-entries n t)),
+      sheet-length-most diagramForm diagram-laws n (λ t. length (listing n t [])) (λ t. entries-length n (listing n t [])) m tables h (maxPatterns - 1)
+          (λ t. omega (arith, listing-short n t, patterns-most n a)),
     )

@@ -1,32 +1,33 @@
--- No diagram of a table's function has fewer cells than the table has nodes.
+-- No diagram of a table's function has fewer cells than the table's nodes count for.
 use Prim.Native.Nat.{ℕ, zero, suc, _+_, _-_, _^_, _*_, _<_, _≤_}
-use mathlib.Core.Path.{_≡_, sym, ap, subst, _∙_}
+use mathlib.Core.Path.{_≡_, refl, sym, ap, ap₂, subst, _∙_}
 use mathlib.Core.Logic.{⊎-elim}
 use mathlib.Core.List.{List, [], _∷_}
 use native.Mathlib.Omega.{arith}
-use lib.Dec.{T, eqb}
-use Rattle.base.proofs.Tests.{cond-has}
+use lib.Dec.{T, eqb, leb, eqb→eq, leb→le, nleb→lt}
+use Rattle.base.proofs.Tests.{cond-has, decide, and-left, and-right}
 use Rattle.table.specs.Bits.{bit, ofBits}
-use Rattle.table.specs.Cells.{low, high}
+use Rattle.table.specs.Cells.{low, high, wiredTable}
 use Rattle.table.specs.Tree.{Tree, con, sel, Ordered, follow}
-use Rattle.table.proofs.Bits.{ofBits-bit, sum-cong}
-use Rattle.table.proofs.Cells.{low-lt, high-lt}
-use Rattle.table.proofs.Trees.{Means, Past, Tests, halves}
+use Rattle.table.specs.Inner.Lines.{line}
+use Rattle.table.proofs.Bits.{bit-top, bit-past, zero-bit, ofBits-bit, sum-cong}
+use Rattle.table.proofs.Halves.{low-lt, high-lt, low-bit, high-bit}
+use Rattle.table.proofs.Wired.{full-bit, line-low, line-high, line-lt, line-wired, wired-le}
+use Rattle.table.proofs.Trees.{follow-zero, follow-one, Means, Past, Tests, halves}
 use Rattle.nodes.specs.Nodes.{Node, node, has, listing, price, weight, nodes}
 use Rattle.nodes.proofs.Lists.{has-none, has-head, has-later, subset-weight}
 use Rattle.nodes.proofs.Listing.{listing-once}
 use Rattle.nodes.proofs.Held.{Holds, listing-within}
-use Rattle.diagram.specs.Diagram.{Entry, Diagram, nextNumber, followDiagram, WellFormed, entryPrice, entriesCells, diagramCells}
-use Rattle.diagram.proofs.Entries.{treeOf, follow-tree, diagram-ordered}
+use Rattle.diagram.specs.Diagram.{Entry, Diagram, nextNumber, followDiagram, WellFormed, wiredEntry, entryPrice, entriesCells, diagramCells}
+use Rattle.diagram.proofs.Entries.{treeOf, follow-tree, diagram-ordered, constant-tree}
 
 -- the node that a selector on input i stands for, told by what its tree means
 unfoldable treeNode : ℕ → ℕ → Tree → Node
 treeNode n i x = node (n - i) (ofBits (2 ^ suc (n - i)) (λ p. follow n p x))
 
-node-means : (n k r : ℕ) (x : Tree) (t : ℕ) → k + suc r ≡ n → t < 2 ^ (2 ^ suc r) → Means n (suc r) x t → treeNode n (suc k) x ≡ node r t
+node-means : (n i r : ℕ) (x : Tree) (t : ℕ) → n - i ≡ r → t < 2 ^ (2 ^ suc r) → Means n (suc r) x t → treeNode n i x ≡ node r t
 unfolding treeNode ofBits
-node-means n k r x t at lt mx =
-    let w : n - suc k ≡ r = omega arith in
+node-means n i r x t w lt mx =
     let e : ofBits (2 ^ suc r) (λ p. follow n p x) ≡ ofBits (2 ^ suc r) (bit t) =
     sum-cong (2 ^ suc r) (λ p. follow n p x * 2 ^ p) (λ p. bit t p * 2 ^ p) (λ p l. ap (λ y. y * 2 ^ p) (mx p l)) in
     ap (λ y. node y (ofBits (2 ^ suc y) (λ p. follow n p x))) w ∙ ap (node r) (e ∙ ofBits-bit (2 ^ suc r) t lt)
@@ -71,16 +72,47 @@ module _ (n : ℕ) (ks : List Node) where
       let y = sel (suc k) (h .z) (h .o) in
       let hy : Held n ks (sel (suc k) (h .z) (h .o)) = rw (h .is) at hx in
       let my : Means n (suc r) (sel (suc k) (h .z) (h .o)) t = rw (h .is) at mx in (
-        λ _. subst (λ j. T (has ks j)) (node-means n k r y t at lt my) (hy .0),
+        λ _. subst (λ j. T (has ks j)) (node-means n (suc k) r y t (omega arith) lt my) (hy .0),
         tree-holds r (low r t) (suc k) (h .z) (omega arith) (h .z-ordered) (low-lt r t) (h .z-means) (hy .1),
         tree-holds r (high r t) (suc k) (h .o) (omega arith) (h .o-ordered) (high-lt r t lt) (h .o-means) (hy .2),
       ))
       (halves n k r at t lt x ord mx)
 
+-- a selector over the constants 0 and 1 means its own input
+line-means : (n i : ℕ) → Means n (suc (n - i)) (sel i (con 0) (con 1)) (line (n - i))
+unfolding follow
+line-means n i p l =
+    let r = n - i in
+    ⊎-elim
+    (λ t.
+    let q = p - 2 ^ r in
+    let h : 2 ^ r ≤ p = leb→le (2 ^ r) p t in
+    let b : q < 2 ^ r = omega arith in
+    let e : q + 1 * 2 ^ r ≡ p = omega arith in
+    follow-one n p i (con 0) (con 1) (ap (λ x. bit x r) (sym e) ∙ bit-top {x = q} {b = 1} r b (omega arith))
+    ∙ sym (full-bit r q b) ∙ ap (λ x. bit x q) (sym (line-high r)) ∙ high-bit r (line r) q ∙ ap (bit (line r)) e)
+    (λ u.
+    let b : p < 2 ^ r = nleb→lt (2 ^ r) p u in
+    follow-zero n p i (con 0) (con 1) (bit-past p r r b (omega arith))
+    ∙ sym (zero-bit p) ∙ ap (λ x. bit x p) (sym (line-low r)) ∙ low-bit r (line r) p b)
+    (decide (leb (2 ^ r) p))
+
 -- what an entry stands for costs no more than the entry, and so for all of them
 price-most : (n : ℕ) (before : List Entry) (e : Entry) → price (standsFor n before e) ≤ entryPrice e
-unfolding price entryPrice
-price-most n before e = omega arith
+unfolding price entryPrice wiredEntry
+price-most n before e =
+    let k = standsFor n before e in
+    wired-le (wiredTable (k .after) (k .table)) (wiredEntry e)
+    (λ w.
+    let z : treeOf before (e .onZero) ≡ con 0 =
+    ap (treeOf before) (eqb→eq (e .onZero) 0 (and-left (eqb (e .onZero) 0) (eqb (e .onOne) 1) w)) ∙ constant-tree before 0 (omega arith) in
+    let o : treeOf before (e .onOne) ≡ con 1 =
+    ap (treeOf before) (eqb→eq (e .onOne) 1 (and-right (eqb (e .onZero) 0) (eqb (e .onOne) 1) w)) ∙ constant-tree before 1 (omega arith) in
+    let i = e .input in
+    let r = n - i in
+    let is : k ≡ node r (line r) =
+    ap₂ (λ x y. treeNode n i (sel i x y)) z o ∙ node-means n i r (sel i (con 0) (con 1)) (line r) refl (line-lt r) (line-means n i) in
+    subst (λ (x : Node). T (wiredTable (x .after) (x .table))) (sym is) (line-wired r))
 
 entries-weight : (n : ℕ) (es : List Entry) → weight price (nodesOf n es) ≤ entriesCells es
 unfolding weight nodesOf entriesCells

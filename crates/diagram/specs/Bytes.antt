@@ -3,7 +3,7 @@ use Prim.Native.Nat.{ℕ, _+_, _*_}
 use mathlib.Core.List.{List, [], _∷_, _++_}
 use lib.ListN.{length}
 use Rattle.sheet.specs.Limits.{maxWires}
-use Rattle.stage.specs.Bytes.{sheetFrame, selectorBytes, mostCells}
+use Rattle.stage.specs.Bytes.{sheetFrame, selectorBytes, mostSelectors}
 use Rattle.diagram.specs.Diagram.{Entry, Diagram}
 
 abbrev pub entryBytes : Entry → List ℕ
@@ -24,4 +24,4 @@ diagramFrame = 4
 
 -- no stage that is written is longer: a table has fewer nodes than there are patterns
 abbrev pub longestShared : ℕ
-longestShared = sheetFrame + diagramFrame * maxWires + selectorBytes * mostCells
+longestShared = sheetFrame + diagramFrame * maxWires + selectorBytes * mostSelectors

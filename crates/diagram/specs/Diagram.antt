@@ -1,11 +1,12 @@
 -- Document 02, E2: what drives a wire on the board that shares selectors, a decision diagram told as a list of entries. Any such list will do that the reader
 -- accepts, also one with entries that repeat others or that nothing leads to.
 use Prim.Native.Nat.{ℕ, zero, suc, _+_, _-_, _<_, _≤_}
-use mathlib.Core.Bool.{cond}
+use mathlib.Core.Bool.{Bool, cond, _&&_}
 use mathlib.Core.List.{List, [], _∷_}
 use lib.Dec.{eqb}
 use lib.ListN.{length}
 use Rattle.table.specs.Bits.{bit}
+use Rattle.table.specs.Cells.{selectorCells}
 
 -- a selector: the input that it tests, and the numbers that it goes on to where the input is 0 and where it is 1
 pub record Entry : Type 0 where
@@ -70,11 +71,15 @@ pub record WellFormed (n : ℕ) (d : Diagram) : Type 0 where
   pub fit : EntriesFit n (d .entries)
   pub top-there : d .top ≤ length (d .entries) + 1
 
+-- an entry that is soldered through (E4): it goes on to the constants 0 and 1 themselves
+unfoldable pub wiredEntry : Entry → Bool
+wiredEntry e = eqb (e .onZero) 0 && eqb (e .onOne) 1
+
 -- what an entry counts for
 unfoldable pub entryPrice : Entry → ℕ
-entryPrice e = 1
+entryPrice e = selectorCells (wiredEntry e)
 
--- the cells of a diagram: every entry counts, whether or not it repeats another and whether or not anything leads to it
+-- the cells of a diagram: every entry that is not soldered through counts, whether or not it repeats another and whether or not anything leads to it
 unfoldable pub entriesCells : List Entry → ℕ
 entriesCells [] = zero
 entriesCells (e ∷ before) = entryPrice e + entriesCells before

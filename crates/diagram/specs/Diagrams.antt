@@ -1,4 +1,4 @@
--- The stages of the board that shares selectors (document 02, E2): decision diagrams, their entries counted as cells, in stage sheets of their own.
+-- The stages of the board that shares selectors (document 02, E2): decision diagrams, with the cells of E4, in stage sheets of their own.
 use mathlib.Core.List.{List}
 use Prim.Native.Nat.{ℕ}
 use Rattle.table.specs.Drawing.{Drawing, StageSheet}

@@ -1,7 +1,7 @@
 // Stage sheets of the board that shares selectors: a decision diagram for each wire as bytes. The meanings and laws are here; `stage_reader` and
 // `stage_writer` have the code.
 use sheet::Sheet;
-use stage::MOST_CELLS;
+use stage::MOST_SELECTORS;
 use stage::SELECTOR_BYTES;
 use stage::SHEET_FRAME;
 
@@ -17,7 +17,7 @@ pub const DIAGRAM_FRAME: usize = 4;
 // No sharing stage that is written has more bytes: a table has fewer nodes than there are patterns.
 pub const LONGEST_SHARED: usize = SHEET_FRAME
     + DIAGRAM_FRAME * Sheet::WIRES
-    + SELECTOR_BYTES * MOST_CELLS;
+    + SELECTOR_BYTES * MOST_SELECTORS;
 
 // No sharing stage sheet that is accepted has more bytes, whoever wrote it.
 pub const LONGEST_DIAGRAMS: usize = SHEET_FRAME

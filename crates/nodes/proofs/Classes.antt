@@ -2,22 +2,49 @@
 use Prim.Native.Nat.{ℕ, zero, suc, _+_, _*_, _<_, _≤_}
 use mathlib.Core.Path.{_≡_, refl, sym, ap, subst, _∙_}
 use mathlib.Core.Logic.{⊎-elim}
-use mathlib.Core.Bool.{Bool, true, cond, _&&_}
+use mathlib.Core.Bool.{Bool, true, false, cond, _&&_}
 use mathlib.Core.List.{List, [], _∷_}
 use mathlib.Core.Option.{Option, none, some}
 use native.Mathlib.Omega.{arith}
 use native.Mathlib.Nat.{mul-le-mul-right, mul-add, not-suc-le-zero}
 use lib.Dec.{T, T-not, eqb, ltb, ltb→lt, nltb→le, eqb→eq}
 use Rattle.base.proofs.Tests.{cond-has, cond-has₂, and-intro, and-left, and-right, below-suc, decide, eq-test, eqb-yes, eqb-not}
-use Rattle.table.specs.Bits.{sum}
+use Rattle.table.specs.Bits.{sum, all}
 use Rattle.table.specs.Pick.{least}
 use Rattle.table.specs.Inner.Blocks.{noTable}
 use Rattle.table.specs.Inner.Pairs.{blockSpace}
+use Rattle.table.proofs.Below.{all-at}
 use Rattle.table.proofs.Bits.{sum-cong, sum-le, sum-but-one}
 use Rattle.table.proofs.Least.{Least, least-is}
 use Rattle.nodes.specs.Inner.Tops.{topPrice}
-use Rattle.nodes.specs.Inner.Ways.{oneNode, placeOf, allPlaces, places}
+use Rattle.nodes.specs.Inner.Ways.{oneNode, placeOf, allPlaces, onesQuarter, noLine, four, places}
 use Rattle.nodes.proofs.Framed.{within, frame}
+
+-- a way in which quarters coincide: each is of the class of a quarter that is of its own
+unfoldable pub isShape : (ℕ → ℕ) → Bool
+isShape r = all 4 (λ j. ltb (r j) 4 && eqb (r (r j)) (r j))
+
+module _ (r : ℕ → ℕ) (shape : T (isShape r)) where
+  pub shape-inside : (j : ℕ) → j < 4 → r j < 4
+  unfolding isShape
+  shape-inside j l =
+      ltb→lt (r j) 4 (and-left (ltb (r j) 4) (eqb (r (r j)) (r j)) (all-at 4 (λ j. ltb (r j) 4 && eqb (r (r j)) (r j)) shape j l))
+
+  pub shape-again : (j : ℕ) → j < 4 → r (r j) ≡ r j
+  unfolding isShape
+  shape-again j l =
+      eqb→eq (r (r j)) (r j) (and-right (ltb (r j) 4) (eqb (r (r j)) (r j)) (all-at 4 (λ j. ltb (r j) 4 && eqb (r (r j)) (r j)) shape j l))
+
+-- the halves share no quarter, and the quarters of the lower and of the upper coincide or not
+abbrev pub treeWay : (lower upper : Bool) → ℕ → ℕ
+treeWay a b = four 0 (cond a 0 1) 2 (cond b 2 3)
+
+pub tree-shape : (a b : Bool) → T (isShape (treeWay a b))
+unfolding isShape all
+tree-shape true true = tt
+tree-shape true false = tt
+tree-shape false true = tt
+tree-shape false false = tt
 
 -- the members of the class i among the first k quarters, where quarter j is of the class r j
 unfoldable pub members : (r : ℕ → ℕ) (i k : ℕ) → List ℕ
@@ -51,19 +78,27 @@ module _ (fit : ℕ → ℕ → Bool) where
         (λ e. and-intro (stands (members r i k) x) (fit k x) s (h k (omega arith) (eqb→eq (r k) i e))) (λ _. s)
 
   -- the best quarter of a class, of those that may occur
-  abbrev pub ok : (inverted plain : Bool) → List ℕ → ℕ → Bool
-  ok i p js x = stands js x && within i p x
+  abbrev pub ok : (inverted : Bool) → List ℕ → ℕ → Bool
+  ok i js x = stands js x && within i x
 
-  abbrev pub best : (inverted plain : Bool) → List ℕ → Option ℕ
-  best i p js = least topPrice (ok i p js) blockSpace
+  abbrev pub best : (inverted : Bool) → List ℕ → Option ℕ
+  best i js = least topPrice (ok i js) blockSpace
+
+  -- constant 0 in the quarters of one class, constant 1 in those of another: the line of an input
+  abbrev pub lineFits : (zeros ones : List ℕ) → Bool
+  lineFits js ks = stands js 0 && stands ks onesQuarter
 
 -- a quarter at the places of its class, with its own selector counted; more than any table has where there is none
 unfoldable pub shown : Option ℕ → ℕ → ℕ
 shown none m = noTable * oneNode
 shown (some x) m = topPrice x * oneNode + x * m
 
-abbrev pub classValue : (ℕ → ℕ → Bool) → (inverted plain : Bool) → List ℕ → ℕ
-classValue fit i p js = shown (best fit i p js) (places js)
+abbrev pub classValue : (ℕ → ℕ → Bool) → (inverted : Bool) → List ℕ → ℕ
+classValue fit i js = shown (best fit i js) (places js)
+
+-- what a line gives: more than any table has where it may not stand
+abbrev pub lineValue : (ℕ → ℕ → Bool) → (zeros ones : List ℕ) → ℕ
+lineValue fit js ks = cond (lineFits fit js ks) (places ks * onesQuarter) noLine
 
 -- no other quarter is better at the same places
 pub shown-le : (fit : ℕ → Bool) (y m : ℕ) → y < blockSpace → T (fit y) → m ≤ allPlaces → shown (least topPrice fit blockSpace) m ≤ topPrice y * oneNode + y * m

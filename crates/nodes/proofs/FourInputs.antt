@@ -1,32 +1,35 @@
--- The pick among tables of four inputs: the least over the choices of literals of the last input and over the ways in which quarters coincide.
-use Prim.Native.Nat.{ℕ, zero, suc, _+_, _*_, _^_, _<_, _≤_, min}
+-- The pick among tables of four inputs: the least with the inverse of the last input and without it, over the ways in which quarters coincide and the lines.
+use Prim.Native.Nat.{ℕ, _+_, _*_, _^_, _<_, _≤_, min}
 use mathlib.Core.Path.{_≡_, refl, sym, subst, _∙_}
-use mathlib.Core.Logic.{⊎-elim}
-use mathlib.Core.Bool.{Bool, true, false, _&&_}
+use mathlib.Core.Logic.{_⊎_, inl, inr, ⊎-elim}
+use mathlib.Core.Bool.{Bool, true, false, not}
 use mathlib.Core.Option.{some}
 use native.Mathlib.Omega.{arith}
-use native.Mathlib.Nat.{le-antisymm, not-suc-le-zero}
-use lib.Dec.{T, eqb, ltb, ltb→lt, eqb→eq}
+use native.Mathlib.Nat.{le-antisymm}
+use lib.Dec.{T}
 use Rattle.base.specs.Lowest.{lowest}
-use Rattle.base.proofs.Tests.{and-left, and-right, below-suc}
+use Rattle.base.proofs.Tests.{decide}
 use Rattle.table.specs.Bits.{sum, isOne}
+use Rattle.table.specs.Cells.{low, high, wiredTable}
 use Rattle.table.specs.Pick.{Proj, suits}
 use Rattle.table.specs.Inner.Blocks.{Covered}
 use Rattle.table.specs.Inner.Pairs.{zerosIn, onesIn}
 use Rattle.table.specs.Inner.Ranks.{masked, pickOf, rank}
-use Rattle.table.proofs.Below.{all-at}
+use Rattle.table.proofs.Halves.{same-halves}
 use Rattle.table.proofs.Least.{Least}
 use Rattle.table.proofs.Masks.{pickOf-least}
 use Rattle.nodes.specs.Nodes.{nodes}
-use Rattle.nodes.specs.Inner.Ways.{oneNode, four, choiceCount, wayOf, chosen, leastChosen}
+use Rattle.nodes.specs.Inner.Ways.{oneNode, four, noInverted, wayOf}
 use Rattle.nodes.proofs.Quarters.{below4, quartersOf}
 use Rattle.nodes.proofs.Framed.{apart, halfApart, within}
 use Rattle.nodes.proofs.OwnFrame.{ends}
-use Rattle.nodes.proofs.Classes.{members, classValue}
-use Rattle.nodes.proofs.Sound.{fitIn, within-both, nodes-few, sound}
-use Rattle.nodes.proofs.Complete.{first, first-le, first-again, own, met}
-use Rattle.nodes.proofs.Fifteen.{isShape, way-least, way-most}
-use Rattle.nodes.proofs.Linked.{wayIn, both-linked, plain-linked, inverted-linked, none-linked}
+use Rattle.nodes.proofs.Classes.{members, classValue, lineValue}
+use Rattle.nodes.proofs.Sound.{fitIn, within-all, way-sound}
+use Rattle.nodes.proofs.LinesSound.{first-line-above, second-line-above, both-lines-above, lower-line-above, upper-line-above}
+use Rattle.nodes.proofs.Complete.{first, first-le, first-again, own, own-met}
+use Rattle.nodes.proofs.LinesComplete.{first-line-met, second-line-met, half-line-met}
+use Rattle.nodes.proofs.Fifteen.{first-line-most, second-line-most, tree-most, way-least, way-most}
+use Rattle.nodes.proofs.Linked.{wayIn, all-linked, inverted-linked}
 
 module _ (w : ℕ) (covered : Covered 4 (zerosIn w) (onesIn w)) where
   abbrev P : Proj
@@ -38,70 +41,54 @@ module _ (w : ℕ) (covered : Covered 4 (zerosIn w) (onesIn w)) where
   least-pick : Least (nodes 4) (suits 4 P) (2 ^ (2 ^ 4)) (some t)
   least-pick = pickOf-least (nodes 4) 4 (zerosIn w) (onesIn w) covered
 
-  abbrev cost : (inverted plain : Bool) → ℕ
-  cost i p = (isOne i + isOne p) * oneNode
+  no-less : (i : Bool) → rank (nodes 4) t ≤ isOne i * oneNode + wayIn w i
+  no-less i =
+      way-least (classValue (fitIn P) i) (lineValue (fitIn P)) (isOne i * oneNode) (rank (nodes 4) t) (λ r s. way-sound P t least-pick r s i)
+      (first-line-above P t least-pick) (second-line-above P t least-pick) (both-lines-above P t least-pick) (lower-line-above P t least-pick i) (upper-line-above P t least-pick i)
 
-  no-less : (i p : Bool) → rank (nodes 4) t ≤ cost i p + wayIn w i p
-  unfolding isShape
-  no-less i p =
-      way-least (classValue (fitIn P) i p) (cost i p) (rank (nodes 4) t)
-      (λ r s.
-      let at : (j : ℕ) → j < 4 → T (ltb (r j) 4 && eqb (r (r j)) (r j)) = all-at 4 (λ j. ltb (r j) 4 && eqb (r (r j)) (r j)) s in
-      sound P t least-pick r (λ j l. ltb→lt (r j) 4 (and-left (ltb (r j) 4) (eqb (r (r j)) (r j)) (at j l)))
-      (λ j l. eqb→eq (r (r j)) (r j) (and-right (ltb (r j) 4) (eqb (r (r j)) (r j)) (at j l))) i p)
+  -- the inverse may occur where the pick has it
+  module _ (i : Bool) (allowed : (j : ℕ) → j < 4 → T (within i (quartersOf t j))) where
+    -- the pick's own coincidences are one of the fifteen ways
+    own-reached : T (not (wiredTable 3 t)) → T (not (wiredTable 2 (low 3 t))) → T (not (wiredTable 2 (high 3 t)))
+        → isOne (ends t 1) * oneNode + wayIn w i ≤ rank (nodes 4) t
+    unfolding first lowest apart halfApart sum members
+    own-reached x y z =
+        let q = quartersOf t in
+        let r = first q in
+        let is : (j : ℕ) → j < 4 → four 0 (r 1) (r 2) (r 3) j ≡ r j = below4 (λ j. four 0 (r 1) (r 2) (r 3) j ≡ r j) refl refl refl refl in
+        let again : (j : ℕ) → j < 4 → four 0 (r 1) (r 2) (r 3) (r j) ≡ r j = λ j l. is (r j) (omega (arith, first-le q j)) ∙ first-again q j in
+        let b = way-most (classValue (fitIn P) i) (lineValue (fitIn P)) (r 1) (r 2) (r 3) (first-le q 1) (first-le q 2) (first-le q 3) (again 1 (omega arith))
+        (again 2 (omega arith)) (again 3 (omega arith)) in
+        let m = own-met P t (least-pick .0) (least-pick .1) i allowed x y z in
+        omega (arith, b, m)
 
-  -- the pick's own coincidences are one of the fifteen ways
-  reached : (i p : Bool) → ((j : ℕ) → j < 4 → T (within i p (quartersOf t j))) → cost (ends t 1) (ends t 2) + wayIn w i p ≤ rank (nodes 4) t
-  unfolding first lowest apart halfApart sum members
-  reached i p h =
-      let q = quartersOf t in
-      let r = first q in
-      let F = classValue (fitIn P) i p in
-      let is : (j : ℕ) → j < 4 → four 0 (r 1) (r 2) (r 3) j ≡ r j = below4 (λ j. four 0 (r 1) (r 2) (r 3) j ≡ r j) refl refl refl refl in
-      let again : (j : ℕ) → j < 4 → four 0 (r 1) (r 2) (r 3) (r j) ≡ r j = λ j l. is (r j) (omega (arith, first-le q j)) ∙ first-again q j in
-      let b = way-most F (r 1) (r 2) (r 3) (first-le q 1) (first-le q 2) (first-le q 3) (again 1 (omega arith)) (again 2 (omega arith)) (again 3 (omega arith)) in
-      let m = met P t (least-pick .0) (least-pick .1) i p h in
-      omega (arith, b, m)
+    -- a half of the pick is a line, and so is the other, or they share no quarter
+    half-reached : T (not (wiredTable 3 t)) → T (wiredTable 2 (low 3 t)) ⊎ T (wiredTable 2 (high 3 t))
+        → isOne (ends t 1) * oneNode + wayIn w i ≤ rank (nodes 4) t
+    half-reached x s =
+        ⊎-elim
+        (λ e.
+        let h : T (wiredTable 2 (low 3 t)) = ⊎-elim (λ y. y) (λ y. subst (λ u. T (wiredTable 2 u)) (sym e) y) s in
+        omega (arith, second-line-most (classValue (fitIn P) i) (lineValue (fitIn P)), second-line-met P t (least-pick .0) (least-pick .1) h e))
+        (λ d. omega (arith, tree-most (classValue (fitIn P) i) (lineValue (fitIn P)), half-line-met P t (least-pick .0) (least-pick .1) i allowed d x s))
+        (same-halves 3 t)
 
-  -- no choice gives less than the pick's rank
-  none-less : (u : ℕ) → u < choiceCount → rank (nodes 4) t ≤ chosen w u
+    reached : isOne (ends t 1) * oneNode + wayIn w i ≤ rank (nodes 4) t
+    reached =
+        ⊎-elim (λ x. omega (arith, first-line-most (classValue (fitIn P) i) (lineValue (fitIn P)), first-line-met P t (least-pick .0) (least-pick .1) x))
+        (λ x.
+        ⊎-elim (λ y. half-reached x (inl y))
+        (λ y. ⊎-elim (λ z. half-reached x (inr z)) (λ z. own-reached x y z) (decide (wiredTable 2 (high 3 t))))
+        (decide (wiredTable 2 (low 3 t))))
+        (decide (wiredTable 3 t))
+
+  pub picked : min (wayOf (noInverted w)) (oneNode + wayOf w) ≡ rank (nodes 4) t
   unfolding isOne
-  none-less =
-      below4 (λ u. rank (nodes 4) t ≤ chosen w u) (omega (arith, no-less true true, both-linked w)) (omega (arith, no-less false false, none-linked w))
-      (omega (arith, no-less true false, plain-linked w)) (omega (arith, no-less false true, inverted-linked w))
-
-  least-more : (u : ℕ) → u ≤ choiceCount → rank (nodes 4) t ≤ leastChosen w u
-  unfolding rank
-  least-more zero l = omega (arith, nodes-few t (least-pick .0), least-pick .0)
-  least-more (suc u) l = omega (arith, least-more u (omega arith), none-less u (omega arith))
-
-  least-le : (u k : ℕ) → k < u → leastChosen w u ≤ chosen w k
-  least-le zero k l = absurd (not-suc-le-zero l)
-  least-le (suc u) k l =
-      ⊎-elim (λ (e : k ≡ u). subst (λ v. min (leastChosen w u) (chosen w u) ≤ chosen w v) (sym e) (omega arith)) (λ b. omega (arith, least-le u k b))
-      (below-suc l)
-
-  -- the least over all choices is the pick's rank, and so is what is no greater than one selector allows when neither has been tried
-  pub picked : (b : ℕ) → b ≡ leastChosen w choiceCount → b ≡ rank (nodes 4) t
-  unfolding isOne
-  picked b e =
-      le-antisymm
-      (omega (arith, e, own-chosen (ends t 1) (ends t 2) (least-le choiceCount), reached (ends t 1) (ends t 2) (own P t (least-pick .0) (least-pick .1))))
-      (omega (arith, e, least-more choiceCount (omega arith)))
+  picked =
+      le-antisymm (go (ends t 1) (reached true (λ j l. within-all (quartersOf t j))) (reached (ends t 1) (own t)))
+      (omega (arith, no-less true, no-less false, all-linked w, inverted-linked w))
     where
-      own-chosen : (i p : Bool) → ((k : ℕ) → k < choiceCount → leastChosen w choiceCount ≤ chosen w k) → leastChosen w choiceCount ≤ cost i p + wayIn w i p
-      own-chosen true true h = omega (arith, h 0 (omega arith), both-linked w)
-      own-chosen false false h = omega (arith, h 1 (omega arith), none-linked w)
-      own-chosen true false h = omega (arith, h 2 (omega arith), plain-linked w)
-      own-chosen false true h = omega (arith, h 3 (omega arith), inverted-linked w)
-
-  pub picked-early : (b u : ℕ) → 1 < u → u ≤ choiceCount → b ≡ leastChosen w u → b ≤ wayOf w + oneNode → b ≡ rank (nodes 4) t
-  unfolding isOne
-  picked-early b u l m e f =
-      le-antisymm (go (ends t 1) (ends t 2) (reached true true (λ j l. within-both (quartersOf t j))) (reached _ _ (own P t (least-pick .0) (least-pick .1))))
-      (omega (arith, e, least-more u m))
-    where
-      go : (i p : Bool) → cost i p + wayIn w true true ≤ rank (nodes 4) t → cost i p + wayIn w i p ≤ rank (nodes 4) t → b ≤ rank (nodes 4) t
-      go false false x y = omega (arith, e, least-le u 1 l, none-linked w, y)
-      go true p x y = omega (arith, f, both-linked w, x)
-      go false true x y = omega (arith, f, both-linked w, x)
+      go : (i : Bool) → isOne i * oneNode + wayIn w true ≤ rank (nodes 4) t → isOne i * oneNode + wayIn w i ≤ rank (nodes 4) t
+          → min (wayOf (noInverted w)) (oneNode + wayOf w) ≤ rank (nodes 4) t
+      go true x y = omega (arith, x, all-linked w)
+      go false x y = omega (arith, y, inverted-linked w)

@@ -1,11 +1,14 @@
 -- The nodes of a table by its halves.
-use Prim.Native.Nat.{ℕ, zero, suc, _+_, _^_, _<_, _≤_}
+use Prim.Native.Nat.{ℕ, zero, suc, _+_, _^_, _≤_}
 use mathlib.Core.Path.{_≡_, refl, sym, ap, _∙_}
+use mathlib.Core.Logic.{⊎-elim}
 use mathlib.Core.List.{List, [], _∷_}
 use native.Mathlib.Omega.{arith}
 use native.Mathlib.Nat.{le-refl, zero-mod, zero-div}
-use Rattle.base.proofs.Tests.{eqb-yes, eqb-not}
-use Rattle.table.specs.Cells.{low, high}
+use Rattle.base.proofs.Tests.{decide, eqb-yes, eqb-not}
+use Rattle.table.specs.Cells.{low, high, wiredTable, selectorCells}
+use Rattle.table.proofs.Halves.{same-halves}
+use Rattle.table.proofs.Wired.{wired-halves, not-wired-one}
 use Rattle.table.proofs.Cells.{ByHalves}
 use Rattle.nodes.specs.Nodes.{Node, node, has, listing, price, weight, nodes}
 use Rattle.nodes.proofs.Listing.{visits}
@@ -22,16 +25,27 @@ nodes-same : (r t : ℕ) → low r t ≡ high r t → nodes (suc r) t ≡ nodes 
 unfolding nodes listing has
 nodes-same r t e = ap (weight price) (eqb-yes (low r t) (high r t) (listing r (low r t) []) _ e)
 
-nodes-differ : (r t : ℕ) → (low r t ≡ high r t → ⊥) → nodes r (low r t) < nodes (suc r) t
+nodes-differ : (r t : ℕ) → (low r t ≡ high r t → ⊥)
+    → (nodes (suc r) t ≡ selectorCells (wiredTable r t) + weight price (listing r (high r t) (listing r (low r t) [])))
+    × (nodes r (low r t) ≤ weight price (listing r (high r t) (listing r (low r t) [])))
 unfolding nodes listing has weight price
 nodes-differ r t d =
     let s = listing r (low r t) [] in
-    let e : nodes (suc r) t ≡ 1 + weight price (listing r (high r t) s) =
-    ap (weight price) (eqb-not (low r t) (high r t) s (node r t ∷ listing r (high r t) s) d) in
-    omega (arith, e, listing-more r (high r t) s)
+    (ap (weight price) (eqb-not (low r t) (high r t) s (node r t ∷ listing r (high r t) s) d), listing-more r (high r t) s)
 
 pub nodes-halves : ByHalves nodes
-nodes-halves = record { alike = nodes-same; apart = nodes-differ }
+nodes-halves =
+    record {
+      alike = nodes-same;
+      fewer = λ r t. ⊎-elim (λ e. omega (arith, nodes-same r t e)) (λ d. let n = nodes-differ r t d in omega (arith, n .0, n .1)) (same-halves r t);
+      smaller = λ r t g.
+          ⊎-elim (λ e. omega arith)
+          (λ d.
+          ⊎-elim (λ w. omega (arith, wired-halves r t w .0))
+          (λ w. let n = nodes-differ r t d in absurd (omega (arith, g, n .0, n .1, not-wired-one (wiredTable r t) w)))
+          (decide (wiredTable r t)))
+          (same-halves r t);
+    }
 
 -- a table of zeros has none
 pub nodes-zero : (n : ℕ) → nodes n 0 ≡ 0

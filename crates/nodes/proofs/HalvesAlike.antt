@@ -1,27 +1,28 @@
--- Where both halves of a pair have the same masks, equal halves are the best of the fifteen ways.
+-- Where both halves of a pair have the same masks, equal halves are the best of the fifteen ways and the lines.
 use Prim.Native.Nat.{ℕ, zero, suc, _+_, _*_, _/_, _%_, _<_, _≤_, min}
 use mathlib.Core.Path.{_≡_, refl, sym, ap, ap₂, subst, _∙_, fun-ext}
-use mathlib.Core.Bool.{Bool, true, false, _&&_}
+use mathlib.Core.Bool.{Bool, true, false, cond, _&&_}
 use mathlib.Core.List.{List, [], _∷_}
 use mathlib.Core.Option.{Option, none, some}
 use native.Mathlib.Omega.{arith}
 use native.Mathlib.Nat.{mul-add, mul-le-mul-right, mod-eq-of-lt}
 use lib.Arith.{mod-mul}
 use lib.Dec.{T, ltb, ltb→lt}
-use Rattle.base.proofs.Tests.{and-left, and-right}
+use Rattle.base.proofs.Tests.{cond-has, cond-has₂, and-intro, and-left, and-right}
+use Rattle.table.specs.Cells.{low, high}
 use Rattle.table.specs.Pick.{least}
 use Rattle.table.specs.Inner.Pairs.{blockSpace, zerosIn, onesIn}
 use Rattle.table.specs.Inner.Ranks.{masked, tableSpace}
 use Rattle.table.specs.Inner.Blocks.{entries}
 use Rattle.table.proofs.Least.{Least, least-is}
 use Rattle.nodes.specs.Inner.Tops.{topPrice}
-use Rattle.nodes.specs.Inner.Ways.{oneNode, allPlaces, places, quarterBytes, classIn, halvesAlike, treeLike, threeAlike, acrossAlike, leastWay}
+use Rattle.nodes.specs.Inner.Ways.{oneNode, allPlaces, onesQuarter, noLine, places, quarterBytes, classIn, lineIn, halvesAlike, firstLine, treeLike, threeAlike, acrossAlike, leastWay, wayOf}
 use Rattle.nodes.proofs.Quarters.{below4}
 use Rattle.nodes.proofs.Framed.{within}
-use Rattle.nodes.proofs.Classes.{stands, best, ok, shown, classValue}
+use Rattle.nodes.proofs.Classes.{stands, best, ok, lineFits, shown, shown-le, classValue, lineValue}
 use Rattle.nodes.proofs.Restricted.{inFour}
-use Rattle.nodes.proofs.Sound.{fitIn}
-use Rattle.nodes.proofs.Linked.{bytes-alike, both-linked, halves-linked}
+use Rattle.nodes.proofs.Sound.{fitIn, within-all}
+use Rattle.nodes.proofs.Linked.{bytes-alike, all-linked, all-halves}
 
 -- a quarter at more places: no more than at some and at the others, and than at some with a selector
 module _ (o : Option ℕ) (i j : ℕ) where
@@ -61,7 +62,7 @@ module _ (fit : ℕ → ℕ → Bool) (third : (x : ℕ) → fit 2 x ≡ fit 0 x
       (below4 (λ j. fit j x ≡ either (fit 0 x) (fit 1 x) j) refl refl (third x) (fourth x) j (ltb→lt j 4 (and-left (ltb j 4) (inFour js) f)))
 
   abbrev at : List ℕ → ℕ → ℕ
-  at js m = shown (best fit true true js) m
+  at js m = shown (best fit true js) m
 
   -- two lists of quarters that ask for the same
   abbrev Same : (js ks : List ℕ) → Type 0
@@ -74,10 +75,12 @@ module _ (fit : ℕ → ℕ → Bool) (third : (x : ℕ) → fit 2 x ≡ fit 0 x
   told-same js ks s false true = s .2
   told-same js ks s false false = s .3
 
+  stands-same : (js ks : List ℕ) → T (inFour js) → T (inFour ks) → Same js ks → (x : ℕ) → stands fit js x ≡ stands fit ks x
+  stands-same js ks f g s x = stands-told x js f ∙ told-same js ks s (fit 0 x) (fit 1 x) ∙ sym (stands-told x ks g)
+
   at-same : (js ks : List ℕ) → T (inFour js) → T (inFour ks) → Same js ks → (m : ℕ) → at js m ≡ at ks m
   at-same js ks f g s m =
-      ap (λ c. shown (least topPrice c blockSpace) m)
-      (fun-ext (λ x. ap (λ b. b && within true true x) (stands-told x js f ∙ told-same js ks s (fit 0 x) (fit 1 x) ∙ sym (stands-told x ks g))))
+      ap (λ c. shown (least topPrice c blockSpace) m) (fun-ext (λ x. ap (λ b. b && within true x) (stands-same js ks f g s x)))
 
   abbrev A : ℕ → ℕ
   A = at (0 ∷ [])
@@ -89,7 +92,7 @@ module _ (fit : ℕ → ℕ → Bool) (third : (x : ℕ) → fit 2 x ≡ fit 0 x
   AB = at (1 ∷ 0 ∷ [])
 
   abbrev G : List ℕ → ℕ
-  G = classValue fit true true
+  G = classValue fit true
 
   as-a : (js : List ℕ) → T (inFour js) → Same js (0 ∷ []) → G js ≡ A (places js)
   unfolding inFour
@@ -105,7 +108,7 @@ module _ (fit : ℕ → ℕ → Bool) (third : (x : ℕ) → fit 2 x ≡ fit 0 x
 
   -- one class of all four, from a class of some with a selector
   one-class : (m k : ℕ) → m + k ≡ allPlaces → AB allPlaces ≤ AB m + oneNode
-  one-class m k e = subst (λ y. AB y ≤ AB m + oneNode) e (shown-more (ok fit true true (1 ∷ 0 ∷ [])) m k (omega arith))
+  one-class m k e = subst (λ y. AB y ≤ AB m + oneNode) e (shown-more (ok fit true (1 ∷ 0 ∷ [])) m k (omega arith))
 
   all4 : G (3 ∷ 2 ∷ 1 ∷ 0 ∷ []) ≡ AB allPlaces
   unfolding inFour stands
@@ -119,53 +122,95 @@ module _ (fit : ℕ → ℕ → Bool) (third : (x : ℕ) → fit 2 x ≡ fit 0 x
   join-a : G (2 ∷ 0 ∷ []) ≤ G (0 ∷ []) + G (2 ∷ [])
   unfolding inFour stands
   join-a =
-      omega (arith, as-a (2 ∷ 0 ∷ []) tt (refl, refl, refl, refl), as-a (2 ∷ []) tt (refl, refl, refl, refl), shown-join (best fit true true (0 ∷ [])) 0x1 0x100)
+      omega (arith, as-a (2 ∷ 0 ∷ []) tt (refl, refl, refl, refl), as-a (2 ∷ []) tt (refl, refl, refl, refl), shown-join (best fit true (0 ∷ [])) 0x1 0x100)
 
   join-b : G (3 ∷ 1 ∷ []) ≤ G (1 ∷ []) + G (3 ∷ [])
   unfolding inFour stands
   join-b =
-      omega (arith, as-b (3 ∷ 1 ∷ []) tt (refl, refl, refl, refl), as-b (3 ∷ []) tt (refl, refl, refl, refl), shown-join (best fit true true (1 ∷ [])) 0x10 0x1000)
+      omega (arith, as-b (3 ∷ 1 ∷ []) tt (refl, refl, refl, refl), as-b (3 ∷ []) tt (refl, refl, refl, refl), shown-join (best fit true (1 ∷ [])) 0x10 0x1000)
 
-  not-tree : halvesAlike G ≤ treeLike G
+  -- lines: with constant 0 in the first quarter or the third, or both, and constant 1 beside it
+  abbrev M : (zeros ones : List ℕ) → ℕ
+  M = lineValue fit
+
+  abbrev lined : ℕ → ℕ
+  lined v = cond (lineFits fit (0 ∷ []) (1 ∷ [])) v noLine
+
+  as-line : (js ks : List ℕ) → T (inFour js) → T (inFour ks) → Same js (0 ∷ []) → Same ks (1 ∷ []) → M js ks ≡ lined (places ks * onesQuarter)
+  unfolding inFour
+  as-line js ks f g s u =
+      ap₂ (λ a b. cond (a && b) (places ks * onesQuarter) noLine) (stands-same js (0 ∷ []) f tt s 0) (stands-same ks (1 ∷ []) g tt u onesQuarter)
+
+  second-line : M (2 ∷ 0 ∷ []) (3 ∷ 1 ∷ []) ≡ lined 0xF0F0
+  unfolding inFour stands
+  second-line = as-line (2 ∷ 0 ∷ []) (3 ∷ 1 ∷ []) tt tt (refl, refl, refl, refl) (refl, refl, refl, refl)
+
+  upper-line : M (2 ∷ []) (3 ∷ []) ≡ lined 0xF000
+  unfolding inFour stands
+  upper-line = as-line (2 ∷ []) (3 ∷ []) tt tt (refl, refl, refl, refl) (refl, refl, refl, refl)
+
+  -- at all places a line gives no more than at some with a selector, and no more than one that does not suit
+  lined-le : (v : ℕ) → (lined 0xF0F0 ≤ oneNode + lined v) × (lined 0xF0F0 ≤ noLine)
+  lined-le v =
+      cond-has₂ (λ x y. (x ≤ oneNode + y) × (x ≤ noLine)) (lineFits fit (0 ∷ []) (1 ∷ [])) {x = 0xF0F0} {y = noLine} {u = v} {v = noLine}
+      (λ _. (omega arith, omega arith)) (λ _. (omega arith, omega arith))
+
+  not-tree : halvesAlike G M ≤ treeLike G M
   unfolding inFour stands
   not-tree =
       small (G (3 ∷ 2 ∷ 1 ∷ 0 ∷ [])) (G (2 ∷ 0 ∷ [])) (G (3 ∷ 1 ∷ [])) (G (1 ∷ 0 ∷ [])) (G (3 ∷ 2 ∷ [])) (G (0 ∷ [])) (G (1 ∷ [])) (G (2 ∷ [])) (G (3 ∷ []))
-      (omega (arith, all4, as-ab (3 ∷ 2 ∷ []) tt (refl, refl, refl, refl), shown-join (best fit true true (1 ∷ 0 ∷ [])) 0x11 0x1100))
+      (M (2 ∷ 0 ∷ []) (3 ∷ 1 ∷ [])) (M (0 ∷ []) (1 ∷ [])) (M (2 ∷ []) (3 ∷ []))
+      (omega (arith, all4, as-ab (3 ∷ 2 ∷ []) tt (refl, refl, refl, refl), shown-join (best fit true (1 ∷ 0 ∷ [])) 0x11 0x1100))
       (one-from (1 ∷ 0 ∷ []) 0x1100 tt (refl, refl, refl, refl) refl) (one-from (3 ∷ 2 ∷ []) 0x11 tt (refl, refl, refl, refl) refl)
-      join-a join-b
+      join-a join-b (omega (arith, second-line, lined-le 0xF0 .0)) (omega (arith, second-line, upper-line, lined-le 0xF000 .0))
     where
-      small : (abcd ac bd ab cd a b c d : ℕ) → abcd ≤ ab + cd → abcd ≤ ab + oneNode → abcd ≤ cd + oneNode → ac ≤ a + c → bd ≤ b + d
-          → min abcd (oneNode + (ac + bd)) ≤ oneNode + min ab (oneNode + (a + b)) + min cd (oneNode + (c + d))
-      small abcd ac bd ab cd a b c d h i j k l = omega arith
+      small : (abcd ac bd ab cd a b c d l l0 l1 : ℕ) → abcd ≤ ab + cd → abcd ≤ ab + oneNode → abcd ≤ cd + oneNode → ac ≤ a + c → bd ≤ b + d
+          → l ≤ oneNode + l0 → l ≤ oneNode + l1
+          → min (min abcd l) (oneNode + (ac + bd)) ≤ oneNode + min (min ab l0) (oneNode + (a + b)) + min (min cd l1) (oneNode + (c + d))
+      small abcd ac bd ab cd a b c d l l0 l1 h i j k m n o = omega arith
 
-  not-three : halvesAlike G ≤ threeAlike G
+  -- the line of the first input has constant 0 in the first two quarters, so that it may stand in all
+  not-first : halvesAlike G M ≤ firstLine G M
+  unfolding inFour stands topPrice low high
+  not-first =
+      let js : List ℕ = 3 ∷ 2 ∷ 1 ∷ 0 ∷ [] in
+      cond-has (λ x. halvesAlike G M ≤ x) (lineFits fit (1 ∷ 0 ∷ []) (3 ∷ 2 ∷ [])) {x = 0xFF00} {y = noLine}
+      (λ y.
+      let z = and-left (stands fit (1 ∷ 0 ∷ []) 0) (stands fit (3 ∷ 2 ∷ []) onesQuarter) y in
+      let u = subst T (sym (stands-same js (1 ∷ 0 ∷ []) tt tt (refl, refl, refl, refl) 0)) z in
+      omega (arith, shown-le (ok fit true js) 0 allPlaces (omega arith) (and-intro (stands fit js 0) (within true 0) u (within-all 0)) (omega arith)))
+      (λ _. omega (arith, second-line, lined-le 0 .1))
+
+  not-three : halvesAlike G M ≤ threeAlike G
   unfolding inFour stands
   not-three =
-      small (G (3 ∷ 2 ∷ 1 ∷ 0 ∷ [])) (G (2 ∷ 0 ∷ []) + G (3 ∷ 1 ∷ [])) (G (2 ∷ 1 ∷ 0 ∷ [])) (G (3 ∷ 1 ∷ 0 ∷ [])) (G (3 ∷ 2 ∷ 0 ∷ [])) (G (3 ∷ 2 ∷ 1 ∷ []))
+      small (G (3 ∷ 2 ∷ 1 ∷ 0 ∷ [])) (M (2 ∷ 0 ∷ []) (3 ∷ 1 ∷ [])) (G (2 ∷ 0 ∷ []) + G (3 ∷ 1 ∷ [])) (G (2 ∷ 1 ∷ 0 ∷ [])) (G (3 ∷ 1 ∷ 0 ∷ []))
+      (G (3 ∷ 2 ∷ 0 ∷ [])) (G (3 ∷ 2 ∷ 1 ∷ []))
       (G (3 ∷ [])) (G (2 ∷ [])) (G (1 ∷ [])) (G (0 ∷ [])) (one-from (2 ∷ 1 ∷ 0 ∷ []) 0x1000 tt (refl, refl, refl, refl) refl)
       (one-from (3 ∷ 1 ∷ 0 ∷ []) 0x100 tt (refl, refl, refl, refl) refl) (one-from (3 ∷ 2 ∷ 0 ∷ []) 0x10 tt (refl, refl, refl, refl) refl)
       (one-from (3 ∷ 2 ∷ 1 ∷ []) 0x1 tt (refl, refl, refl, refl) refl)
     where
-      small : (h i w x y z d c b a : ℕ) → h ≤ w + oneNode → h ≤ x + oneNode → h ≤ y + oneNode → h ≤ z + oneNode
-          → min h (oneNode + i) ≤ 2 * oneNode + min (min (w + d) (x + c)) (min (y + b) (z + a))
-      small h i w x y z d c b a p q r s = omega arith
+      small : (h l i w x y z d c b a : ℕ) → h ≤ w + oneNode → h ≤ x + oneNode → h ≤ y + oneNode → h ≤ z + oneNode
+          → min (min h l) (oneNode + i) ≤ 2 * oneNode + min (min (w + d) (x + c)) (min (y + b) (z + a))
+      small h l i w x y z d c b a p q r s = omega arith
 
-  not-across : halvesAlike G ≤ acrossAlike G
+  not-across : halvesAlike G M ≤ acrossAlike G
   unfolding inFour stands
   not-across =
-      small (G (3 ∷ 2 ∷ 1 ∷ 0 ∷ [])) (G (2 ∷ 0 ∷ [])) (G (3 ∷ 1 ∷ [])) (G (3 ∷ 0 ∷ [])) (G (2 ∷ 1 ∷ [])) (G (0 ∷ [])) (G (1 ∷ [])) (G (2 ∷ [])) (G (3 ∷ []))
+      small (G (3 ∷ 2 ∷ 1 ∷ 0 ∷ [])) (M (2 ∷ 0 ∷ []) (3 ∷ 1 ∷ [])) (G (2 ∷ 0 ∷ [])) (G (3 ∷ 1 ∷ [])) (G (3 ∷ 0 ∷ [])) (G (2 ∷ 1 ∷ [])) (G (0 ∷ []))
+      (G (1 ∷ [])) (G (2 ∷ [])) (G (3 ∷ []))
       (one-from (3 ∷ 0 ∷ []) 0x110 tt (refl, refl, refl, refl) refl) (one-from (2 ∷ 1 ∷ []) 0x1001 tt (refl, refl, refl, refl) refl) join-a join-b
     where
-      small : (h ac bd ad bc a b c d : ℕ) → h ≤ ad + oneNode → h ≤ bc + oneNode → ac ≤ a + c → bd ≤ b + d
-          → min h (oneNode + (ac + bd)) ≤ 3 * oneNode + min (min (ad + min bc (b + c)) (bc + (a + d))) (min (ac + (b + d)) (bd + (a + c)))
-      small h ac bd ad bc a b c d p q r s = omega arith
+      small : (h l ac bd ad bc a b c d : ℕ) → h ≤ ad + oneNode → h ≤ bc + oneNode → ac ≤ a + c → bd ≤ b + d
+          → min (min h l) (oneNode + (ac + bd)) ≤ 3 * oneNode + min (min (ad + min bc (b + c)) (bc + (a + d))) (min (ac + (b + d)) (bd + (a + c)))
+      small h l ac bd ad bc a b c d p q r s = omega arith
 
-  halves-best : leastWay G ≡ halvesAlike G
+  halves-best : leastWay G M ≡ halvesAlike G M
   unfolding leastWay
-  halves-best = least (halvesAlike G) (treeLike G) (threeAlike G) (acrossAlike G) not-tree not-three not-across
+  halves-best = least (halvesAlike G M) (firstLine G M) (treeLike G M) (threeAlike G) (acrossAlike G) not-first not-tree not-three not-across
     where
-      least : (a b c d : ℕ) → a ≤ b → a ≤ c → a ≤ d → min (min a b) (min c d) ≡ a
-      least a b c d x y z = omega arith
+      least : (a f b c d : ℕ) → a ≤ f → a ≤ b → a ≤ c → a ≤ d → min (min (min a f) b) (min c d) ≡ a
+      least a f b c d x y z w = omega arith
 
 -- the bytes of a number whose halves are equal
 third-first : (w : ℕ) → w % tableSpace ≡ w / tableSpace → w / tableSpace % entries ≡ w % entries
@@ -184,9 +229,9 @@ fourth-second w e =
         digit (w % tableSpace) (w / entries % entries) (w % entries) (mod-mul w {m = entries} {c = entries} (omega arith) (omega arith)) (omega arith)
         (omega arith)
 
-pub repeated-way : (w : ℕ) → w % tableSpace ≡ w / tableSpace → leastWay (classIn (quarterBytes w)) ≡ halvesAlike (classIn (quarterBytes w))
+pub repeated-way : (w : ℕ) → w % tableSpace ≡ w / tableSpace → wayOf w ≡ halvesAlike (classIn (quarterBytes w)) (lineIn (quarterBytes w))
 repeated-way w e =
-    both-linked w
+    all-linked w
     ∙ halves-best (fitIn (masked (zerosIn w) (onesIn w))) (λ x. bytes-alike w 2 0 x (omega arith) (omega arith) (third-first w e))
     (λ x. bytes-alike w 3 1 x (omega arith) (omega arith) (fourth-second w e))
-    ∙ sym (halves-linked w)
+    ∙ sym (all-halves w)

@@ -12,7 +12,9 @@ pub mod OwnFrame
 pub mod QuarterEntries
 pub mod Classes
 pub mod Sound
+pub mod LinesSound
 pub mod Complete
+pub mod LinesComplete
 pub mod Fifteen
 pub mod Restricted
 pub mod Linked

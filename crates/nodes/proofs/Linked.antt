@@ -1,15 +1,16 @@
--- What `class` gives is the best quarter of its class, and on restricted masks the best that has no literal of the last input that may not occur.
+-- What `class` gives is the best quarter of its class, and on restricted masks the best without the inverse of the last input; what `line` gives.
 use Prim.Native.Nat.{ℕ, _+_, _*_, _^_, _/_, _%_, _<_}
 use mathlib.Core.Path.{_≡_, refl, sym, ap, ap₂, _∙_, fun-ext}
-use mathlib.Core.Bool.{Bool, true, false, cond, _&&_}
+use mathlib.Core.Bool.{Bool, true, false, cond, not, _&&_}
 use mathlib.Core.List.{List, [], _∷_}
 use mathlib.Core.Option.{Option, none, some}
 use native.Mathlib.Omega.{arith}
+use lib.Arith.{mod-mul}
 use lib.Bits.{bitAnd, and-shr, and-mod}
 use lib.Dec.{T, eqb, ltb, ltb→lt, eqb→eq}
 use Rattle.base.proofs.Tests.{and-intro, and-left, and-right, and-true, test-ext, test-yes, eq-test}
 use Rattle.table.specs.Bits.{bit, all}
-use Rattle.table.specs.Cells.{low, high}
+use Rattle.table.specs.Cells.{low, high, full, wiredTable, selectorCells}
 use Rattle.table.specs.Pick.{Proj, suits, nearer, least, leastOf}
 use Rattle.table.specs.Inner.Ranks.{masked}
 use Rattle.table.specs.Inner.Pairs.{blockPatterns, blockSpace, byteBits, zerosIn, onesIn}
@@ -19,15 +20,15 @@ use Rattle.table.proofs.Bits.{bit-mod, bit-div, test-and}
 use Rattle.table.proofs.Least.{Least, least-is}
 use Rattle.table.proofs.Masks.{mask-cong}
 use Rattle.table.proofs.Pairs.{Place, fromBlock, byte-place, first-place}
-use Rattle.table.proofs.Halving.{upper}
+use Rattle.table.proofs.Suited.{upper}
 use Rattle.nodes.specs.Nodes.{price}
 use Rattle.nodes.specs.Inner.Tops.{topPrice, quarterEntry}
-use Rattle.nodes.specs.Inner.Ways.{quarterEntryAt, classAt, places, together, classIn, quarterBytes, halvesAlike, leastWay, allNodes, fromAbove, fromBelow, notEvenZeros, notOddZeros, noPlain, noInverted}
+use Rattle.nodes.specs.Inner.Ways.{quarterEntryAt, classAt, lineAt, onesQuarter, noLine, places, together, classIn, lineIn, quarterBytes, halvesAlike, leastWay, wayOf, allNodes, noInverted}
 use Rattle.nodes.proofs.Quarters.{below4}
 use Rattle.nodes.proofs.Framed.{uses, within}
-use Rattle.nodes.proofs.Classes.{stands, ok, shown, classValue}
-use Rattle.nodes.proofs.Sound.{fitIn, within-both}
-use Rattle.nodes.proofs.Restricted.{inFour, together-cut, plain-beside, inverted-beside}
+use Rattle.nodes.proofs.Classes.{stands, ok, shown, classValue, lineValue}
+use Rattle.nodes.proofs.Sound.{fitIn, within-all}
+use Rattle.nodes.proofs.Restricted.{inFour, together-cut}
 
 -- what may stand in a quarter whose masks are a byte
 fitAt : ℕ → ℕ → Bool
@@ -106,33 +107,66 @@ module _ (w : ℕ) where
 bestEntry : (ℕ → Bool) → ℕ
 bestEntry f = quarterEntry (least topPrice f blockSpace)
 
--- a byte restricted has the entry of the byte where some literals of the last input may not occur: tested for every byte
-unfoldable agrees : (ℕ → ℕ) → (inverted plain : Bool) → Bool
-agrees R i p = all entries (λ at. eqb (bestEntry (fitAt (R at))) (bestEntry (λ x. fitAt at x && within i p x)))
+-- a byte restricted has the entry of the byte where the inverse of the last input may not occur, and constants may stand as before: tested for every byte
+unfoldable agrees : (ℕ → ℕ) → (inverted : Bool) → Bool
+agrees R i = all entries (λ at. eqb (bestEntry (fitAt (R at))) (bestEntry (λ x. fitAt at x && within i x)))
 
-abbrev noPlainByte : ℕ → ℕ
-noPlainByte at = noPlain at % entries
+unfoldable sameTest : Bool → Bool → Bool
+sameTest a b = cond a b (not b)
+
+same-test : (a b : Bool) → T (sameTest a b) → a ≡ b
+unfolding sameTest
+same-test true true t = refl
+same-test true false t = absurd t
+same-test false true t = absurd t
+same-test false false t = refl
+
+unfoldable keepsConstants : (ℕ → ℕ) → Bool
+keepsConstants R =
+    all entries
+    (λ at. sameTest (eqb (R at / blockSpace) onesQuarter) (fitAt at 0) && sameTest (eqb (R at % blockSpace) onesQuarter) (fitAt at onesQuarter))
 
 abbrev noInvertedByte : ℕ → ℕ
 noInvertedByte at = noInverted at % entries
 
-plain-agrees : T (agrees noPlainByte true false)
-unfolding agrees bestEntry fitAt within uses topPrice blockEntry price least nearer suits masked all bit low high
-plain-agrees = tt
-
-inverted-agrees : T (agrees noInvertedByte false true)
-unfolding agrees bestEntry fitAt within uses topPrice blockEntry price least nearer suits masked all bit low high
+inverted-agrees : T (agrees noInvertedByte false)
+unfolding agrees bestEntry fitAt within uses topPrice blockEntry price least nearer suits masked all bit low high full wiredTable selectorCells
 inverted-agrees = tt
 
-none-agrees : T (agrees (λ at. noPlainByte (noInvertedByte at)) false false)
-unfolding agrees bestEntry fitAt within uses topPrice blockEntry price least nearer suits masked all bit low high
-none-agrees = tt
-
-both-agrees : T (agrees (λ at. at) true true)
+all-agrees : T (agrees (λ at. at) true)
 unfolding agrees
-both-agrees =
-    all-intro entries (λ at. eqb (bestEntry (fitAt at)) (bestEntry (λ x. fitAt at x && within true true x)))
-    (λ at l. eq-test (ap bestEntry (fun-ext (λ x. sym (ap (λ b. fitAt at x && b) (test-yes (within true true x) (within-both x)) ∙ and-true (fitAt at x))))))
+all-agrees =
+    all-intro entries (λ at. eqb (bestEntry (fitAt at)) (bestEntry (λ x. fitAt at x && within true x)))
+    (λ at l. eq-test (ap bestEntry (fun-ext (λ x. sym (ap (λ b. fitAt at x && b) (test-yes (within true x) (within-all x)) ∙ and-true (fitAt at x))))))
+
+inverted-keeps : T (keepsConstants noInvertedByte)
+unfolding keepsConstants sameTest fitAt suits masked all bit
+inverted-keeps = tt
+
+all-keeps : T (keepsConstants (λ at. at))
+unfolding keepsConstants sameTest fitAt suits masked all bit
+all-keeps = tt
+
+-- the test for a line is one for the upper half of one byte and the lower half of another
+unfoldable fullBoth : Bool
+fullBoth = all blockSpace (λ a. all blockSpace (λ b. sameTest (eqb (bitAnd a b) onesQuarter) (eqb a onesQuarter && eqb b onesQuarter)))
+
+full-both : T fullBoth
+unfolding fullBoth sameTest all
+full-both = tt
+
+line-test : (x y : ℕ) → eqb (bitAnd (x / blockSpace) y % blockSpace) onesQuarter ≡ eqb (x % entries / blockSpace) onesQuarter && eqb (y % entries % blockSpace) onesQuarter
+unfolding fullBoth
+line-test x y =
+    let a = x / blockSpace % blockSpace in
+    let b = y % blockSpace in
+    let d : a ≡ x % entries / blockSpace = omega (arith, mod-mul x {m = blockSpace} {c = blockSpace} (omega arith) (omega arith)) in
+    let e : b ≡ y % entries % blockSpace = omega (arith, mod-mul y {m = blockSpace} {c = blockSpace} (omega arith) (omega arith)) in
+    ap (λ z. eqb z onesQuarter) (and-mod (x / blockSpace) y blockPatterns)
+    ∙ same-test (eqb (bitAnd a b) onesQuarter) (eqb a onesQuarter && eqb b onesQuarter)
+    (all-at blockSpace (λ b. sameTest (eqb (bitAnd a b) onesQuarter) (eqb a onesQuarter && eqb b onesQuarter))
+    (all-at blockSpace (λ a. all blockSpace (λ b. sameTest (eqb (bitAnd a b) onesQuarter) (eqb a onesQuarter && eqb b onesQuarter))) full-both a (omega arith)) b (omega arith))
+    ∙ ap₂ (λ a b. eqb a onesQuarter && eqb b onesQuarter) d e
 
 -- the entry at the places of a class: tested for every entry
 abbrev classOf : (entry places : ℕ) → ℕ
@@ -156,71 +190,88 @@ cut f m t = go (least topPrice f blockSpace) (least-is topPrice f blockSpace)
 unfoldable isClass : List ℕ → Bool
 isClass js = (inFour js && ltb 0 (places js)) && cuts (places js)
 
-module _ (w v : ℕ) (R : ℕ → ℕ) (i p : Bool) (agreed : T (agrees R i p)) where
-  abbrev Q : Proj
-  Q = masked (zerosIn w) (onesIn w)
+-- the pair v has the bytes of the pair w, each as R makes it
+module _ (w v : ℕ) (R : ℕ → ℕ) (i : Bool) (agreed : T (agrees R i)) (kept : T (keepsConstants R))
+    (e : (j : ℕ) (js : List ℕ) → T (inFour (j ∷ js)) → together (quarterBytes v) (j ∷ js) % entries ≡ R (together (quarterBytes w) (j ∷ js) % entries)) where
+  abbrev fit : ℕ → ℕ → Bool
+  fit = fitIn (masked (zerosIn w) (onesIn w))
 
-  linked : ((j : ℕ) (js : List ℕ) → T (inFour (j ∷ js)) → together (quarterBytes v) (j ∷ js) % entries ≡ R (together (quarterBytes w) (j ∷ js) % entries))
-      → (js : List ℕ) → T (isClass js) → classIn (quarterBytes v) js ≡ classValue (fitIn Q) i p js
+  class-linked : (js : List ℕ) → T (isClass js) → classIn (quarterBytes v) js ≡ classValue fit i js
   unfolding isClass agrees classAt quarterEntryAt bestBlock leastOf bestEntry fitAt inFour
-  linked e [] t = absurd (and-left false (cuts 0) t)
-  linked e (j ∷ js) t =
+  class-linked [] t = absurd (and-left false (cuts 0) t)
+  class-linked (j ∷ js) t =
       let f = and-left (inFour (j ∷ js)) (ltb 0 (places (j ∷ js))) (and-left (inFour (j ∷ js) && ltb 0 (places (j ∷ js))) (cuts (places (j ∷ js))) t) in
       let y = together (quarterBytes w) (j ∷ js) % entries in
       ap (λ x. classOf x (places (j ∷ js)))
       (ap (λ x. bestEntry (fitAt x)) (e j js f)
-      ∙ eqb→eq (bestEntry (fitAt (R y))) (bestEntry (λ x. fitAt y x && within i p x))
-      (all-at entries (λ at. eqb (bestEntry (fitAt (R at))) (bestEntry (λ x. fitAt at x && within i p x))) agreed y (omega arith))
-      ∙ ap bestEntry (fun-ext (λ x. ap (λ b. b && within i p x) (class-fits w x j js f))))
-      ∙ cut (ok (fitIn Q) i p (j ∷ js)) (places (j ∷ js)) (and-right (inFour (j ∷ js) && ltb 0 (places (j ∷ js))) (cuts (places (j ∷ js))) t)
+      ∙ eqb→eq (bestEntry (fitAt (R y))) (bestEntry (λ x. fitAt y x && within i x))
+      (all-at entries (λ at. eqb (bestEntry (fitAt (R at))) (bestEntry (λ x. fitAt at x && within i x))) agreed y (omega arith))
+      ∙ ap bestEntry (fun-ext (λ x. ap (λ b. b && within i x) (class-fits w x j js f))))
+      ∙ cut (ok fit i (j ∷ js)) (places (j ∷ js)) (and-right (inFour (j ∷ js) && ltb 0 (places (j ∷ js))) (cuts (places (j ∷ js))) t)
 
--- functions that are alike on the fifteen classes have the same least way
-ways-alike : (F G : List ℕ → ℕ) → ((js : List ℕ) → T (isClass js) → F js ≡ G js) → leastWay F ≡ leastWay G
-unfolding leastWay isClass cuts inFour all shown blockEntry topPrice price low high
-ways-alike F G h =
-    rw (
-      h (0 ∷ []) tt,
-      h (1 ∷ []) tt,
-      h (2 ∷ []) tt,
-      h (3 ∷ []) tt,
-      h (1 ∷ 0 ∷ []) tt,
-      h (2 ∷ 0 ∷ []) tt,
-      h (3 ∷ 0 ∷ []) tt,
-      h (2 ∷ 1 ∷ []) tt,
-      h (3 ∷ 1 ∷ []) tt,
-      h (3 ∷ 2 ∷ []) tt,
-      h (2 ∷ 1 ∷ 0 ∷ []) tt,
-      h (3 ∷ 1 ∷ 0 ∷ []) tt,
-      h (3 ∷ 2 ∷ 0 ∷ []) tt,
-      h (3 ∷ 2 ∷ 1 ∷ []) tt,
-      h (3 ∷ 2 ∷ 1 ∷ 0 ∷ []) tt,
-    )
+  kept-at : (at : ℕ) → at < entries
+      → (eqb (R at / blockSpace) onesQuarter ≡ fitAt at 0) × (eqb (R at % blockSpace) onesQuarter ≡ fitAt at onesQuarter)
+  unfolding keepsConstants
+  kept-at at l =
+      let a = sameTest (eqb (R at / blockSpace) onesQuarter) (fitAt at 0) in
+      let b = sameTest (eqb (R at % blockSpace) onesQuarter) (fitAt at onesQuarter) in
+      let h = all-at entries (λ at. sameTest (eqb (R at / blockSpace) onesQuarter) (fitAt at 0) && sameTest (eqb (R at % blockSpace) onesQuarter) (fitAt at onesQuarter)) kept at l in
+      (same-test _ _ (and-left a b h), same-test _ _ (and-right a b h))
 
-halves-alike : (F G : List ℕ → ℕ) → ((js : List ℕ) → T (isClass js) → F js ≡ G js) → halvesAlike F ≡ halvesAlike G
-unfolding isClass cuts inFour all shown blockEntry topPrice price low high
-halves-alike F G h = rw (h (2 ∷ 0 ∷ []) tt, h (3 ∷ 1 ∷ []) tt, h (3 ∷ 2 ∷ 1 ∷ 0 ∷ []) tt)
+  line-linked : (j k : ℕ) (js ks : List ℕ) → T (inFour (j ∷ js)) → T (inFour (k ∷ ks))
+      → lineIn (quarterBytes v) (j ∷ js) (k ∷ ks) ≡ lineValue fit (j ∷ js) (k ∷ ks)
+  unfolding lineAt
+  line-linked j k js ks f g =
+      let x = together (quarterBytes w) (j ∷ js) % entries in
+      let y = together (quarterBytes w) (k ∷ ks) % entries in
+      ap (λ c. cond c (places (k ∷ ks) * onesQuarter) noLine)
+      (line-test (together (quarterBytes v) (j ∷ js)) (together (quarterBytes v) (k ∷ ks))
+      ∙ ap₂ (λ a b. a && b)
+      (ap (λ z. eqb (z / blockSpace) onesQuarter) (e j js f) ∙ kept-at x (omega arith) .0 ∙ class-fits w 0 j js f)
+      (ap (λ z. eqb (z % blockSpace) onesQuarter) (e k ks g) ∙ kept-at y (omega arith) .1 ∙ class-fits w onesQuarter k ks g))
 
--- the four choices of literals
+  -- so the pair has the same least way
+  way-linked : wayOf v ≡ leastWay (classValue fit i) (lineValue fit)
+  unfolding leastWay isClass cuts inFour all shown blockEntry topPrice price low high full wiredTable selectorCells
+  way-linked =
+      rw (
+        class-linked (0 ∷ []) tt,
+        class-linked (1 ∷ []) tt,
+        class-linked (2 ∷ []) tt,
+        class-linked (3 ∷ []) tt,
+        class-linked (1 ∷ 0 ∷ []) tt,
+        class-linked (2 ∷ 0 ∷ []) tt,
+        class-linked (3 ∷ 0 ∷ []) tt,
+        class-linked (2 ∷ 1 ∷ []) tt,
+        class-linked (3 ∷ 1 ∷ []) tt,
+        class-linked (3 ∷ 2 ∷ []) tt,
+        class-linked (2 ∷ 1 ∷ 0 ∷ []) tt,
+        class-linked (3 ∷ 1 ∷ 0 ∷ []) tt,
+        class-linked (3 ∷ 2 ∷ 0 ∷ []) tt,
+        class-linked (3 ∷ 2 ∷ 1 ∷ []) tt,
+        class-linked (3 ∷ 2 ∷ 1 ∷ 0 ∷ []) tt,
+        line-linked 0 1 [] [] tt tt,
+        line-linked 2 3 [] [] tt tt,
+        line-linked 2 3 (0 ∷ []) (1 ∷ []) tt tt,
+        line-linked 1 3 (0 ∷ []) (2 ∷ []) tt tt,
+      )
+
+  halves-linked : halvesAlike (classIn (quarterBytes v)) (lineIn (quarterBytes v)) ≡ halvesAlike (classValue fit i) (lineValue fit)
+  unfolding isClass cuts inFour all shown blockEntry topPrice price low high full wiredTable selectorCells
+  halves-linked =
+      rw (class-linked (2 ∷ 0 ∷ []) tt, class-linked (3 ∷ 1 ∷ []) tt, class-linked (3 ∷ 2 ∷ 1 ∷ 0 ∷ []) tt, line-linked 2 3 (0 ∷ []) (1 ∷ []) tt tt)
+
+-- with the inverse of the last input, and without it
 module _ (w : ℕ) where
-  abbrev pub wayIn : (inverted plain : Bool) → ℕ
-  wayIn i p = leastWay (classValue (fitIn (masked (zerosIn w) (onesIn w))) i p)
+  abbrev pub wayIn : (inverted : Bool) → ℕ
+  wayIn i = leastWay (classValue (fitIn (masked (zerosIn w) (onesIn w))) i) (lineValue (fitIn (masked (zerosIn w) (onesIn w))))
 
-  pub both-linked : leastWay (classIn (quarterBytes w)) ≡ wayIn true true
-  both-linked = ways-alike _ _ (linked w w (λ at. at) true true both-agrees (λ j js f. refl))
+  pub all-linked : wayOf w ≡ wayIn true
+  all-linked = way-linked w w (λ at. at) true all-agrees all-keeps (λ j js f. refl)
 
-  pub halves-linked : halvesAlike (classIn (quarterBytes w)) ≡ halvesAlike (classValue (fitIn (masked (zerosIn w) (onesIn w))) true true)
-  halves-linked = halves-alike _ _ (linked w w (λ at. at) true true both-agrees (λ j js f. refl))
+  pub all-halves : halvesAlike (classIn (quarterBytes w)) (lineIn (quarterBytes w))
+      ≡ halvesAlike (classValue (fitIn (masked (zerosIn w) (onesIn w))) true) (lineValue (fitIn (masked (zerosIn w) (onesIn w))))
+  all-halves = halves-linked w w (λ at. at) true all-agrees all-keeps (λ j js f. refl)
 
-  pub plain-linked : leastWay (classIn (quarterBytes (noPlain w))) ≡ wayIn true false
-  plain-linked = ways-alike _ _ (linked w (noPlain w) noPlainByte true false plain-agrees (together-cut fromAbove notEvenZeros plain-beside w))
-
-  pub inverted-linked : leastWay (classIn (quarterBytes (noInverted w))) ≡ wayIn false true
-  inverted-linked = ways-alike _ _ (linked w (noInverted w) noInvertedByte false true inverted-agrees (together-cut fromBelow notOddZeros inverted-beside w))
-
-  pub none-linked : leastWay (classIn (quarterBytes (noPlain (noInverted w)))) ≡ wayIn false false
-  none-linked =
-      ways-alike _ _
-      (linked w (noPlain (noInverted w)) (λ at. noPlainByte (noInvertedByte at)) false false none-agrees
-      (λ j js f.
-      together-cut fromAbove notEvenZeros plain-beside (noInverted w) j js f
-      ∙ ap noPlainByte (together-cut fromBelow notOddZeros inverted-beside w j js f)))
+  pub inverted-linked : wayOf (noInverted w) ≡ wayIn false
+  inverted-linked = way-linked w (noInverted w) noInvertedByte false inverted-agrees inverted-keeps (together-cut w)

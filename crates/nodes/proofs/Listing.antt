@@ -7,14 +7,14 @@ use mathlib.Core.List.{List, [], _∷_}
 use native.Mathlib.Omega.{arith}
 use lib.Dec.{T, T-not, not-T, eqb, eqb→eq}
 use Rattle.base.proofs.Tests.{cond-has, eq-test}
-use Rattle.table.specs.Cells.{low, high}
+use Rattle.table.specs.Cells.{low, high, full, wiredTable, selectorCells}
 use Rattle.nodes.specs.Nodes.{Node, node, same, has, listing, price, weight, nodes}
 use Rattle.nodes.specs.Subfunctions.{Distinct}
 use Rattle.nodes.proofs.Lists.{has-later, has-cases}
 
 -- Worked rows, computed from the meanings.
-unfoldable counting : ℕ
-unfolding low high same has listing price weight nodes
+unfoldable pub counting : ℕ
+unfolding low high full wiredTable selectorCells same has listing price weight nodes
 counting = 0
 
 -- the majority of three inputs: input 3; it and input 2; it or input 2; and the choice between these by input 1. The latest stands first
@@ -22,18 +22,28 @@ pub majority-listed : listing 3 0xE8 [] ≡ node 2 0xE8 ∷ node 1 0xE ∷ node 
 unfolding counting
 majority-listed = refl
 
--- the parity of three inputs needs five selectors, that of four inputs seven; input 2 of three needs one, and a constant none
-pub parity-nodes : nodes 3 0x96 ≡ 5
+-- it counts for three, since input 3 itself is free
+pub majority-nodes : nodes 3 0xE8 ≡ 3
+unfolding counting
+majority-nodes = refl
+
+-- the parity of three inputs counts for four, its five nodes but for input 3 itself, and that of four inputs likewise for six of seven; input 2 of three
+-- counts for none, its inverse for one, and a constant for none
+pub parity-nodes : nodes 3 0x96 ≡ 4
 unfolding counting
 parity-nodes = refl
 
-pub parity-four-nodes : nodes 4 0x6996 ≡ 7
+pub parity-four-nodes : nodes 4 0x6996 ≡ 6
 unfolding counting
 parity-four-nodes = refl
 
-pub input-nodes : nodes 3 0xCC ≡ 1
+pub input-nodes : nodes 3 0xCC ≡ 0
 unfolding counting
 input-nodes = refl
+
+pub inverse-nodes : nodes 3 0x33 ≡ 1
+unfolding counting
+inverse-nodes = refl
 
 pub constant-nodes : nodes 4 0xFFFF ≡ 0
 unfolding counting

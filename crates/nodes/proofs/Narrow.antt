@@ -8,7 +8,8 @@ use lib.Pow.{shr-shr, split}
 use Rattle.table.specs.Inner.Blocks.{entries, Covered}
 use Rattle.table.specs.Inner.Pairs.{blockSpace, pairBits, zerosIn, onesIn}
 use Rattle.table.specs.Inner.Ranks.{pickOf, rank, tableSpace}
-use Rattle.table.proofs.Halving.{join, join-lt, counted-twice}
+use Rattle.table.proofs.Halves.{join, join-lt}
+use Rattle.table.proofs.Cells.{counted-twice}
 use Rattle.table.proofs.Masks.{pickOf-least}
 use Rattle.table.proofs.Pairs.{byte-place, first-place, zeros-lt, ones-lt, one-byte, two-bytes}
 use Rattle.table.proofs.Repeated.{covered-twice, pick-twice}

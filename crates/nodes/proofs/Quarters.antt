@@ -6,8 +6,8 @@ use lib.Dec.{T}
 use Rattle.table.specs.Bits.{sum}
 use Rattle.table.specs.Cells.{low, high}
 use Rattle.table.specs.Pick.{Proj, suits}
-use Rattle.table.proofs.Cells.{low-lt, high-lt}
-use Rattle.table.proofs.Halving.{upper, join, join-low, join-high, join-lt, join-halves, suits-low, suits-high, suits-both}
+use Rattle.table.proofs.Halves.{low-lt, high-lt, join, join-low, join-high, join-lt, join-halves}
+use Rattle.table.proofs.Suited.{upper, suits-low, suits-high, suits-both}
 use Rattle.nodes.specs.Inner.Ways.{four, placeOf}
 
 -- four places

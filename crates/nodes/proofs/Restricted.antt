@@ -2,18 +2,18 @@
 use Prim.Native.Nat.{ℕ, zero, suc, _+_, _*_, _^_, _/_, _%_, _<_}
 use mathlib.Core.Path.{_≡_, refl, sym, ap, ap₂, subst, _∙_}
 use mathlib.Core.Logic.{_⊎_, inl, inr}
-use mathlib.Core.Bool.{Bool, true, false, not, _&&_, _||_}
+use mathlib.Core.Bool.{Bool, true, false, _&&_, _||_}
 use mathlib.Core.List.{List, [], _∷_}
 use native.Mathlib.Omega.{arith}
 use lib.Bits.{bitAnd, bitOr, or-shr, or-mod, and-mod}
-use lib.Dec.{T, eqb, ltb, ltb→lt, nltb→le, eqb→eq}
-use Rattle.base.proofs.Tests.{and-left, and-right, decide, eq-test}
+use lib.Dec.{T, eqb, ltb, ltb→lt, eqb→eq}
+use Rattle.base.proofs.Tests.{and-left, and-right, eq-test}
 use Rattle.table.specs.Bits.{bit, all}
 use Rattle.table.specs.Inner.Pairs.{byteBits, pairBits}
 use Rattle.table.specs.Inner.Blocks.{entries}
 use Rattle.table.proofs.Below.{all-at}
 use Rattle.table.proofs.Bits.{bit-mod, bit-div, bit-ext, bit-cases, test-and}
-use Rattle.nodes.specs.Inner.Ways.{together, quarterBytes, restricted, fromAbove, fromBelow, notEvenZeros, notOddZeros}
+use Rattle.nodes.specs.Inner.Ways.{together, quarterBytes, fromBelow, notOddZeros, noInverted}
 use Rattle.nodes.proofs.Quarters.{below4}
 
 -- a bit is set
@@ -42,10 +42,7 @@ on-ext x y h =
     go a b (inr e) (inl d) g = e ∙ sym (eqb→eq b 1 (subst T g (eq-test e)))
     go a b (inr e) (inr d) g = e ∙ sym d
 
--- the bit above, and the bit below
-on-above : (x p : ℕ) → on (fromAbove x) p ≡ on x (1 + p)
-on-above x p = ap (λ y. eqb y 1) (bit-div x 1 p)
-
+-- the bit below
 under : ℕ → ℕ → Bool
 under x zero = false
 under x (suc p) = on x p
@@ -76,29 +73,14 @@ bytes-on w j p l =
 in-byte : (w j p : ℕ) → j < 4 → p < byteBits → on (quarterBytes w j % entries) p ≡ on w (byteBits * j + p)
 in-byte w j p lj l = ap (λ y. eqb y 1) (bit-mod (quarterBytes w j) {k = byteBits} l) ∙ bytes-on w j p lj
 
--- the bits of c are the same in every byte, and bit p of each is set
-unfoldable freeAt : (p free : ℕ) → Bool
-freeAt p c = on c p && all 4 (λ j. all byteBits (λ p. eqb (bit c (byteBits * j + p)) (bit c p)))
-
-module _ (k c : ℕ) (free : T (freeAt k c)) where
-  free-there : T (on c k)
-  unfolding freeAt
-  free-there = and-left (on c k) _ free
-
-  alike : (j p : ℕ) → j < 4 → p < byteBits → on c (byteBits * j + p) ≡ on c p
-  unfolding freeAt
-  alike j p lj l =
-      let g : ℕ → Bool = λ j. all byteBits (λ p. eqb (bit c (byteBits * j + p)) (bit c p)) in
-      ap (λ y. eqb y 1)
-      (eqb→eq (bit c (byteBits * j + p)) (bit c p)
-      (all-at byteBits (λ p. eqb (bit c (byteBits * j + p)) (bit c p)) (all-at 4 g (and-right (on c k) (all 4 g) free) j lj) p l))
-
-free-or : (a b c : Bool) → T c → a || c ≡ b || c
-free-or true true true t = refl
-free-or true false true t = refl
-free-or false true true t = refl
-free-or false false true t = refl
-free-or a b false t = absurd t
+-- the bits of `notOddZeros` are the same in every byte, and the lowest is set: so a byte needs no bit of the byte below it
+free-alike : (j p : ℕ) → j < 4 → p < byteBits → on notOddZeros (byteBits * j + p) ≡ on notOddZeros p
+unfolding all bit
+free-alike j p lj l =
+    ap (λ y. eqb y 1)
+    (eqb→eq (bit notOddZeros (byteBits * j + p)) (bit notOddZeros p)
+    (all-at byteBits (λ p. eqb (bit notOddZeros (byteBits * j + p)) (bit notOddZeros p))
+    (all-at 4 (λ j. all byteBits (λ p. eqb (bit notOddZeros (byteBits * j + p)) (bit notOddZeros p))) tt j lj) p l))
 
 -- a list of quarters
 unfoldable pub inFour : List ℕ → Bool
@@ -118,85 +100,52 @@ shared-or false true false = refl
 shared-or false false true = refl
 shared-or false false false = refl
 
--- What is asked of a bit beside: it goes with what two numbers have in common, and a byte needs no bit of another, since such a bit is free.
-pub record Beside (beside : ℕ → ℕ) (free : ℕ) : Type 0 where
-  both : (x y p : ℕ) → p < byteBits → on (beside (bitAnd x y)) p ≡ on (beside x) p && on (beside y) p
-  byte : (w j p : ℕ) → j < 4 → p < byteBits → on (beside w) (byteBits * j + p) || on free (byteBits * j + p) ≡ on (beside (quarterBytes w j % entries)) p || on free p
+or-true : (a : Bool) → a || true ≡ true
+or-true true = refl
+or-true false = refl
 
-module _ (beside : ℕ → ℕ) (free : ℕ) (moves : Beside beside free) where
-  abbrev cut : ℕ → ℕ
-  cut = restricted beside free
+-- a bit is kept where the one below it is set, or where it is free
+abbrev keeps : ℕ → ℕ → Bool
+keeps x p = under x p || on notOddZeros p
 
-  cut-on : (x p : ℕ) → on (cut x) p ≡ on x p && (on (beside x) p || on free p)
-  cut-on x p = test-and x (bitOr (beside x) free) p ∙ ap (λ b. on x p && b) (on-or (beside x) free p)
+cut-on : (x p : ℕ) → p < pairBits → on (noInverted x) p ≡ on x p && keeps x p
+cut-on x p l =
+    test-and x (bitOr (fromBelow x) notOddZeros) p
+    ∙ ap (λ b. on x p && b) (on-or (fromBelow x) notOddZeros p ∙ ap (λ b. b || on notOddZeros p) (on-below x p l))
 
-  cut-and : (x y p : ℕ) → p < byteBits → on (cut (bitAnd x y)) p ≡ on (cut x) p && on (cut y) p
-  cut-and x y p l =
-      cut-on (bitAnd x y) p
-      ∙ ap₂ (λ a b. a && b) (test-and x y p) (ap (λ b. b || on free p) (moves .both x y p l) ∙ shared-or (on (beside x) p) (on (beside y) p) (on free p))
-      ∙ swapped (on x p) (on y p) (on (beside x) p || on free p) (on (beside y) p || on free p)
-      ∙ sym (ap₂ (λ a b. a && b) (cut-on x p) (cut-on y p))
+cut-and : (x y p : ℕ) → p < pairBits → on (noInverted (bitAnd x y)) p ≡ on (noInverted x) p && on (noInverted y) p
+cut-and x y p l =
+    cut-on (bitAnd x y) p l
+    ∙ ap₂ (λ a b. a && b) (test-and x y p) (ap (λ b. b || on notOddZeros p) (under-and x y p) ∙ shared-or (under x p) (under y p) (on notOddZeros p))
+    ∙ swapped (on x p) (on y p) (keeps x p) (keeps y p) ∙ sym (ap₂ (λ a b. a && b) (cut-on x p l) (cut-on y p l))
 
-  byte-cut : (w j : ℕ) → j < 4 → quarterBytes (cut w) j % entries ≡ cut (quarterBytes w j % entries) % entries
-  byte-cut w j lj =
-      on-ext (quarterBytes (cut w) j) (cut (quarterBytes w j % entries))
-      (λ p l.
-      bytes-on (cut w) j p lj ∙ cut-on w (byteBits * j + p) ∙ ap₂ (λ a b. a && b) (sym (in-byte w j p lj l)) (moves .byte w j p lj l)
-      ∙ sym (cut-on (quarterBytes w j % entries) p))
+keeps-byte : (w j p : ℕ) → j < 4 → p < byteBits → keeps w (byteBits * j + p) ≡ keeps (quarterBytes w j % entries) p
+unfolding under bit
+keeps-byte w j zero lj l =
+    ap (λ b. under w (byteBits * j + 0) || b) (free-alike j 0 lj l) ∙ or-true (under w (byteBits * j + 0))
+keeps-byte w j (suc p) lj l =
+    let e : byteBits * j + suc p ≡ suc (byteBits * j + p) = omega arith in
+    ap₂ (λ a b. a || b) (ap (under w) e ∙ sym (in-byte w j p lj (omega arith))) (free-alike j (suc p) lj l)
 
-  -- the bytes of a class
-  pub together-cut : (w j : ℕ) (js : List ℕ) → T (inFour (j ∷ js))
-      → together (quarterBytes (cut w)) (j ∷ js) % entries ≡ cut (together (quarterBytes w) (j ∷ js) % entries) % entries
-  unfolding inFour
-  together-cut w j [] f = byte-cut w j (ltb→lt j 4 (and-left (ltb j 4) true f))
-  together-cut w j (k ∷ js) f =
-      let a = together (quarterBytes w) (k ∷ js) in
-      let b = quarterBytes w j in
-      let x = cut (a % entries) in
-      let y = cut (b % entries) in
-      and-mod (together (quarterBytes (cut w)) (k ∷ js)) (quarterBytes (cut w) j) byteBits
-      ∙ ap₂ bitAnd (together-cut w k js (and-right (ltb j 4) (inFour (k ∷ js)) f)) (byte-cut w j (ltb→lt j 4 (and-left (ltb j 4) (inFour (k ∷ js)) f)))
-      ∙ sym (and-mod x y byteBits)
-      ∙ on-ext (bitAnd x y) (cut (bitAnd (a % entries) (b % entries))) (λ p l. test-and x y p ∙ sym (cut-and (a % entries) (b % entries) p l))
-      ∙ ap (λ z. cut z % entries) (sym (and-mod a b byteBits))
+byte-cut : (w j : ℕ) → j < 4 → quarterBytes (noInverted w) j % entries ≡ noInverted (quarterBytes w j % entries) % entries
+byte-cut w j lj =
+    on-ext (quarterBytes (noInverted w) j) (noInverted (quarterBytes w j % entries))
+    (λ p l.
+    bytes-on (noInverted w) j p lj ∙ cut-on w (byteBits * j + p) (omega arith)
+    ∙ ap₂ (λ a b. a && b) (sym (in-byte w j p lj l)) (keeps-byte w j p lj l) ∙ sym (cut-on (quarterBytes w j % entries) p (omega arith)))
 
--- the bit above, where the highest bit of each byte is free, and the bit below, where the lowest is
-above-beside : (c : ℕ) → T (freeAt 7 c) → Beside fromAbove c
-above-beside c free = record {
-  both = λ x y p l. on-above (bitAnd x y) p ∙ test-and x y (1 + p) ∙ sym (ap₂ (λ a b. a && b) (on-above x p) (on-above y p));
-  byte = λ w j p lj l. ap (λ b. on (fromAbove w) (byteBits * j + p) || b) (alike 7 c free j p lj l) ∙ go w j p lj l (decide (ltb (1 + p) byteBits));
-}
-  where
-    go : (w j p : ℕ) → j < 4 → p < byteBits → T (ltb (1 + p) byteBits) ⊎ T (not (ltb (1 + p) byteBits))
-        → on (fromAbove w) (byteBits * j + p) || on c p ≡ on (fromAbove (quarterBytes w j % entries)) p || on c p
-    go w j p lj l (inl h) =
-        let e : 1 + (byteBits * j + p) ≡ byteBits * j + (1 + p) = omega arith in
-        ap (λ b. b || on c p)
-        (on-above w (byteBits * j + p) ∙ ap (on w) e ∙ sym (in-byte w j (1 + p) lj (ltb→lt (1 + p) byteBits h)) ∙ sym (on-above (quarterBytes w j % entries) p))
-    go w j p lj l (inr h) =
-        let e : 7 ≡ p = omega (arith, nltb→le (1 + p) byteBits h) in
-        free-or (on (fromAbove w) (byteBits * j + p)) (on (fromAbove (quarterBytes w j % entries)) p) (on c p) (subst (λ y. T (on c y)) e (free-there 7 c free))
-
-below-beside : (c : ℕ) → T (freeAt 0 c) → Beside fromBelow c
-unfolding under
-below-beside c free = record {
-  both = λ x y p l.
-      on-below (bitAnd x y) p (omega arith) ∙ under-and x y p ∙ sym (ap₂ (λ a b. a && b) (on-below x p (omega arith)) (on-below y p (omega arith)));
-  byte = λ w j p lj l. ap (λ b. on (fromBelow w) (byteBits * j + p) || b) (alike 0 c free j p lj l) ∙ go w j p lj l;
-}
-  where
-    go : (w j p : ℕ) → j < 4 → p < byteBits → on (fromBelow w) (byteBits * j + p) || on c p ≡ on (fromBelow (quarterBytes w j % entries)) p || on c p
-    go w j zero lj l = free-or (on (fromBelow w) (byteBits * j + 0)) (on (fromBelow (quarterBytes w j % entries)) 0) (on c 0) (free-there 0 c free)
-    go w j (suc p) lj l =
-        let e : byteBits * j + suc p ≡ suc (byteBits * j + p) = omega arith in
-        ap (λ b. b || on c (suc p))
-        (on-below w (byteBits * j + suc p) (omega arith) ∙ ap (under w) e ∙ sym (in-byte w j p lj (omega arith))
-        ∙ sym (on-below (quarterBytes w j % entries) (suc p) (omega arith)))
-
-pub plain-beside : Beside fromAbove notEvenZeros
-unfolding freeAt all bit
-plain-beside = above-beside notEvenZeros tt
-
-pub inverted-beside : Beside fromBelow notOddZeros
-unfolding freeAt all bit
-inverted-beside = below-beside notOddZeros tt
+-- the bytes of a class
+pub together-cut : (w j : ℕ) (js : List ℕ) → T (inFour (j ∷ js))
+    → together (quarterBytes (noInverted w)) (j ∷ js) % entries ≡ noInverted (together (quarterBytes w) (j ∷ js) % entries) % entries
+unfolding inFour
+together-cut w j [] f = byte-cut w j (ltb→lt j 4 (and-left (ltb j 4) true f))
+together-cut w j (k ∷ js) f =
+    let a = together (quarterBytes w) (k ∷ js) in
+    let b = quarterBytes w j in
+    let x = noInverted (a % entries) in
+    let y = noInverted (b % entries) in
+    and-mod (together (quarterBytes (noInverted w)) (k ∷ js)) (quarterBytes (noInverted w) j) byteBits
+    ∙ ap₂ bitAnd (together-cut w k js (and-right (ltb j 4) (inFour (k ∷ js)) f)) (byte-cut w j (ltb→lt j 4 (and-left (ltb j 4) (inFour (k ∷ js)) f)))
+    ∙ sym (and-mod x y byteBits)
+    ∙ on-ext (bitAnd x y) (noInverted (bitAnd (a % entries) (b % entries))) (λ p l. test-and x y p ∙ sym (cut-and (a % entries) (b % entries) p (omega arith)))
+    ∙ ap (λ z. noInverted z % entries) (sym (and-mod a b byteBits))

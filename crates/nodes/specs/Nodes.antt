@@ -1,10 +1,11 @@
 -- Document 02, E2: the cells of a wire on the board that shares selectors, which are the nodes of the reduced ordered binary decision diagram of its table
--- (no complement edges). A node stands for a subfunction: what is left of the table once its first inputs have their values.
+-- (no complement edges) but for the plain inputs among them (E4). A node stands for a subfunction: what is left of the table once its first inputs have
+-- their values.
 use Prim.Native.Nat.{ℕ, zero, suc, _+_}
 use mathlib.Core.Bool.{Bool, false, cond, _&&_, _||_}
 use mathlib.Core.List.{List, [], _∷_}
 use lib.Dec.{eqb}
-use Rattle.table.specs.Cells.{low, high}
+use Rattle.table.specs.Cells.{low, high, wiredTable, selectorCells}
 
 -- a subfunction whose halves differ, so that it needs a selector: how many inputs stand after the one that it tests, and its table, of one input more
 pub record Node : Type 0 where
@@ -32,14 +33,14 @@ listing (suc r) t seen =
     let listed = cond (has seen (node r t)) seen both-listed in
     cond (eqb (low r t) (high r t)) low-listed listed
 
--- what a node counts for
+-- what a node counts for: none where its table is the input that it tests, whose line is soldered through (document 02, E4)
 unfoldable pub price : Node → ℕ
-price k = 1
+price k = selectorCells (wiredTable (k .after) (k .table))
 
 unfoldable pub weight : (Node → ℕ) → List Node → ℕ
 weight cost [] = zero
 weight cost (k ∷ ks) = cost k + weight cost ks
 
--- the nodes of a table of n inputs
+-- the nodes of a table of n inputs, each at its price
 unfoldable pub nodes : ℕ → ℕ → ℕ
 nodes n t = weight price (listing n t [])

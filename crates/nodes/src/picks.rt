@@ -1,8 +1,9 @@
 // The pick for the board that shares selectors: the table of fewest nodes between the two masks of a pair (table::picks).
 // A table of four inputs has four quarters, its cofactors by inputs 1 and 2, and the bytes of the pair are their masks. Which selectors on inputs 1 and 2 a
 // table needs is told by which of its quarters coincide. Quarters that coincide are a class, and each class takes its best quarter by itself: first by
-// whether that needs a selector on input 3, then by its number. Below stand the literals of input 4, the input and its inverse, which all quarters share:
-// each choice of literals that may occur is tried with masks restricted so that no best quarter has another. The least of all is the pick.
+// whether that needs a selector on input 3 which counts, then by its number. A line of input 1 or 2, soldered through, has constant quarters and is tried by
+// itself. Below stand the literals of input 4, which all quarters share. The input counts for none and its inverse for a selector: so the masks are tried as
+// they are, with that selector, and without it restricted so that no best quarter has the inverse. The least of all is the pick.
 // Inner functions: the parts of a search meet what they require.
 use table::picks::BLOCK_SPACE;
 use table::picks::ENTRIES;
@@ -14,17 +15,16 @@ use table::picks::THIRD_BYTE;
 use table::picks::THREE_SPACE;
 use table::picks::lesser;
 ghost use mathlib.Core.Path.{_≡_};
-ghost use lib.ListN.{getD};
-ghost use Prim.Native.Nat.{ℕ, _<_, _≤_, _+_, _*_, _^_};
+ghost use Prim.Native.Nat.{_<_, _≤_, _+_, _*_, _^_};
 ghost use Rattle.sheet.specs.Limits.{maxInputs};
 ghost use Rattle.table.specs.Inner.Ranks.{pickOf, rank};
 ghost use Rattle.table.specs.Inner.Blocks.{noEntry, Covered};
 ghost use Rattle.table.specs.Inner.Pairs.{zerosIn, onesIn};
 ghost use Rattle.nodes.specs.Nodes.{nodes};
 ghost use Rattle.nodes.specs.Inner.Tops.{Tops};
-ghost use Rattle.nodes.specs.Inner.Ways.{quarterEntryAt, classAt, mostClass, allPlaces, apartAt, halfAt, classIn, four, halvesAlike, treeLike, threeAlike, crossedAlike, besideAlike, acrossAlike, leastWay, quarterBytes, noPlain, noInverted, choiceCount, choiceOf};
+ghost use Rattle.nodes.specs.Inner.Ways.{quarterEntryAt, classAt, lineAt, mostClass, noLine, allPlaces, apartAt, halfAt, classIn, lineIn, four, halvesAlike, treeLike, threeAlike, crossedAlike, besideAlike, acrossAlike, wayOf, noInverted};
 
-// The best quarter of each pair of masks, at zeros * BLOCK_SPACE + ones: THREE_SPACE where it needs a selector, and the quarter twice side by side.
+// The best quarter of each pair of masks, at zeros * BLOCK_SPACE + ones: THREE_SPACE where it needs a selector that counts, and the quarter twice side by side.
 // Where some pattern is in no mask there is none: 64 selectors. What stands below a quarter is not counted.
 const TOPS: [u16; ENTRIES] = [
     0x4000,
@@ -87,10 +87,10 @@ const TOPS: [u16; ENTRIES] = [
     0x4000,
     0x4000,
     0x4000,
-    0x01cc,
-    0x01cc,
-    0x01cc,
-    0x00ff,
+    0x00cc,
+    0x00cc,
+    0x00cc,
+    0x00cc,
     0x4000,
     0x4000,
     0x4000,
@@ -151,8 +151,8 @@ const TOPS: [u16; ENTRIES] = [
     0x0188,
     0x00aa,
     0x00aa,
-    0x0188,
-    0x0188,
+    0x00cc,
+    0x00cc,
     0x00aa,
     0x00aa,
     0x4000,
@@ -215,9 +215,9 @@ const TOPS: [u16; ENTRIES] = [
     0x4000,
     0x4000,
     0x4000,
-    0x0144,
+    0x00cc,
     0x0055,
-    0x0144,
+    0x00cc,
     0x0055,
     0x4000,
     0x4000,
@@ -302,15 +302,14 @@ const NODES: u32 = 0xffff0000;
 
 const DIGIT: u32 = BLOCK_SPACE - 1;
 
-// The seats of a pair but for the zeros of the patterns where input 4 is 0 (even), or 1 (odd).
-const NOT_EVEN_ZEROS: u32 = 0xafafafaf;
+// A line that does not suit: more than the rank of any table.
+const NO_LINE: u32 = 64 * NODE;
 
+// The seats of a pair but for the zeros of the odd patterns, where input 4 is 1.
 const NOT_ODD_ZEROS: u32 = 0x5f5f5f5f;
 
-// The choices of literals of input 4: both, neither, the inverse, the input; each literal is a selector.
-const CHOICES: u32 = 4;
-
-const COSTS: [u32; CHOICES as usize] = [2 * NODE, 0, NODE, NODE];
+// The inverse of input 4 occurs, or it does not.
+const CHOICES: u32 = 2;
 
 // More than any rank.
 const NO_PICK: u32 = u32::MAX;
@@ -354,21 +353,40 @@ fn apart(e: &[u16; ENTRIES], x: u32, y: u32, i: u32, j: u32) -> u32
     class(e, x, i) + class(e, y, j)
 }
 
-// The two quarters of a half, of masks x and y at the places i and j: one class, or two and a selector.
+// The line of an input, soldered through: constant 0 for the class of masks x, and constant 1 for that of masks y at the places j. The patterns that can be
+// 0 stand in the upper half of the one byte, those that can be 1 in the lower half of the other, and all four are asked for in both.
+fn line(x: u32, y: u32, j: u32) -> u32
+    requires { ⌜ j ≤ allPlaces ⌝ }
+    ensures { λ r. ⌜ (r ≡ lineAt x y j) × (r ≤ noLine) ⌝ }
+{
+    if (x / BLOCK_SPACE & y) % BLOCK_SPACE == DIGIT {
+        j * DIGIT
+    } else {
+        NO_LINE
+    }
+}
+
+// The two quarters of a half, of masks x and y at the places i and j: one class, a line, or two classes and a selector.
 fn half(e: &[u16; ENTRIES], x: u32, y: u32, i: u32, j: u32) -> u32
     requires { ⌜ Tops (now e) × (i + j ≤ allPlaces) ⌝ }
     ensures { λ r. ⌜ (r ≡ halfAt x y i j) × (r ≤ mostClass) ⌝ }
 {
-    lesser(class(e, x & y, i + j), NODE + apart(e, x, y, i, j))
+    lesser(
+        lesser(class(e, x & y, i + j), line(x, y, j)),
+        NODE + apart(e, x, y, i, j),
+    )
 }
 
-// Equal halves: one class, or two and a selector for both halves.
+// Equal halves: one class, a line, or two classes and a selector for both halves.
 fn halves_alike(e: &[u16; ENTRIES], a: u32, b: u32, c: u32, d: u32) -> u32
     requires { ⌜ Tops (now e) ⌝ }
-    ensures { λ r. ⌜ (r ≡ halvesAlike (classIn (four a b c d))) × (r ≤ mostClass) ⌝ }
+    ensures { λ r. ⌜ (r ≡ halvesAlike (classIn (four a b c d)) (lineIn (four a b c d))) × (r ≤ mostClass) ⌝ }
 {
     lesser(
-        class(e, a & b & c & d, A + B + C + D),
+        lesser(
+            class(e, a & b & c & d, A + B + C + D),
+            line(a & c, b & d, B + D),
+        ),
         NODE + apart(e, a & c, b & d, A + C, B + D),
     )
 }
@@ -376,7 +394,7 @@ fn halves_alike(e: &[u16; ENTRIES], a: u32, b: u32, c: u32, d: u32) -> u32
 // Halves that share no quarter.
 fn tree_like(e: &[u16; ENTRIES], a: u32, b: u32, c: u32, d: u32) -> u32
     requires { ⌜ Tops (now e) ⌝ }
-    ensures { λ r. ⌜ r ≡ treeLike (classIn (four a b c d)) ⌝ }
+    ensures { λ r. ⌜ r ≡ treeLike (classIn (four a b c d)) (lineIn (four a b c d)) ⌝ }
 {
     NODE + half(e, a, b, A, B) + half(e, c, d, C, D)
 }
@@ -429,11 +447,11 @@ fn across_alike(e: &[u16; ENTRIES], a: u32, b: u32, c: u32, d: u32) -> u32
     3 * NODE + lesser(crossed(e, a, b, c, d), beside(e, a, b, c, d))
 }
 
-// The least over the fifteen ways in which the quarters of a pair coincide, with no selectors on input 4 counted. Where both halves have the same masks,
-// equal halves are the best: so it is with every pair of fewer than four inputs, repeated.
+// The least over the fifteen ways in which the quarters of a pair coincide and over the lines, with no selectors on input 4 counted. Where both halves have
+// the same masks, equal halves are the best: so it is with every pair of fewer than four inputs, repeated.
 fn way(e: &[u16; ENTRIES], pair: u32) -> u32
     requires { ⌜ Tops (now e) ⌝ }
-    ensures { λ r. ⌜ (r ≡ leastWay (classIn (quarterBytes pair))) × (r ≤ mostClass) ⌝ }
+    ensures { λ r. ⌜ (r ≡ wayOf pair) × (r ≤ mostClass) ⌝ }
 {
     let a = pair;
     let b = pair / PLACES;
@@ -443,54 +461,36 @@ fn way(e: &[u16; ENTRIES], pair: u32) -> u32
     if pair % THIRD_BYTE == c {
         return halves;
     }
+    let first = line(a & b, c & d, C + D);
     let three = three_alike(e, a, b, c, d);
     let across = across_alike(e, a, b, c, d);
     let tree = tree_like(e, a, b, c, d);
-    lesser(lesser(halves, tree), lesser(three, across))
+    lesser(lesser(lesser(halves, first), tree), lesser(three, across))
 }
 
-// The masks under which no best quarter has input 4 itself as a half. That is 0 on the even pattern and 1 on the odd one: 0 on an even pattern now asks for
-// 0 on the odd one beside it, and where that may stand, constant 0 is the better half.
-fn no_plain(pair: u32) -> u32
-    ensures { λ r. ⌜ r ≡ noPlain pair ⌝ }
-{
-    pair & ((pair >> 1) | NOT_EVEN_ZEROS)
-}
-
-// The same for its inverse, which is 0 on the odd pattern.
+// The masks under which no best quarter has the inverse of input 4 as a half. That is 1 on the even pattern and 0 on the odd one: 0 on an odd pattern now asks
+// for 0 on the even one beside it, and where that may stand, constant 0 is the better half.
 fn no_inverted(pair: u32) -> u32
     ensures { λ r. ⌜ r ≡ noInverted pair ⌝ }
 {
     pair & ((pair << 1) | NOT_ODD_ZEROS)
 }
 
-// A pair restricted to each choice of literals, in the order of COSTS.
-fn choices(pair: u32) -> [u32; CHOICES as usize]
-    ensures { λ r. ⌜ ((u : ℕ) → u < choiceCount → getD r u 0 ≡ choiceOf pair u) ⌝ }
-{
-    let plain = no_inverted(pair);
-    [pair, no_plain(plain), no_plain(pair), plain]
-}
-
-// Four inputs: the least over the choices of literals that may occur. Before the literals are counted no choice gives less than the first, both: so once
-// neither has been tried, what is no greater than the first with one literal is the least.
+// Four inputs: the least without the inverse of input 4 and with it, which is a selector. What counts for none is less than anything with that selector, so the
+// second turn is for others alone. The two turns stand in a loop, so that the compiled pick stays a function of its own.
 fn pick4(e: &[u16; ENTRIES], pair: u32) -> u32
     requires { ⌜ Tops (now e) × Covered 4 (zerosIn pair) (onesIn pair) ⌝ }
     ensures { λ r. ⌜ r ≡ rank (nodes 4) (pickOf (nodes 4) 4 (zerosIn pair) (onesIn pair)) ⌝ }
 {
-    let pairs = choices(pair);
-    let costs = COSTS;
+    let mut masks = no_inverted(pair);
     let mut best = NO_PICK;
-    let mut enough: u32 = 0;
-    for u in 0..CHOICES {
-        if best <= enough {
+    for inverses in 0..CHOICES {
+        let x = way(e, masks);
+        best = lesser(best, x + inverses * NODE);
+        if best < NODE {
             return best;
         }
-        let x = way(e, pairs[u as usize]);
-        if u == 0 {
-            enough = x + NODE;
-        }
-        best = lesser(best, x + costs[u as usize]);
+        masks = pair;
     }
     best
 }

@@ -7,8 +7,8 @@ use Rattle.base.specs.Cases.{accepting, acceptedOutcome, refusedCase}
 use Rattle.base.specs.Refusals.{refusalAt, cutShort, unknown, outOfRange, trailing, outOfTurn, notAscending, shortBuffer}
 use Rattle.base.specs.Lowest.{lowest}
 use Rattle.table.specs.Bits.{bit, sum, ofBits, tabulate}
-use Rattle.table.specs.Cells.{low, high}
-use Rattle.table.specs.Tree.{con, sel, follow, selectors, reduced}
+use Rattle.table.specs.Cells.{low, high, selectorCells}
+use Rattle.table.specs.Tree.{con, sel, follow, wiredTrees, treeCells, reduced}
 use Rattle.stage.specs.Steps.{andThen, misplaced, dueNumber, due, operand}
 use Rattle.stage.specs.Bytes.{wiresBytes, stageBytes}
 use Rattle.stage.specs.Read.{wiresAt, nothingAfter, endAt, closed, readSheet}
@@ -40,8 +40,9 @@ pub a-tables : stageTables treeDrawing 2 (sel 1 (con 1) (con 0) ∷ sel 2 (con 0
 unfolding stageTables drawnTable ofBits sum tabulate follow bit
 a-tables = refl
 
-pub a-cells : drawnCells treeDrawing (sel 1 (con 1) (con 0) ∷ sel 2 (con 0) (con 1) ∷ []) ≡ 2
-unfolding drawnCells selectors
+-- the inverted line is a cell, and the straight one is none
+pub a-cells : drawnCells treeDrawing (sel 1 (con 1) (con 0) ∷ sel 2 (con 0) (con 1) ∷ []) ≡ 1
+unfolding drawnCells treeCells wiredTrees selectorCells
 a-cells = refl
 
 pub a-bytes : stageOf treeForm 2 2 (3 ∷ 10 ∷ 0 ∷ 0 ∷ []) ≡ stage-a
@@ -54,6 +55,11 @@ pub a-written : (writtenOf treeForm 2 2 (3 ∷ 10 ∷ 0 ∷ 0 ∷ []) 15 ≡ ref
     × (writtenOf treeForm 2 2 (3 ∷ 16 ∷ 0 ∷ 0 ∷ []) 16 ≡ refusedCase (refusalAt outOfRange 1))
 unfolding writing
 a-written = (refl, refl, refl)
+
+-- a larger tree that is worth 0 leaves its selector a cell
+pub larger-counted : treeCells (sel 1 (sel 2 (con 0) (con 0)) (con 1)) ≡ 2
+unfolding treeCells wiredTrees selectorCells
+larger-counted = refl
 
 -- the refusals of a stage sheet
 pub empty-sheet : readStage [] ≡ noStage (refusalAt cutShort 0)

@@ -1,4 +1,4 @@
--- Trees are a form: their wires are read as they are written, and cells are fair to them. Their stages' lengths.
+-- Trees are a form: their wires are read as they are written, and cells are fair to them. Their stages' lengths, told by selectors.
 use Prim.Native.Nat.{ℕ, _+_, _*_, _-_, _<_, _≤_}
 use mathlib.Core.Path.{_≡_, refl, sym, ap, _∙_}
 use mathlib.Core.Bool.{false}
@@ -12,10 +12,9 @@ use Rattle.table.specs.Cells.{cells, wires, total}
 use Rattle.table.specs.Drawing.{got, drawnTable}
 use Rattle.table.specs.Tree.{Tree, Ordered, selectors, reduced}
 use Rattle.table.specs.Inner.Drawing.{FairCount}
-use Rattle.table.proofs.Cells.{cells-lt}
-use Rattle.table.proofs.Trees.{follow-lt, least-tree, reduced-selectors, reduced-ordered, reduced-follow}
+use Rattle.table.proofs.Trees.{follow-lt, least-tree, reduced-cells, reduced-ordered, reduced-follow}
 use Rattle.stage.specs.Steps.{Read, taken, fault, unlessRefused, dueNumber, due, operand, turnNumber}
-use Rattle.stage.specs.Bytes.{sheetFrame, selectorBytes, mostCells}
+use Rattle.stage.specs.Bytes.{sheetFrame, selectorBytes, mostSelectors}
 use Rattle.stage.specs.TreeBytes.{treeBytes, treeWireBytes, treeFrame}
 use Rattle.stage.specs.TreeRead.{treeKnown, treeAt, treeWireAt}
 use Rattle.stage.specs.Trees.{treeForm, treeDrawing, readStage}
@@ -25,7 +24,7 @@ use Rattle.stage.proofs.Steps.{unless-refused-has, due-has, turn-is, tu
 use Rattle.stage.proofs.Lengths.{sheet-length, sheet-length-most}
 use Rattle.stage.proofs.Prefix.{none-longer as sheet-none-longer, front-tells as sheet-front}
 use Rattle.stage.proofs.TreeReading.{ToldTree, tree-told, tree-back, tree-length}
-use Rattle.stage.proofs.TreeTables.{table-lt, table-bit, selectors-few, patterns-most}
+use Rattle.stage.proofs.TreeTables.{table-lt, table-bit, selectors-few, patterns-most, reduced-selectors-lt}
 use Rattle.stage.proofs.TreeMore.{wire-more}
 
 -- one wire
@@ -53,7 +52,7 @@ wire-back n m j at x q l o =
     let len : at + 2 + length (treeBytes x) ≡ at + length (treeWireBytes j x) = omega arith in
     rw (turn-comes m j false l refl) (tree-back x n 0 (at + 2) q (omega arith) o ∙ ap (λ y. taken x y q) len)
 
--- the count of cells is fair to trees: none of a function has fewer selectors, and the reduced one has as many
+-- the count of cells is fair to trees: none of a function has fewer cells, and the reduced one has as many
 unfoldable pub tree-counts : (n : ℕ) → FairCount treeDrawing n (cells n)
 tree-counts n =
     record {
@@ -62,7 +61,7 @@ tree-counts n =
       reduced = λ t. reduced n 0 t;
       reduced-formed = λ t l. reduced-ordered n n 0 t (zero-add n) l;
       reduced-follow = λ t p l b. reduced-follow n n 0 t p (zero-add n) l ∙ ap (bit t) (mod-eq-of-lt b);
-      reduced-cells = λ t. reduced-selectors n 0 t;
+      reduced-cells = λ t. reduced-cells n 0 t;
     }
 
 unfoldable pub tree-laws : FormLaws treeForm
@@ -81,13 +80,9 @@ tree-laws =
       reduces = λ n _. refl;
     }
 
--- a table of n inputs has few cells
-pub cells-few : (n t : ℕ) → n ≤ maxInputs → cells n t < maxPatterns
-cells-few n t h = omega (arith, cells-lt n t, patterns-most n h)
-
 -- the length of the longest stage of trees
 abbrev pub longestStage : ℕ
-longestStage = sheetFrame + treeFrame * maxWires + selectorBytes * mostCells
+longestStage = sheetFrame + treeFrame * maxWires + selectorBytes * mostSelectors
 
 -- no sheet that is accepted is longer, and reading looks at no byte past the one that would follow
 pub none-longer : (bytes : List ℕ) (n m : ℕ) (stage : List Tree) → readStage bytes ≡ got n m stage → length bytes ≤ longestStage
@@ -110,5 +105,6 @@ unfolding tree-laws
 stage-length-most n m tables h a b =
     omega (
       arith,
-      sheet-length-most treeForm tree-laws n (cells n) (λ t. reduced-selectors n 0 t) m tables h (maxPatterns - 1) (λ t. omega (arith, cells-few n t a)),
+      sheet-length-most treeForm tree-laws n (λ t. selectors (reduced n 0 t)) (λ t. refl) m tables h (maxPatterns - 1)
+          (λ t. omega (arith, reduced-selectors-lt n 0 t, patterns-most n a)),
     )

@@ -1,12 +1,15 @@
 -- Laws of the truth tables of trees, and of how many selectors a tree has.
-use Prim.Native.Nat.{ℕ, suc, _^_, _-_, _<_, _≤_}
+use Prim.Native.Nat.{ℕ, zero, suc, _^_, _-_, _<_, _≤_}
 use mathlib.Core.Path.{_≡_}
 use native.Mathlib.Omega.{arith}
+use lib.Dec.{eqb}
 use lib.Pow.{pow-pos, pow-mono}
+use Rattle.base.proofs.Tests.{cond-has}
 use Rattle.sheet.specs.Limits.{maxInputs, maxPatterns}
 use Rattle.table.specs.Bits.{bit}
+use Rattle.table.specs.Cells.{low, high}
 use Rattle.table.specs.Drawing.{drawnTable}
-use Rattle.table.specs.Tree.{Tree, con, sel, Ordered, follow, selectors}
+use Rattle.table.specs.Tree.{Tree, con, sel, Ordered, follow, selectors, reduced}
 use Rattle.table.proofs.Bits.{ofBits-lt, bit-ofBits}
 use Rattle.table.proofs.Trees.{follow-lt}
 use Rattle.stage.specs.Trees.{treeDrawing}
@@ -39,3 +42,12 @@ patterns-most n h = pow-mono {j = maxInputs} h
 
 pub selectors-few : (n k : ℕ) (x : Tree) → k ≤ n → n ≤ maxInputs → Ordered n k x → selectors x < maxPatterns
 selectors-few n k x l h o = omega (arith, selectors-lt n k x l o, patterns-most (n - k) (omega arith))
+
+-- what is written of a table of r inputs, in range or not
+pub reduced-selectors-lt : (r k t : ℕ) → selectors (reduced r k t) < 2 ^ r
+unfolding selectors reduced
+reduced-selectors-lt zero k t = omega arith
+reduced-selectors-lt (suc r) k t =
+    let z = reduced-selectors-lt r (suc k) (low r t) in
+    let o = reduced-selectors-lt r (suc k) (high r t) in
+    cond-has (λ x. selectors x < 2 ^ suc r) (eqb (low r t) (high r t)) (λ _. omega arith) (λ _. omega arith)

@@ -22,5 +22,5 @@ abbrev pub selectorBytes : ℕ
 selectorBytes = 3
 
 -- no stage that is written has more selectors, on either board: a table needs fewer than it has patterns
-abbrev pub mostCells : ℕ
-mostCells = maxWires * (maxPatterns - 1)
+abbrev pub mostSelectors : ℕ
+mostSelectors = maxWires * (maxPatterns - 1)

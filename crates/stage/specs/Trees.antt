@@ -1,9 +1,9 @@
--- The stages of document 01's board: ordered trees, their selectors counted as cells, in its stage sheets.
+-- The stages of document 01's board: ordered trees, with the cells of document 02's E4, in its stage sheets.
 use Prim.Native.Nat.{ℕ}
 use mathlib.Core.List.{List}
 use Rattle.table.specs.Cells.{cells}
 use Rattle.table.specs.Drawing.{Drawing, StageSheet}
-use Rattle.table.specs.Tree.{Tree, Ordered, follow, selectors, reduced}
+use Rattle.table.specs.Tree.{Tree, Ordered, follow, treeCells, reduced}
 use Rattle.stage.specs.Form.{StageForm}
 use Rattle.stage.specs.Read.{readSheet, drawing}
 use Rattle.stage.specs.TreeBytes.{treeWireBytes}
@@ -15,7 +15,7 @@ treeForm =
       Shape = Tree;
       WellFormed = λ n x. Ordered n 0 x;
       follow = follow;
-      cells = selectors;
+      cells = treeCells;
       count = cells;
       reduced = λ n t. reduced n 0 t;
       wireBytes = treeWireBytes;

@@ -12,4 +12,4 @@ pub const SELECTOR_BYTES: usize = 3;
 pub const TREE_FRAME: usize = 3;
 
 // What is written for a table has fewer selectors than there are patterns, so that no written stage has more than this.
-pub const MOST_CELLS: usize = Sheet::WIRES * (Sheet::MAX_PATTERNS - 1);
+pub const MOST_SELECTORS: usize = Sheet::WIRES * (Sheet::MAX_PATTERNS - 1);

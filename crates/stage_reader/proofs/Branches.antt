@@ -1,17 +1,23 @@
--- Laws of the tree behind what the reader of trees hands back: its bounds, and the two trees of a selector.
-use Prim.Native.Nat.{ℕ, suc, _+_, _^_, _<_, _≤_}
-use mathlib.Core.Path.{_≡_, ap, _∙_}
-use mathlib.Core.List.{List}
+-- Laws of the tree behind what the reader of trees hands back: its bounds, its first byte, and the two trees of a selector with its cells.
+use Prim.Native.Nat.{ℕ, zero, suc, _+_, _^_, _<_, _≤_}
+use mathlib.Core.Path.{_≡_, refl, sym, ap, ap₂, subst, _∙_}
+use mathlib.Core.Bool.{_&&_}
+use mathlib.Core.List.{List, _++_}
 use native.Mathlib.Omega.{arith}
-use lib.ListN.{drop}
+use lib.Dec.{eqb}
+use lib.ListN.{getD, drop}
+use lib.Seq.{getD-drop}
 use Rattle.base.specs.declared.Refusal.{Refusal}
+use Rattle.base.proofs.Tests.{and-false}
 use Rattle.sheet.specs.Limits.{maxInputs, maxPatterns}
-use Rattle.table.specs.Tree.{Tree, sel, Ordered, selectors}
-use Rattle.stage.specs.Steps.{Read, andThen}
-use Rattle.stage.specs.TreeBytes.{treeBytes}
+use Rattle.table.specs.Cells.{selectorCells}
+use Rattle.table.specs.Tree.{Tree, con, sel, Ordered, wiredTrees, treeCells}
+use Rattle.table.proofs.Trees.{cells-few}
+use Rattle.stage.specs.Steps.{Read, taken, andThen}
+use Rattle.stage.specs.TreeBytes.{constantByte, treeBytes}
 use Rattle.stage.specs.TreeRead.{branchesAt, treeAt}
 use Rattle.stage.specs.Trees.{treeDrawing}
-use Rattle.stage.proofs.TreeReading.{tree-told}
+use Rattle.stage.proofs.TreeReading.{ToldTree, tree-told}
 use Rattle.stage.proofs.TreeTables.{tableOf, table-lt, selectors-few}
 use Rattle.stage_reader.specs.Inner.Tables.{selectOf}
 use Rattle.stage_reader.specs.Inner.Wires.{takenWire, refusedWire, stepOf}
@@ -31,7 +37,36 @@ pub tree-bounds : (s : List ℕ) (n k at t c next : ℕ) → k ≤ n → n ≤ m
     → (t < 2 ^ (2 ^ n)) × (c < maxPatterns)
 tree-bounds s n k at t c next l h e =
     let z = tree-took s n k at t c next e in
-    (rw (z .table) (table-lt n k (z .shape) (z .formed)), rw (z .cells) (selectors-few n k (z .shape) l h (z .formed)))
+    (rw (z .table) (table-lt n k (z .shape) (z .formed)), omega (arith, z .cells, cells-few (z .shape), selectors-few n k (z .shape) l h (z .formed)))
+
+-- the first byte of a tree tells whether it is a constant, and which
+first-byte : (s : List ℕ) (n k at next : ℕ) (x : Tree) → there s n k at ≡ taken x next (drop next s) → getD s at 0 ≡ getD (treeBytes x) 0 0
+unfolding treeBytes
+first-byte s n k at next x e =
+    let told = subst (ToldTree n k at (drop at s)) e (tree-told n k at (drop at s)) in
+    let first : at ≡ at + 0 = omega arith in
+    ap (λ p. getD s p 0) first ∙ sym (getD-drop at s 0 0) ∙ ap (λ (l : List ℕ). getD l 0 0) (told .0) ∙ front x
+  where
+    front : (x : Tree) → getD (treeBytes x ++ drop next s) 0 0 ≡ getD (treeBytes x) 0 0
+    front (con b) = refl
+    front (sel i z o) = refl
+
+zero-byte : (a : ℕ) → a < 2 → eqb (constantByte a) (constantByte 0) ≡ eqb a 0
+zero-byte zero h = refl
+zero-byte (suc zero) h = refl
+zero-byte (suc (suc a)) h = absurd (omega arith)
+
+one-byte : (b : ℕ) → b < 2 → eqb (constantByte b) (constantByte 1) ≡ eqb b 1
+one-byte zero h = refl
+one-byte (suc zero) h = refl
+one-byte (suc (suc b)) h = absurd (omega arith)
+
+wired-bytes : (n k : ℕ) (z o : Tree) → Ordered n k z → Ordered n k o
+    → eqb (getD (treeBytes z) 0 0) (constantByte 0) && eqb (getD (treeBytes o) 0 0) (constantByte 1) ≡ wiredTrees z o
+unfolding treeBytes wiredTrees Ordered
+wired-bytes n k (con a) (con b) g h = rw (zero-byte a g, one-byte b h)
+wired-bytes n k (con a) (sel i y x) g h = and-false (eqb (constantByte a) (constantByte 0))
+wired-bytes n k (sel i y x) o g h = refl
 
 -- the branches of a selector
 module _ (s : List ℕ) (n i at : ℕ) where
@@ -49,12 +84,16 @@ module _ (s : List ℕ) (n i at : ℕ) where
     unfolding branchesAt andThen stepOf
     second-fault f e = rw (z .is, fell treeDrawing n f (there s n i next) e)
 
-    pub both-taken : (u d past r : ℕ) → takenWire u d past ≡ stepOf treeDrawing n (there s n i next) → r ≡ selectOf n i t u
-        → takenWire r (1 + c + d) past ≡ stepOf treeDrawing n (branchesAt (treeAt n i) i at (drop at s))
-    unfolding branchesAt andThen stepOf selectors
-    both-taken u d past r second e =
+    pub both-taken : (u d past r own : ℕ) → takenWire u d past ≡ stepOf treeDrawing n (there s n i next) → r ≡ selectOf n i t u
+        → own ≡ selectorCells (eqb (getD s at 0) (constantByte 0) && eqb (getD s next 0) (constantByte 1))
+        → takenWire r (own + c + d) past ≡ stepOf treeDrawing n (branchesAt (treeAt n i) i at (drop at s))
+    unfolding branchesAt andThen stepOf treeCells
+    both-taken u d past r own second e f =
         let o = tree-took s n i next u d past second in
         let tables = ap (selectOf n i t) (o .table) ∙ ap (λ (x : ℕ). selectOf n i x (tableOf n (o .shape))) (z .table) in
         let a : r ≡ tableOf n (sel i (z .shape) (o .shape)) = e ∙ tables ∙ table-select n i i (z .shape) (o .shape) (z .formed) (o .formed) in
-        let b : 1 + c + d ≡ suc (selectors (z .shape) + selectors (o .shape)) = omega (arith, z .cells, o .cells) in
+        let wired = ap₂ (λ x y. eqb x (constantByte 0) && eqb y (constantByte 1))
+        (first-byte s n i at next (z .shape) (z .is)) (first-byte s n i next past (o .shape) (o .is)) in
+        let cost = f ∙ ap selectorCells (wired ∙ wired-bytes n i (z .shape) (o .shape) (z .formed) (o .formed)) in
+        let b : own + c + d ≡ selectorCells (wiredTrees (z .shape) (o .shape)) + (treeCells (z .shape) + treeCells (o .shape)) = omega (arith, cost, z .cells, o .cells) in
         rw (z .is, o .is) (cc)

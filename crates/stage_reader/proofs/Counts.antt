@@ -7,8 +7,10 @@ use lib.ListN.{length}
 use Rattle.sheet.specs.Limits.{maxInputs}
 use Rattle.nodes.specs.declared.BoardKind.{BoardKind}
 use Rattle.nodes.specs.declared.BoardKind.the-variants.{Tree, Sharing}
+use Rattle.table.proofs.Trees.{cells-few as trees-few}
+use Rattle.table.proofs.Wired.{selector-most}
 use Rattle.stage.proofs.TreeTables.{selectors-few}
-use Rattle.diagram.specs.Diagram.{Entry, mostEntries, entryPrice, entriesCells}
+use Rattle.diagram.specs.Diagram.{Entry, mostEntries, wiredEntry, entryPrice, entriesCells}
 use Rattle.diagram.specs.Forms.{formOf, drawingOf}
 use Rattle.diagram.proofs.Forms.{form-laws}
 use Rattle.stage_reader.specs.Inner.Wires.{takenWire, stepOf}
@@ -17,10 +19,10 @@ use Rattle.stage_reader.proofs.Gather.{wireThere, wire-took}
 pub entries-few : (es : List Entry) → entriesCells es ≤ length es
 unfolding entriesCells entryPrice
 entries-few [] = omega arith
-entries-few (e ∷ es) = omega (arith, entries-few es)
+entries-few (e ∷ es) = omega (arith, selector-most (wiredEntry e), entries-few es)
 
 cells-few : (kind : BoardKind) (n : ℕ) (x : formOf kind .Shape) → n ≤ maxInputs → formOf kind .WellFormed n x → formOf kind .cells x ≤ mostEntries
-cells-few Tree n x h w = omega (arith, selectors-few n 0 x (omega arith) h w)
+cells-few Tree n x h w = omega (arith, trees-few x, selectors-few n 0 x (omega arith) h w)
 cells-few Sharing n x h w = omega (arith, entries-few (x .entries), w .few)
 
 pub wire-few : (kind : BoardKind) (s : List ℕ) (n m j at t c next : ℕ)

@@ -89,12 +89,16 @@ fn keep_entry(
     inputs[own as usize] = i;
 }
 
-// The cells with one entry more: every entry counts, whether or not it repeats another and whether or not anything leads to it.
-fn count_entry(cells: u16) -> u16
-    requires { ⌜ cells ≤ mostEntries ⌝ }
-    ensures { λ r. ⌜ ((e : Entry) → r ≡ entryPrice e + cells) ⌝ }
+// The cells with the entry at a place: one more, whether or not it repeats another and whether or not anything leads to it, but no more where it names the
+// constants 0 and 1 (document 02, E4).
+fn count_entry(s: &[u8], at: usize, cells: u16) -> u16
+    requires { ⌜ (at + 3 ≤ length (now s)) × (cells ≤ mostEntries) ⌝ }
+    ensures { λ r. ⌜ r ≡ entryPrice (entryThere (now (s .entry)) at) + cells ⌝ }
 {
-    1 + cells
+    if s[at + 1] != 0 {
+        return 1 + cells;
+    }
+    if s[at + 2] == 1 { cells } else { 1 + cells }
 }
 
 // The top after the entries: a number that an entry or a constant has.
@@ -137,7 +141,7 @@ fn read_diagram(s: &[u8], from: usize, n: u8, count: u8) -> WireStep
             return WireStep::Refused(Refusal::at(f, at));
         }
         keep_entry(s, at, n, own, &mut tables, &mut inputs);
-        cells = count_entry(cells);
+        cells = count_entry(s, at, cells);
         k += 1;
     }
     read_top(

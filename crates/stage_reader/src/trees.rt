@@ -1,4 +1,4 @@
-// The trees of a stage sheet, each read to its truth table and its selectors.
+// The trees of a stage sheet, each read to its truth table and its cells.
 // Inner functions: `read_on` has tested the sizes before it calls them.
 use crate::due::due_number;
 use crate::due::misplaced_number;
@@ -6,13 +6,18 @@ use crate::due::turn_number;
 use crate::steps::WireStep;
 use crate::tables::select;
 use base::Refusal;
+use base::byte_at;
 use nodes::BoardKind;
 use sheet::limits::all_ones;
 use sheet::limits::count_out;
 ghost use mathlib.Core.Path.{_≡_};
+ghost use mathlib.Core.Bool.{_&&_};
 ghost use Prim.Native.Nat.{_+_, _<_, _≤_};
-ghost use lib.ListN.{length, drop};
+ghost use lib.Dec.{eqb};
+ghost use lib.ListN.{length, getD, drop};
 ghost use Rattle.sheet.specs.Limits.{maxInputs};
+ghost use Rattle.table.specs.Cells.{selectorCells};
+ghost use Rattle.stage.specs.TreeBytes.{constantByte};
 ghost use Rattle.stage.specs.TreeRead.{branchesAt, treeAt, selectorAt, treeWireAt};
 ghost use Rattle.stage.specs.Trees.{treeDrawing};
 ghost use Rattle.stage_reader.specs.Inner.Wires.{wireReply, stepOf};
@@ -61,6 +66,17 @@ fn read_selector(s: &[u8], at: usize, n: u8, k: u8) -> WireStep
     read_branches(s, at + 2, n, i)
 }
 
+// The cells of a selector whose tree for 0 is at a place and whose tree for 1 is at the next (document 02, E4): none where they are the constants 0 and 1. A
+// tree's first byte tells whether it is a constant, and which.
+fn selector_cost(s: &[u8], at: usize, next: usize) -> u16
+    ensures { λ r. ⌜ r ≡ selectorCells (eqb (getD (now (s .entry)) at 0) (constantByte 0) && eqb (getD (now (s .entry)) next 0) (constantByte 1)) ⌝ }
+{
+    if byte_at(s, at) != 0x23 {
+        return 1;
+    }
+    if byte_at(s, next) == 0x24 { 0 } else { 1 }
+}
+
 // The two trees of a selector on input i, the one for 0 at a place and the one for 1 after it.
 fn read_branches(s: &[u8], at: usize, n: u8, i: u8) -> WireStep
     requires { ⌜ (1 ≤ i) × (i ≤ n) × (n ≤ maxInputs) ⌝ }
@@ -86,7 +102,7 @@ fn read_branches(s: &[u8], at: usize, n: u8, i: u8) -> WireStep
     };
     WireStep::Wire {
         table: select(n, i, off, on),
-        cells: 1 + c + d,
+        cells: selector_cost(s, at, next) + c + d,
         next: past,
     }
 }

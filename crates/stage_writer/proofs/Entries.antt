@@ -14,7 +14,7 @@ use Rattle.nodes.specs.Nodes.{Node, listing}
 use Rattle.diagram.specs.Bytes.{entryBytes, entriesBytes, diagramWireBytes}
 use Rattle.diagram.specs.Written.{numberOf, entryOf, entriesOf, reducedDiagram}
 use Rattle.diagram.proofs.Reading.{entries-bytes-length, wire-length}
-use Rattle.diagram.proofs.Reduced.{Closed, listing-closed, entries-length}
+use Rattle.diagram.proofs.Reduced.{Closed, listing-closed, InRange, listing-in, entries-length}
 use Rattle.stage_writer.specs.Inner.Keys.{nodeOf, nodesIn, Keyed}
 use Rattle.stage_writer.proofs.Keys.{nodes-length}
 use Rattle.stage_writer.proofs.Storing.{one-stored}
@@ -38,14 +38,14 @@ unfolding low high
 entry-of-key n before key half z o e p q = rw (p, q, e)
 
 -- what is listed of a table of n inputs are nodes of such a table
-keys-closed : (n : ℕ) (keys : List ℕ) (count : ℕ) → Closed n (nodesIn keys count) → (k : ℕ) → k < count → Keyed n (getD keys k 0)
-unfolding Closed nodesIn
-keys-closed n keys zero c k l = absurd (omega arith)
-keys-closed n keys (suc count) c k l =
-    ⊎-elim (λ (e : k ≡ count). rw e (record { inside = c .0 .inside; bound = c .0 .bound })) (λ b. keys-closed n keys count (c .1) k b) (below-suc l)
+keys-closed : (n : ℕ) (keys : List ℕ) (count : ℕ) → Closed n (nodesIn keys count) → InRange (nodesIn keys count) → (k : ℕ) → k < count → Keyed n (getD keys k 0)
+unfolding Closed InRange nodesIn
+keys-closed n keys zero c i k l = absurd (omega arith)
+keys-closed n keys (suc count) c i k l =
+    ⊎-elim (λ (e : k ≡ count). rw e (record { inside = c .0 .inside; bound = i .0 })) (λ b. keys-closed n keys count (c .1) (i .1) k b) (below-suc l)
 
 pub listed-keyed : (n t : ℕ) (keys : List ℕ) (count : ℕ) → t < 2 ^ (2 ^ n) → nodesIn keys count ≡ listing n t [] → (k : ℕ) → k < count → Keyed n (getD keys k 0)
-listed-keyed n t keys count l e = keys-closed n keys count (rw e (listing-closed n t l))
+listed-keyed n t keys count l e = keys-closed n keys count (rw e (listing-closed n t)) (rw e (listing-in n t l))
 
 -- how long the wire is
 pub wire-bytes : (n t j : ℕ) (keys : List ℕ) (count : ℕ) → nodesIn keys count ≡ listing n t [] → length (diagramWireBytes j (reducedDiagram n t)) ≡ 4 + 3 * count

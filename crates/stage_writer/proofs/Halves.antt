@@ -1,4 +1,5 @@
--- Laws of what is written of a table by the table's halves: its reduced tree and how many bytes that takes, the nodes that are listed, and its number among them.
+-- Laws of what is written of a table by the table's halves: its reduced tree, how many selectors that has and how many bytes it takes, the nodes that are listed,
+-- and its number among them.
 use Prim.Native.Nat.{ℕ, zero, suc, _+_, _^_, _/_, _%_, _-_, _<_}
 use mathlib.Core.Path.{_≡_, refl, ap}
 use mathlib.Core.Bool.{cond}
@@ -9,8 +10,8 @@ use lib.Dec.{eqb}
 use lib.ListN.{length, length-append}
 use borrow.Author.Tests.{eq-eqb, ne-eqb}
 use Rattle.table.specs.Cells.{low, high}
-use Rattle.table.specs.Tree.{Tree, sel, reduced}
-use Rattle.table.proofs.Cells.{low-lt, high-lt}
+use Rattle.table.specs.Tree.{Tree, sel, selectors, reduced}
+use Rattle.table.proofs.Halves.{low-lt, high-lt}
 use Rattle.nodes.specs.Nodes.{Node, node, has, listing}
 use Rattle.stage.specs.TreeBytes.{treeBytes}
 use Rattle.diagram.specs.Written.{nodeNumber, numberOf}
@@ -47,6 +48,14 @@ module _ (w t half : ℕ) (h : w ≡ 0 → ⊥) (e : half ≡ 2 ^ (2 ^ (w - 1)))
 
     pub reduced-two : (t % half ≡ t / half → ⊥) → reduced w k t ≡ sel (k + 1) (reduced (w - 1) (k + 1) (t % half)) (reduced (w - 1) (k + 1) (t / half))
     reduced-two q = simp (reduced-step, ne-eqb _ _ q)
+
+    pub same-selectors : t % half ≡ t / half → selectors (reduced w k t) ≡ selectors (reduced (w - 1) (k + 1) (t % half))
+    same-selectors q = ap selectors (reduced-same q)
+
+    pub two-selectors : (t % half ≡ t / half → ⊥)
+        → selectors (reduced w k t) ≡ 1 + selectors (reduced (w - 1) (k + 1) (t % half)) + selectors (reduced (w - 1) (k + 1) (t / half))
+    unfolding selectors
+    two-selectors q = omega (arith, ap selectors (reduced-two q))
 
     pub same-length : t % half ≡ t / half → length (treeBytes (reduced w k t)) ≡ length (treeBytes (reduced (w - 1) (k + 1) (t % half)))
     same-length q = ap (λ (x : Tree). length (treeBytes x)) (reduced-same q)

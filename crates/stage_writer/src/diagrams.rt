@@ -1,5 +1,5 @@
 // The bytes of a wire that is a diagram: an entry for each node of the wire's table, in the order in which the nodes are listed.
-// Inner functions: `write_on` has tested sizes, tables and buffer before it calls them.
+// Inner functions: `write_on` has tested sizes and tables before it calls them, and the buffer before any of them writes.
 use crate::common::half_of;
 use crate::common::put_three;
 use base::put;

@@ -19,8 +19,8 @@ ghost use Rattle.base.specs.Cases.{writtenCase};
 mod stores; // the bytes of a stage
 mod tables; // the tables that are handed in
 mod wires; // a wire by the board
-mod trees; // the bytes of a tree
-mod diagrams; // the bytes of a diagram
+mod trees; // the selectors of a tree, and its bytes
+mod diagrams; // the nodes of a diagram, and its bytes
 mod common; // what trees and diagrams have in common
 
 // Writes a stage at the start of a buffer and changes nothing behind it; a refusal changes nothing at all.

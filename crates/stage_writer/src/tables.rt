@@ -1,5 +1,5 @@
 // The tables of a stage that is to be written: whether they are in range, their selectors, and how long the stage will be.
-// Inner functions: `write_on` has tested the sizes before it calls them, and the tables before it counts their selectors.
+// Inner functions: `write_on` has tested the sizes before it calls them.
 use crate::wires::frame;
 use crate::wires::selectors;
 use nodes::BoardKind;
@@ -8,8 +8,7 @@ use sheet::limits::bits_past;
 use stage::SELECTOR_BYTES;
 use stage::SHEET_FRAME;
 ghost use mathlib.Core.Path.{_≡_};
-ghost use Prim.Native.Nat.{ℕ, _+_, _*_, _^_, _<_, _≤_};
-ghost use lib.ListN.{getD};
+ghost use Prim.Native.Nat.{_+_, _*_, _≤_};
 ghost use Rattle.sheet.specs.Limits.{maxInputs, maxWires};
 ghost use Rattle.table.specs.Cells.{wires, total};
 ghost use Rattle.stage.specs.Bytes.{sheetFrame, selectorBytes};
@@ -33,7 +32,7 @@ pub fn first_out(n: u8, m: u8, tables: [u16; Sheet::WIRES]) -> u8
 
 // The selectors of a stage whose tables are of n inputs.
 pub fn stage_selectors(kind: BoardKind, n: u8, m: u8, tables: [u16; Sheet::WIRES]) -> u8
-    requires { ⌜ (1 ≤ n) × (n ≤ maxInputs) × (m ≤ maxWires) × ((j : ℕ) → j < m → getD tables j 0 < 2 ^ (2 ^ n)) ⌝ }
+    requires { ⌜ (n ≤ maxInputs) × (m ≤ maxWires) ⌝ }
     ensures { λ r. ⌜ r ≡ total (selectorsOf kind n) m (wires tables) ⌝ }
 {
     let mut all: u8 = 0;

@@ -1,16 +1,34 @@
-// The bytes of a wire that is a tree.
-// Inner functions: `write_on` has tested sizes, tables and buffer before it calls them.
+// A wire that is a tree: how many selectors it has, and its bytes.
+// Inner functions: `write_on` has tested sizes and tables before it calls them, and the buffer before any of them writes.
 use crate::common::half_of;
 use crate::common::put_with_operand;
 use base::put;
 ghost use mathlib.Core.Path.{_≡_};
-ghost use Prim.Native.Nat.{_+_, _≤_};
+ghost use Prim.Native.Nat.{ℕ, _+_, _^_, _<_, _≤_};
 ghost use lib.ListN.{length};
 ghost use Rattle.sheet.specs.Limits.{maxInputs};
-ghost use Rattle.table.specs.Tree.{reduced};
+ghost use Rattle.table.specs.Tree.{selectors, reduced};
 ghost use Rattle.stage.specs.TreeBytes.{constantByte, treeBytes, treeWireBytes};
 ghost use Rattle.diagram.specs.Bytes.{longestShared};
 ghost use Rattle.base.specs.Inner.Put.{Put};
+
+// How many selectors the reduced tree of a table of w inputs has, whatever number k of inputs stand before these. It has fewer than the table has patterns.
+pub fn selector_count(w: u8, t: u16) -> u8
+    requires { ⌜ w ≤ maxInputs ⌝ }
+    ensures { λ r. ⌜ ((k : ℕ) → r ≡ selectors (reduced w k t)) × (r < 2 ^ w) ⌝ }
+{
+    if w == 0 {
+        return 0;
+    }
+    let v = w - 1;
+    let half = half_of(v);
+    let low = t % half;
+    let high = t / half;
+    if low != high {
+        return 1 + selector_count(v, low) + selector_count(v, high);
+    }
+    selector_count(v, low)
+}
 
 // The byte of a constant.
 fn constant(t: u16) -> u8

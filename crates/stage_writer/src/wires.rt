@@ -1,12 +1,12 @@
 // A wire by the board: the only place where the writer looks at which board it writes for.
-// Inner functions: `write_on` has tested sizes, tables and buffer before it calls them.
+// Inner functions: `write_on` has tested sizes and tables before it calls them, and the buffer before any of them writes.
 use crate::diagrams::node_count;
 use crate::diagrams::put_diagram_wire;
 use crate::trees::put_tree_wire;
+use crate::trees::selector_count;
 use diagram::DIAGRAM_FRAME;
 use nodes::BoardKind;
 use stage::TREE_FRAME;
-use table::cell_counts::count;
 ghost use mathlib.Core.Path.{_≡_};
 ghost use Prim.Native.Nat.{_+_, _^_, _<_, _≤_};
 ghost use lib.ListN.{length};
@@ -27,13 +27,13 @@ pub fn frame(kind: BoardKind) -> usize
     }
 }
 
-// The selectors of what is written of a table. Each selector of a tree is a cell, so the cells tell how many there are.
+// The selectors of what is written of a table, whether or not they are cells: each has its bytes.
 pub fn selectors(kind: BoardKind, n: u8, t: u16) -> u8
-    requires { ⌜ (1 ≤ n) × (n ≤ maxInputs) × (t < 2 ^ (2 ^ n)) ⌝ }
+    requires { ⌜ n ≤ maxInputs ⌝ }
     ensures { λ r. ⌜ (r ≡ selectorsOf kind n t) × (r < maxPatterns) ⌝ }
 {
     match kind {
-        BoardKind::Tree => count(n, t),
+        BoardKind::Tree => selector_count(n, t),
         BoardKind::Sharing => node_count(n, t),
     }
 }

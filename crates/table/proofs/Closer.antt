@@ -1,15 +1,15 @@
--- Of two tables the better: of fewer cells, then the smaller. As one number each, the lesser number.
-use Prim.Native.Nat.{ℕ, _+_, _*_, _<_, _≤_, min}
+-- Of two tables the better: the one of the lesser key, then the smaller.
+use Prim.Native.Nat.{ℕ, _≤_, min}
 use mathlib.Core.Path.{_≡_, refl}
 use mathlib.Core.Logic.{_⊎_, inl, inr, ⊎-elim}
 use mathlib.Core.Bool.{cond, not}
 use mathlib.Core.Option.{Option, none, some}
 use native.Mathlib.Omega.{arith}
-use native.Mathlib.Nat.{le-refl, le-antisymm, mul-le-mul-right}
+use native.Mathlib.Nat.{le-refl}
 use lib.Dec.{T, ltb, ltb→lt, nltb→le}
 use Rattle.base.proofs.Tests.{cond-has, decide}
 
--- of two tables the one of fewer cells, then the smaller
+-- of two tables the one of the lesser key, then the smaller
 unfoldable pub closer : (ℕ → ℕ) → ℕ → ℕ → ℕ
 closer key s t = cond (ltb (key s) (key t)) s (cond (ltb (key t) (key s)) t (min s t))
 
@@ -18,7 +18,7 @@ closest key none o = o
 closest key (some s) none = some s
 closest key (some s) (some t) = some (closer key s t)
 
--- s is as good as t: fewer cells, or as many and no greater number
+-- s is as good as t: a lesser key, or the same and no greater number
 pub record Lex (key : ℕ → ℕ) (s t : ℕ) : Type 0 where
   pub fewer : key s ≤ key t
   pub smaller : key t ≤ key s → s ≤ t
@@ -33,7 +33,7 @@ lex-trans key s t u a b =
       smaller = λ h. omega (arith, a .smaller (omega (arith, b .fewer)), b .smaller (omega (arith, a .fewer)));
     }
 
--- fewer cells alone
+-- a lesser key alone
 lex-fewer : (key : ℕ → ℕ) (s t : ℕ) → T (ltb (key s) (key t)) → Lex key s t
 lex-fewer key s t b = let l = ltb→lt (key s) (key t) b in record { fewer = omega arith; smaller = λ h. absurd (omega arith) }
 
@@ -67,29 +67,3 @@ closer-one key s t =
     cond-has (λ x. (x ≡ s) ⊎ (x ≡ t)) (ltb (key s) (key t)) (λ _. inl refl)
     (λ _. cond-has (λ x. (x ≡ s) ⊎ (x ≡ t)) (ltb (key t) (key s)) (λ _. inr refl)
     (λ _. ⊎-elim (λ h. inl (omega (arith, ltb→lt s t h))) (λ h. inr (omega (arith, nltb→le s t h))) (decide (ltb s t))))
-
--- of two ranks the lesser is that of the better pick
-pub closer-rank : (key : ℕ → ℕ) (w s t : ℕ) → s < w → t < w → min (key s * w + s) (key t * w + t) ≡ key (closer key s t) * w + closer key s t
-unfolding closer
-closer-rank key w s t ls lt =
-    cond-has (λ x. min (key s * w + s) (key t * w + t) ≡ key x * w + x) (ltb (key s) (key t))
-    (λ h. omega (arith, mul-le-mul-right w (ltb→lt (key s) (key t) h)))
-    (λ g.
-    cond-has (λ x. min (key s * w + s) (key t * w + t) ≡ key x * w + x) (ltb (key t) (key s))
-    (λ h. omega (arith, mul-le-mul-right w (ltb→lt (key t) (key s) h)))
-    (λ h.
-    let e : key s ≡ key t = le-antisymm (nltb→le (key t) (key s) h) (nltb→le (key s) (key t) g) in
-    ⊎-elim (λ a. let b = ltb→lt s t a in smaller e (omega arith) (omega arith)) (λ a. let b = nltb→le s t a in larger e (omega arith) b)
-    (decide (ltb s t))))
-  where
-    smaller : key s ≡ key t → min s t ≡ s → s ≤ t → min (key s * w + s) (key t * w + t) ≡ key (min s t) * w + min s t
-    smaller e m l = rw (m, ← e) (omega arith)
-
-    larger : key s ≡ key t → min s t ≡ t → t ≤ s → min (key s * w + s) (key t * w + t) ≡ key (min s t) * w + min s t
-    larger e m l = rw (m, e) (omega arith)
-
-pub closer-self : (key : ℕ → ℕ) (j : ℕ) → closer key j j ≡ j
-unfolding closer
-closer-self key j =
-    cond-has (λ z. z ≡ j) (ltb (key j) (key j)) (λ _. refl)
-    (λ _. cond-has (λ z. z ≡ j) (ltb (key j) (key j)) (λ _. refl) (λ _. omega arith))

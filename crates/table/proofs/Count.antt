@@ -3,11 +3,14 @@ use mathlib.Core.Path.{_≡_, _∙_, ap, sym}
 use Prim.Native.Nat.{ℕ, suc, _+_, _*_, _^_, _/_, _%_, _<_}
 use native.Mathlib.Nat.{mod-eq-of-lt}
 use native.Mathlib.Omega.{arith}
-use Rattle.table.specs.Cells.{cells, low, high}
+use lib.Dec.{not-T}
+use Rattle.table.specs.Cells.{cells, low, high, full, wiredTable}
 use Rattle.table.specs.Inner.Blocks.{oneSpace, threeSpace}
 use Rattle.table.specs.Inner.Pairs.{blockSpace}
-use Rattle.table.proofs.Cells.{cells-lt, cells-same, cells-differ, cells-halves}
-use Rattle.table.proofs.Halving.{join, counted-twice}
+use Rattle.table.specs.Inner.Lines.{line}
+use Rattle.table.proofs.Halves.{join}
+use Rattle.table.proofs.Wired.{wired-line, line-wired, not-wired-one}
+use Rattle.table.proofs.Cells.{cells-lt, cells-same, cells-differ, wired-cells, cells-halves, counted-twice}
 
 -- a table repeated has no more cells
 pub repeated : (n t : ℕ) → t < 2 ^ (2 ^ n) → cells (suc n) (t * 2 ^ (2 ^ n) + t) ≡ cells n t
@@ -50,9 +53,15 @@ module _ (t : ℕ) (h : t < 2 ^ (2 ^ 4)) where
   unfolding low high
   of-four-alike e = sym (cells-same 3 t (e ∙ upper))
 
-  pub of-four : {x y : ℕ} → (t % threeSpace ≡ t / threeSpace % threeSpace → ⊥) → x ≡ cells 3 (t % threeSpace) → y ≡ cells 3 (t / threeSpace % threeSpace)
-      → 1 + x + y ≡ cells 4 t
-  unfolding low high
-  of-four ne ex ey =
+  -- input 1 is the line of four inputs
+  pub of-input-one : t ≡ 0xFF00 → 0 ≡ cells 4 t
+  unfolding line full
+  of-input-one e = sym (ap (cells 4) e ∙ wired-cells 3 (line 3) (line-wired 3))
+
+  pub of-four : {x y : ℕ} → (t % threeSpace ≡ t / threeSpace % threeSpace → ⊥) → (t ≡ 0xFF00 → ⊥) → x ≡ cells 3 (t % threeSpace)
+      → y ≡ cells 3 (t / threeSpace % threeSpace) → 1 + x + y ≡ cells 4 t
+  unfolding low high line full
+  of-four ne nl ex ey =
       let d = cells-differ 3 t (λ e. ne (e ∙ sym upper)) in
-      omega (arith, d, ex, ey ∙ ap (cells 3) upper)
+      let one = not-wired-one (wiredTable 3 t) (not-T (wiredTable 3 t) (λ w. nl (wired-line 3 t w))) in
+      omega (arith, d, one, ex, ey ∙ ap (cells 3) upper)

@@ -1,261 +1,241 @@
--- The pick by halving: over the width, the least table is one common half twice, or two halves under a selector.
-use Prim.Native.Nat.{ℕ, zero, suc, _+_, _*_, _^_, _/_, _%_, _-_, _<_, _≤_}
+-- The pick by halving, over the width and over the key: the least table is one common half twice, two halves under a selector, or the soldered line.
+use Prim.Native.Nat.{ℕ, zero, suc, _+_, _^_, _<_, _≤_}
 use mathlib.Core.Path.{_≡_, refl, sym, ap, subst, _∙_}
 use mathlib.Core.Logic.{_⊎_, inl, inr, ⊎-elim}
-use mathlib.Core.Bool.{cond, _&&_}
+use mathlib.Core.Bool.{cond}
 use mathlib.Core.Option.{Option, none, some}
 use native.Mathlib.Omega.{arith}
-use native.Mathlib.Nat.{le-antisymm, mul-le-mul-right, two-pow-succ, mod-add-div', add-comm}
-use lib.Dec.{T, T-not, eqb, ltb, ltb→lt, nltb→le, eqb→eq}
-use lib.Arith.{digits-lt, digits-div, digits-mod}
-use lib.Pow.{pow-add}
-use Rattle.base.proofs.Tests.{cond-has, and-intro, and-left, and-right, decide, eq-test}
-use Rattle.table.specs.Bits.{bit, all}
-use Rattle.table.specs.Cells.{low, high, cells}
+use native.Mathlib.Nat.{le-antisymm}
+use lib.Dec.{T, T-not, eqb, eqb→eq}
+use Rattle.base.proofs.Tests.{cond-has, decide, eq-test, test-yes}
+use Rattle.table.specs.Cells.{low, high, wiredTable, cells}
 use Rattle.table.specs.Pick.{Proj, suits, least, leastOf}
-use Rattle.table.proofs.Below.{all-at, all-intro}
-use Rattle.table.proofs.Bits.{bit-zero}
-use Rattle.table.proofs.Cells.{ByHalves, low-lt, high-lt, low-bit, high-bit, cells-same, cells-differ, cells-most, cells-halves}
-use Rattle.table.proofs.Closer.{closer, closest, Lex, lex-trans, closer-left, closer-right, closer-one}
+use Rattle.table.specs.Inner.Lines.{line}
+use Rattle.table.proofs.Halves.{low-lt, high-lt, join, join-low, join-high, join-lt, join-halves, join-le}
+use Rattle.table.proofs.Wired.{line-lt, wired-line, not-wired-one, selector-most}
+use Rattle.table.proofs.Cells.{cells-differ, cells-most, cells-halves, counted-twice}
+use Rattle.table.proofs.Closer.{closer, closest, Lex, lex-refl, lex-trans, closer-left, closer-right, closer-one}
 use Rattle.table.proofs.Least.{Least, least-is}
+use Rattle.table.proofs.Suited.{upper, common, suits-low, suits-high, suits-common, common-suits, join-suits}
 
--- the projection where the first input is 1, and what both halves have
-unfoldable pub upper : ℕ → Proj → Proj
-upper r P p b = P (p + 1 * 2 ^ r) b
+-- What a key must obey at the step from r inputs to r + 1, where `step` is what a selector adds: a half twice keeps the order of keys both ways; two halves cost
+-- no more than a selector and both, and no less where they differ and are not the line of the first input.
+pub record KeyHalves (key : ℕ → ℕ → ℕ) (step r : ℕ) : Type 0 where
+  pub same : (s t : ℕ) → s < 2 ^ (2 ^ r) → t < 2 ^ (2 ^ r) → key r s ≤ key r t → key (suc r) (join r s s) ≤ key (suc r) (join r t t)
+  pub back : (s t : ℕ) → s < 2 ^ (2 ^ r) → t < 2 ^ (2 ^ r) → key (suc r) (join r s s) ≤ key (suc r) (join r t t) → key r s ≤ key r t
+  pub most : (h l : ℕ) → h < 2 ^ (2 ^ r) → l < 2 ^ (2 ^ r) → key (suc r) (join r h l) ≤ step + (key r l + key r h)
+  pub two : (h l : ℕ) → h < 2 ^ (2 ^ r) → l < 2 ^ (2 ^ r) → (l ≡ h → ⊥) → (join r h l ≡ line r → ⊥) → step + (key r l + key r h) ≤ key (suc r) (join r h l)
 
-unfoldable pub common : ℕ → Proj → Proj
-common r P p b = P p b && P (p + 1 * 2 ^ r) b
+-- the cells are such a key
+pub cells-key : (r : ℕ) → KeyHalves cells 1 r
+cells-key r =
+    let twice = counted-twice cells cells-halves r in
+    record {
+      same = λ s t ls lt h. omega (arith, twice s ls, twice t lt);
+      back = λ s t ls lt h. omega (arith, twice s ls, twice t lt);
+      most = λ h l lh ll. let x = join r h l in omega (arith, cells-most r x, selector-most (wiredTable r x), parts h l lh ll .0, parts h l lh ll .1);
+      two = λ h l lh ll ne nl.
+          let x = join r h l in
+          let d : low r x ≡ high r x → ⊥ = λ e. ne (sym (join-low r h l lh ll) ∙ e ∙ join-high r h l lh ll) in
+          let one = ⊎-elim (λ w. absurd (nl (wired-line r x w))) (not-wired-one (wiredTable r x)) (decide (wiredTable r x)) in
+          omega (arith, cells-differ r x d, one, parts h l lh ll .0, parts h l lh ll .1);
+    }
+  where
+    parts : (h l : ℕ) → h < 2 ^ (2 ^ r) → l < 2 ^ (2 ^ r)
+        → (cells r (low r (join r h l)) ≡ cells r l) × (cells r (high r (join r h l)) ≡ cells r h)
+    parts h l lh ll = (ap (cells r) (join-low r h l lh ll), ap (cells r) (join-high r h l lh ll))
 
--- a table of two halves
-unfoldable pub join : ℕ → ℕ → ℕ → ℕ
-join r h l = h * 2 ^ (2 ^ r) + l
+-- the best table that suits a projection
+pub record Best (key : ℕ → ℕ) (n : ℕ) (P : Proj) (t : ℕ) : Type 0 where
+  pub inside : t < 2 ^ (2 ^ n)
+  pub suited : T (suits n P t)
+  pub first : (s : ℕ) → s < 2 ^ (2 ^ n) → T (suits n P s) → Lex key t s
 
+abbrev pub BestTable : (ℕ → ℕ) → ℕ → Proj → Option ℕ → Type 0
+BestTable key n P none = (s : ℕ) → s < 2 ^ (2 ^ n) → T (suits n P s) → ⊥
+BestTable key n P (some t) = Best key n P t
+
+-- the least table of all is the best
+pub least-best : (key : ℕ → ℕ) (n : ℕ) (P : Proj) → BestTable key n P (leastOf key n P)
+unfolding leastOf
+least-best key n P = go (least key (suits n P) (2 ^ (2 ^ n))) (least-is key (suits n P) (2 ^ (2 ^ n)))
+  where
+    go : (o : Option ℕ) → Least key (suits n P) (2 ^ (2 ^ n)) o → BestTable key n P o
+    go none h = h
+    go (some t) h = record { inside = h .0; suited = h .1; first = λ s ls ss. record { fewer = h .2 s ls ss; smaller = h .3 s ls ss } }
+
+-- there is one best only
+pub best-only : (key : ℕ → ℕ) (n : ℕ) (P : Proj) (o q : Option ℕ) → BestTable key n P o → BestTable key n P q → o ≡ q
+best-only key n P none none a b = refl
+best-only key n P none (some t) a b = absurd (a t (b .inside) (b .suited))
+best-only key n P (some s) none a b = absurd (b s (a .inside) (a .suited))
+best-only key n P (some s) (some t) a b =
+    let f = a .first t (b .inside) (b .suited) in
+    let g = b .first s (a .inside) (a .suited) in
+    ap {B = Option ℕ} some (le-antisymm (f .smaller (g .fewer)) (g .smaller (f .fewer)))
+
+-- a candidate suits, where there is one; and it beats a table, to which it is as good
+abbrev pub Candidate : ℕ → Proj → Option ℕ → Type 0
+Candidate n P none = Unit {0}
+Candidate n P (some t) = (t < 2 ^ (2 ^ n)) × T (suits n P t)
+
+abbrev pub Beats : (ℕ → ℕ) → Option ℕ → ℕ → Type 0
+Beats key none s = ⊥
+Beats key (some t) s = Lex key t s
+
+module _ (key : ℕ → ℕ) where
+  closest-left : (a b : Option ℕ) (s : ℕ) → Beats key a s → Beats key (closest key a b) s
+  unfolding closest
+  closest-left none b s h = absurd h
+  closest-left (some t) none s h = h
+  closest-left (some t) (some u) s h = lex-trans key (closer key t u) t s (closer-left key t u) h
+
+  closest-right : (a b : Option ℕ) (s : ℕ) → Beats key b s → Beats key (closest key a b) s
+  unfolding closest
+  closest-right none b s h = h
+  closest-right (some t) none s h = absurd h
+  closest-right (some t) (some u) s h = lex-trans key (closer key t u) u s (closer-right key t u) h
+
+  closest-candidate : (n : ℕ) (P : Proj) (a b : Option ℕ) → Candidate n P a → Candidate n P b → Candidate n P (closest key a b)
+  unfolding closest
+  closest-candidate n P none b x y = y
+  closest-candidate n P (some t) none x y = x
+  closest-candidate n P (some t) (some u) x y = ⊎-elim (λ e. rw e x) (λ e. rw e y) (closer-one key t u)
+
+  best-of : (n : ℕ) (P : Proj) (o : Option ℕ) → Candidate n P o → ((s : ℕ) → s < 2 ^ (2 ^ n) → T (suits n P s) → Beats key o s) → BestTable key n P o
+  best-of n P none x h = h
+  best-of n P (some t) x h = record { inside = x .0; suited = x .1; first = h }
+
+-- two halves as a table, where there are both
 unfoldable pub joins : ℕ → Option ℕ → Option ℕ → Option ℕ
 joins r none o = none
 joins r (some h) none = none
 joins r (some h) (some l) = some (join r h l)
 
--- the best table that suits a projection
-pub record Best (r : ℕ) (P : Proj) (t : ℕ) : Type 0 where
-  pub inside : t < 2 ^ (2 ^ r)
-  pub suited : T (suits r P t)
-  pub first : (s : ℕ) → s < 2 ^ (2 ^ r) → T (suits r P s) → Lex (cells r) t s
+-- the line of the first input, where it suits
+unfoldable pub fitting : ℕ → Proj → Option ℕ
+fitting r P = cond (suits (suc r) P (line r)) (some (line r)) none
 
-abbrev pub BestTable : ℕ → Proj → Option ℕ → Type 0
-BestTable r P none = (s : ℕ) → s < 2 ^ (2 ^ r) → T (suits r P s) → ⊥
-BestTable r P (some t) = Best r P t
-
--- halves of a joined table
-module _ (r h l : ℕ) (lh : h < 2 ^ (2 ^ r)) (ll : l < 2 ^ (2 ^ r)) where
-  pub join-low : low r (join r h l) ≡ l
-  unfolding low join
-  join-low = digits-mod h ll
-
-  pub join-high : high r (join r h l) ≡ h
-  unfolding high join
-  join-high = digits-div h ll
-
-  pub join-lt : join r h l < 2 ^ (2 ^ suc r)
-  unfolding join
-  join-lt = rw (two-pow-succ r, pow-add) (digits-lt lh ll)
-
-pub join-halves : (r t : ℕ) → t ≡ join r (high r t) (low r t)
-unfolding join high low
-join-halves r t = sym (mod-add-div' t (2 ^ (2 ^ r))) ∙ add-comm (t % 2 ^ (2 ^ r)) (t / 2 ^ (2 ^ r) * 2 ^ (2 ^ r))
-
-pub join-le : (r h l h′ l′ : ℕ) → h ≤ h′ → l ≤ l′ → join r h l ≤ join r h′ l′
-unfolding join
-join-le r h l h′ l′ a b = omega (arith, mul-le-mul-right (2 ^ (2 ^ r)) a)
-
--- the halves of a table are the same, or they are not
-pub same-halves : (r x : ℕ) → (low r x ≡ high r x) ⊎ (low r x ≡ high r x → ⊥)
-same-halves r x =
-    ⊎-elim (λ y. inl (eqb→eq (low r x) (high r x) y)) (λ n. inr (λ e. T-not (eqb (low r x) (high r x)) n (eq-test e))) (decide (eqb (low r x) (high r x)))
-
--- a half twice counts as the half
-pub counted-twice : (count : ℕ → ℕ → ℕ) → ByHalves count → (r t : ℕ) → t < 2 ^ (2 ^ r) → count (suc r) (join r t t) ≡ count r t
-counted-twice count by r t l =
-    let e = join-low r t t l l in
-    by .alike r (join r t t) (e ∙ sym (join-high r t t l l)) ∙ ap (count r) e
-
--- a table suits where its halves do
-module _ (r : ℕ) (P : Proj) (t : ℕ) where
-  pub suits-low : T (suits (suc r) P t) → T (suits r P (low r t))
-  unfolding suits
-  suits-low s =
-      all-intro (2 ^ r) (λ p. P p (bit (low r t) p))
-      (λ p l. rw (low-bit r t p l) (all-at (2 ^ suc r) (λ p. P p (bit t p)) s p (omega arith)))
-
-  pub suits-high : T (suits (suc r) P t) → T (suits r (upper r P) (high r t))
-  unfolding suits upper
-  suits-high s =
-      all-intro (2 ^ r) (λ p. P (p + 1 * 2 ^ r) (bit (high r t) p))
-      (λ p l. rw (high-bit r t p) (all-at (2 ^ suc r) (λ p. P p (bit t p)) s (p + 1 * 2 ^ r) (omega arith)))
-
-  pub suits-both : T (suits r P (low r t)) → T (suits r (upper r P) (high r t)) → T (suits (suc r) P t)
-  unfolding suits upper
-  suits-both a b =
-      all-intro (2 ^ suc r) (λ p. P p (bit t p))
-      (λ p l.
-      ⊎-elim (λ h. let g = ltb→lt p (2 ^ r) h in rw (low-bit r t p g) at (all-at (2 ^ r) (λ p. P p (bit (low r t) p)) a p g))
-      (λ h.
-      let g = nltb→le p (2 ^ r) h in
-      let e : p - 2 ^ r + 1 * 2 ^ r ≡ p = omega arith in
-      rw (high-bit r t (p - 2 ^ r), e) at (all-at (2 ^ r) (λ p. P (p + 1 * 2 ^ r) (bit (high r t) p)) b (p - 2 ^ r) (omega arith)))
-      (decide (ltb p (2 ^ r))))
-
-pub suits-common : (r : ℕ) (P : Proj) (t : ℕ) → T (suits r P t) → T (suits r (upper r P) t) → T (suits r (common r P) t)
-unfolding suits upper common
-suits-common r P t a b =
-    all-intro (2 ^ r) (λ p. P p (bit t p) && P (p + 1 * 2 ^ r) (bit t p))
-    (λ p l. and-intro (P p (bit t p)) (P (p + 1 * 2 ^ r) (bit t p)) (all-at (2 ^ r) (λ p. P p (bit t p)) a p l)
-    (all-at (2 ^ r) (λ p. P (p + 1 * 2 ^ r) (bit t p)) b p l))
-
-pub common-suits : (r : ℕ) (P : Proj) (t : ℕ) → T (suits r (common r P) t) → T (suits r P t) × T (suits r (upper r P) t)
-unfolding suits upper common
-common-suits r P t s =
-    let f : (p : ℕ) → p < 2 ^ r → T (P p (bit t p) && P (p + 1 * 2 ^ r) (bit t p)) =
-    all-at (2 ^ r) (λ p. P p (bit t p) && P (p + 1 * 2 ^ r) (bit t p)) s in (
-      all-intro (2 ^ r) (λ p. P p (bit t p)) (λ p l. and-left (P p (bit t p)) (P (p + 1 * 2 ^ r) (bit t p)) (f p l)),
-      all-intro (2 ^ r) (λ p. P (p + 1 * 2 ^ r) (bit t p)) (λ p l. and-right (P p (bit t p)) (P (p + 1 * 2 ^ r) (bit t p)) (f p l)),
-    )
-
-module _ (r : ℕ) (P : Proj) where
-  pub join-suits : (h l : ℕ) → h < 2 ^ (2 ^ r) → l < 2 ^ (2 ^ r) → T (suits r (upper r P) h) → T (suits r P l) → T (suits (suc r) P (join r h l))
-  join-suits h l lh ll a b = suits-both r P (join r h l) (rw (join-low r h l lh ll) b) (rw (join-high r h l lh ll) a)
-
-  -- the common half against tables of equal halves
-  pub same-first : (c : ℕ) → Best r (common r P) c → (s : ℕ) → s < 2 ^ (2 ^ suc r) → T (suits (suc r) P s) → low r s ≡ high r s
-      → Lex (cells (suc r)) (join r c c) s
-  same-first c b s ls ss e =
-      let lc = b .inside in
-      let d = b .first (low r s) (low-lt r s) (suits-common r P (low r s) (suits-low r P s ss) (rw e (suits-high r P s ss))) in
-      let j = counted-twice cells cells-halves r c lc in
-      let k = cells-same r s e in
+module _ (key : ℕ → ℕ → ℕ) (step r : ℕ) (laws : KeyHalves key step r) (P : Proj) where
+  -- the common half against a half twice
+  pub same-beats : (c : Option ℕ) → BestTable (key r) r (common r P) c → (h : ℕ) → h < 2 ^ (2 ^ r) → T (suits r (common r P) h)
+      → Beats (key (suc r)) (joins r c c) (join r h h)
+  unfolding joins
+  same-beats none b h lh sh = b h lh sh
+  same-beats (some c) b h lh sh =
+      let d = b .first h lh sh in
       record {
-        fewer = omega (arith, d .fewer);
-        smaller = λ g.
-            let m = d .smaller (omega arith) in
-            subst (λ x. join r c c ≤ x) (sym (join-halves r s)) (join-le r c c (high r s) (low r s) (rw e at m) m);
+        fewer = laws .same c h (b .inside) lh (d .fewer);
+        smaller = λ g. let m = d .smaller (laws .back h c lh (b .inside) g) in join-le r c c h h m m;
       }
 
-  -- two halves against tables of different halves
-  pub apart-first : (h l : ℕ) → Best r (upper r P) h → Best r P l → (s : ℕ) → s < 2 ^ (2 ^ suc r) → T (suits (suc r) P s) → (low r s ≡ high r s → ⊥)
-      → Lex (cells (suc r)) (join r h l) s
-  apart-first h l bh bl s ls ss e =
-      let dl = bl .first (low r s) (low-lt r s) (suits-low r P s ss) in
-      let dh = bh .first (high r s) (high-lt r s ls) (suits-high r P s ss) in
-      let j : cells (suc r) (join r h l) ≤ suc (cells r l + cells r h) =
-      rw (join-low r h l (bh .inside) (bl .inside), join-high r h l (bh .inside) (bl .inside)) at (cells-most r (join r h l)) in
-      let k = cells-differ r s e in
-      record {
-        fewer = omega (arith, dl .fewer, dh .fewer);
-        smaller = λ g.
-            subst (λ x. join r h l ≤ x) (sym (join-halves r s))
-            (join-le r h l (high r s) (low r s) (dh .smaller (omega (arith, dl .fewer, dh .fewer))) (dl .smaller (omega (arith, dl .fewer, dh .fewer))));
-      }
+  -- two halves against halves that differ and are not the line: the sum of keys is no greater, and of equals the number
+  pub apart-first : (h l h′ l′ : ℕ) → Best (key r) r (upper r P) h → Best (key r) r P l → h′ < 2 ^ (2 ^ r) → l′ < 2 ^ (2 ^ r) → T (suits r (upper r P) h′)
+      → T (suits r P l′) → (key r l + key r h ≤ key r l′ + key r h′) × (key r l′ + key r h′ ≤ key r l + key r h → join r h l ≤ join r h′ l′)
+  apart-first h l h′ l′ bh bl lh ll sh sl =
+      let dh = bh .first h′ lh sh in
+      let dl = bl .first l′ ll sl in (
+        omega (arith, dl .fewer, dh .fewer),
+        λ g. join-le r h l h′ l′ (dh .smaller (omega (arith, dl .fewer, dh .fewer))) (dl .smaller (omega (arith, dl .fewer, dh .fewer))),
+      )
 
-  -- of a common half and two halves the closer one
-  either : (c h l : ℕ) → Best r (common r P) c → Best r (upper r P) h → Best r P l → Best (suc r) P (closer (cells (suc r)) (join r c c) (join r h l))
-  either c h l bc bh bl =
-      let key = cells (suc r) in
-      let a = join r c c in
-      let b = join r h l in
-      let sc = common-suits r P c (bc .suited) in
-      record {
-        inside = ⊎-elim (λ e. rw e (join-lt r c c (bc .inside) (bc .inside))) (λ e. rw e (join-lt r h l (bh .inside) (bl .inside))) (closer-one key a b);
-        suited = ⊎-elim (λ e. rw e (join-suits c c (bc .inside) (bc .inside) (sc .1) (sc .0)))
-            (λ e. rw e (join-suits h l (bh .inside) (bl .inside) (bh .suited) (bl .suited))) (closer-one key a b);
-        first = λ s ls ss.
-            ⊎-elim (λ e. lex-trans key (closer key a b) a s (closer-left key a b) (same-first c bc s ls ss e))
-            (λ e. lex-trans key (closer key a b) b s (closer-right key a b)
-            (apart-first h l bh bl s ls ss e)) (same-halves r s);
-      }
+  apart-beats : (h l : Option ℕ) → BestTable (key r) r (upper r P) h → BestTable (key r) r P l → (h′ l′ : ℕ) → h′ < 2 ^ (2 ^ r) → l′ < 2 ^ (2 ^ r)
+      → T (suits r (upper r P) h′) → T (suits r P l′) → (l′ ≡ h′ → ⊥) → (join r h′ l′ ≡ line r → ⊥) → Beats (key (suc r)) (joins r h l) (join r h′ l′)
+  unfolding joins
+  apart-beats none l bh bl h′ l′ lh ll sh sl ne nl = bh h′ lh sh
+  apart-beats (some h) none bh bl h′ l′ lh ll sh sl ne nl = bl l′ ll sl
+  apart-beats (some h) (some l) bh bl h′ l′ lh ll sh sl ne nl =
+      let f = apart-first h l h′ l′ bh bl lh ll sh sl in
+      let j = laws .most h l (bh .inside) (bl .inside) in
+      let k = laws .two h′ l′ lh ll ne nl in
+      record { fewer = omega (arith, f .0); smaller = λ g. f .1 (omega arith) }
 
-  pub step : (c h l : Option ℕ) → BestTable r (common r P) c → BestTable r (upper r P) h → BestTable r P l
-      → BestTable (suc r) P (closest (cells (suc r)) (joins r c c) (joins r h l))
-  unfolding closest joins
-  step none none l bc bh bl = λ s ls ss. bh (high r s) (high-lt r s ls) (suits-high r P s ss)
-  step none (some h) none bc bh bl = λ s ls ss. bl (low r s) (low-lt r s) (suits-low r P s ss)
-  step none (some h) (some l) bc bh bl =
-      record {
-        inside = join-lt r h l (bh .inside) (bl .inside);
-        suited = join-suits h l (bh .inside) (bl .inside) (bh .suited) (bl .suited);
-        first = λ s ls ss. apart-first h l bh bl s ls ss
-            (λ e. bc (low r s) (low-lt r s) (suits-common r P (low r s) (suits-low r P s ss) (rw e (suits-high r P s ss))));
-      }
-  step (some c) none l bc bh bl = absurd (bh c (bc .inside) (common-suits r P c (bc .suited) .1))
-  step (some c) (some h) none bc bh bl = absurd (bl c (bc .inside) (common-suits r P c (bc .suited) .0))
-  step (some c) (some h) (some l) bc bh bl = either c h l bc bh bl
+  pub line-beats : (s : ℕ) → s ≡ line r → T (suits (suc r) P s) → Beats (key (suc r)) (fitting r P) s
+  unfolding fitting
+  line-beats s e ss = rw (e, test-yes (suits (suc r) P (line r)) (rw e at ss)) (lex-refl (key (suc r)) (line r))
 
--- one pattern
-two : (s : ℕ) → s < 2 → (s ≡ 0) ⊎ (s ≡ 1)
-two zero h = inl refl
-two (suc zero) h = inr refl
-two (suc (suc s)) h = absurd (omega arith)
+  -- the candidates suit
+  pub pair-candidate : (h l : Option ℕ) → BestTable (key r) r (upper r P) h → BestTable (key r) r P l → Candidate (suc r) P (joins r h l)
+  unfolding joins
+  pair-candidate none l bh bl = tt
+  pair-candidate (some h) none bh bl = tt
+  pair-candidate (some h) (some l) bh bl =
+      (join-lt r h l (bh .inside) (bl .inside), join-suits r P h l (bh .inside) (bl .inside) (bh .suited) (bl .suited))
 
-suits-zero : (P : Proj) (s : ℕ) → s < 2 → T (suits 0 P s) → T (P 0 s)
-unfolding suits all
-suits-zero P s h t = rw (bit-zero s h) at t
+  pub same-candidate : (c : Option ℕ) → BestTable (key r) r (common r P) c → Candidate (suc r) P (joins r c c)
+  unfolding joins
+  same-candidate none b = tt
+  same-candidate (some c) b =
+      let s = common-suits r P c (b .suited) in
+      (join-lt r c c (b .inside) (b .inside), join-suits r P c c (b .inside) (b .inside) (s .1) (s .0))
 
-zero-suits : (P : Proj) (s : ℕ) → s < 2 → T (P 0 s) → T (suits 0 P s)
-unfolding suits all
-zero-suits P s h t = rw (bit-zero s h) t
+  pub line-candidate : Candidate (suc r) P (fitting r P)
+  unfolding fitting
+  line-candidate = cond-has (Candidate (suc r) P) (suits (suc r) P (line r)) (λ s. (line-lt r, s)) (λ _. tt)
 
-single : (P : Proj) → BestTable 0 P (cond (P 0 0) (some 0) (cond (P 0 1) (some 1) none))
-unfolding cells
-single P =
-    cond-has (BestTable 0 P) (P 0 0) (λ t. smallest 0 (omega arith) t (λ s ls ss. omega arith))
-    (λ f.
-    let no : (s : ℕ) → s < 2 → T (suits 0 P s) → s ≡ 0 → ⊥ = λ s l ss e. T-not (P 0 0) f (rw e at (suits-zero P s l ss)) in
-    cond-has (BestTable 0 P) (P 0 1) (λ t. smallest 1 (omega arith) t (λ s ls ss. ⊎-elim (λ e. absurd (no s ls ss e)) (λ e. omega arith) (two s ls)))
-    (λ g s ls ss. ⊎-elim (λ e. no s ls ss e) (λ e. T-not (P 0 1) g (rw e at (suits-zero P s ls ss))) (two s ls)))
-  where
-    -- no table of no input has a cell, so the smallest that suits is the best
-    smallest : (b : ℕ) → b < 2 → T (P 0 b) → ((s : ℕ) → s < 2 → T (suits 0 P s) → b ≤ s) → Best 0 P b
-    smallest b l t f =
-        record { inside = l; suited = zero-suits P b l t; first = λ s ls ss. record { fewer = omega arith; smaller = λ _. f s ls ss } }
+  -- every table that suits is of one of three kinds
+  pub by-kinds : (Q : ℕ → Type 0)
+      → ((h : ℕ) → h < 2 ^ (2 ^ r) → T (suits r (common r P) h) → Q (join r h h))
+      → ((h l : ℕ) → h < 2 ^ (2 ^ r) → l < 2 ^ (2 ^ r) → T (suits r (upper r P) h) → T (suits r P l) → (l ≡ h → ⊥) → (join r h l ≡ line r → ⊥) → Q (join r h l))
+      → ((s : ℕ) → s ≡ line r → T (suits (suc r) P s) → Q s)
+      → (s : ℕ) → s < 2 ^ (2 ^ suc r) → T (suits (suc r) P s) → Q s
+  by-kinds Q same apart straight s ls ss =
+      let h = high r s in
+      let l = low r s in
+      let lh = high-lt r s ls in
+      let ll = low-lt r s in
+      let sh = suits-high r P s ss in
+      let sl = suits-low r P s ss in
+      let e = join-halves r s in
+      ⊎-elim
+      (λ t. let d = eqb→eq l h t in
+      subst Q (sym (e ∙ ap (join r h) d)) (same h lh (suits-common r P h (subst (λ x. T (suits r P x)) d sl) sh)))
+      (λ f.
+      ⊎-elim (λ t. straight s (eqb→eq s (line r) t) ss)
+      (λ g. subst Q (sym e) (apart h l lh ll sh sl (λ d. T-not (eqb l h) f (eq-test d)) (λ d. T-not (eqb s (line r)) g (eq-test (e ∙ d)))))
+      (decide (eqb s (line r))))
+      (decide (eqb l h))
 
--- the least table of all is the best
-pub least-best : (r : ℕ) (P : Proj) → BestTable r P (leastOf (cells r) r P)
-unfolding leastOf
-least-best r P = go (least (cells r) (suits r P) (2 ^ (2 ^ r))) (least-is (cells r) (suits r P) (2 ^ (2 ^ r)))
-  where
-    go : (o : Option ℕ) → Least (cells r) (suits r P) (2 ^ (2 ^ r)) o → BestTable r P o
-    go none h = h
-    go (some t) h = record { inside = h .0; suited = h .1; first = λ s ls ss. record { fewer = h .2 s ls ss; smaller = h .3 s ls ss } }
+  step-best : (c h l : Option ℕ) → BestTable (key r) r (common r P) c → BestTable (key r) r (upper r P) h → BestTable (key r) r P l
+      → BestTable (key (suc r)) (suc r) P (closest (key (suc r)) (closest (key (suc r)) (joins r c c) (fitting r P)) (joins r h l))
+  step-best c h l bc bh bl =
+      let k = key (suc r) in
+      let a = joins r c c in
+      let b = joins r h l in
+      let d = fitting r P in
+      best-of k (suc r) P (closest k (closest k a d) b)
+      (closest-candidate k (suc r) P (closest k a d) b (closest-candidate k (suc r) P a d (same-candidate c bc) line-candidate) (pair-candidate h l bh bl))
+      (by-kinds (Beats k (closest k (closest k a d) b))
+      (λ x lx sx. closest-left k (closest k a d) b (join r x x) (closest-left k a d (join r x x) (same-beats c bc x lx sx)))
+      (λ x y lx ly sx sy ne nl. closest-right k (closest k a d) b (join r x y) (apart-beats h l bh bl x y lx ly sx sy ne nl))
+      (λ s e ss. closest-left k (closest k a d) b s (closest-right k a d s (line-beats s e ss))))
 
--- there is one best only
-pub best-only : (r : ℕ) (P : Proj) (o q : Option ℕ) → BestTable r P o → BestTable r P q → o ≡ q
-best-only r P none none a b = refl
-best-only r P none (some t) a b = absurd (a t (b .inside) (b .suited))
-best-only r P (some s) none a b = absurd (b s (a .inside) (a .suited))
-best-only r P (some s) (some t) a b =
-    let f = a .first t (b .inside) (b .suited) in
-    let g = b .first s (a .inside) (a .suited) in
-    ap {B = Option ℕ} some (le-antisymm (f .smaller (g .fewer)) (g .smaller (f .fewer)))
-
--- the least table of one input more, from three of its halves
-pub least-halves : (r : ℕ) (P : Proj)
-    → leastOf (cells (suc r)) (suc r) P
-    ≡ closest (cells (suc r)) (joins r (leastOf (cells r) r (common r P)) (leastOf (cells r) r (common r P)))
-    (joins r (leastOf (cells r) r (upper r P)) (leastOf (cells r) r P))
-least-halves r P =
-    best-only (suc r) P (leastOf (cells (suc r)) (suc r) P)
-    (closest (cells (suc r)) (joins r (leastOf (cells r) r (common r P)) (leastOf (cells r) r (common r P)))
-    (joins r (leastOf (cells r) r (upper r P)) (leastOf (cells r) r P)))
-    (least-best (suc r) P)
-    (step r P (leastOf (cells r) r (common r P)) (leastOf (cells r) r (upper r P)) (leastOf (cells r) r P)
-    (least-best r (common r P)) (least-best r (upper r P)) (least-best r P))
+  -- the least table of one input more, from three of its halves
+  pub least-halves : leastOf (key (suc r)) (suc r) P
+      ≡ closest (key (suc r)) (closest (key (suc r)) (joins r (leastOf (key r) r (common r P)) (leastOf (key r) r (common r P))) (fitting r P))
+      (joins r (leastOf (key r) r (upper r P)) (leastOf (key r) r P))
+  least-halves =
+      best-only (key (suc r)) (suc r) P (leastOf (key (suc r)) (suc r) P)
+      (closest (key (suc r)) (closest (key (suc r)) (joins r (leastOf (key r) r (common r P)) (leastOf (key r) r (common r P))) (fitting r P))
+      (joins r (leastOf (key r) r (upper r P)) (leastOf (key r) r P)))
+      (least-best (key (suc r)) (suc r) P)
+      (step-best (leastOf (key r) r (common r P)) (leastOf (key r) r (upper r P)) (leastOf (key r) r P) (least-best (key r) r (common r P))
+      (least-best (key r) r (upper r P)) (least-best (key r) r P))
 
 -- the pick by halving
-unfoldable pub halved : ℕ → Proj → Option ℕ
-halved zero P = let o : Option ℕ = cond (P 0 1) (some 1) none in cond (P 0 0) (some 0) o
-halved (suc r) P = let c = halved r (common r P) in closest (cells (suc r)) (joins r c c) (joins r (halved r (upper r P)) (halved r P))
+unfoldable pub halved : (ℕ → ℕ → ℕ) → ℕ → Proj → Option ℕ
+halved key zero P = leastOf (key zero) zero P
+halved key (suc r) P =
+    let c = halved key r (common r P) in
+    closest (key (suc r)) (closest (key (suc r)) (joins r c c) (fitting r P)) (joins r (halved key r (upper r P)) (halved key r P))
 
 -- it is the least over all tables, smallest number included, for every width
-pub halved-least : (r : ℕ) (P : Proj) → halved r P ≡ leastOf (cells r) r P
+pub halved-least : (key : ℕ → ℕ → ℕ) (step n : ℕ) → ((r : ℕ) → r < n → KeyHalves key step r) → (P : Proj) → halved key n P ≡ leastOf (key n) n P
 unfolding halved
-halved-least zero P = best-only 0 P (halved 0 P) (leastOf (cells 0) 0 P) (single P) (least-best 0 P)
-halved-least (suc r) P =
-    rw (halved-least r (common r P), halved-least r (upper r P), halved-least r P) (sym (least-halves r P))
+halved-least key step zero laws P = refl
+halved-least key step (suc r) laws P =
+    let on : (Q : Proj) → halved key r Q ≡ leastOf (key r) r Q = halved-least key step r (λ q l. laws q (omega arith)) in
+    rw (on (common r P), on (upper r P), on P) (sym (least-halves key step r (laws r (omega arith)) P))
+
+pub cells-halved : (n : ℕ) (P : Proj) → halved cells n P ≡ leastOf (cells n) n P
+cells-halved n = halved-least cells 1 n (λ r _. cells-key r)

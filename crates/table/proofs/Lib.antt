@@ -1,10 +1,13 @@
 pub mod Below
 pub mod Sums
 pub mod Bits
+pub mod Halves
+pub mod Wired
 pub mod Cells
 pub mod Trees
 pub mod Least
 pub mod Closer
+pub mod Suited
 pub mod Halving
 pub mod Count
 pub mod Ranks

@@ -1,23 +1,25 @@
 -- The projection that two masks tell, by its halves.
-use Prim.Native.Nat.{ℕ, _+_, _*_, _^_, _<_, _≤_}
-use mathlib.Core.Path.{_≡_, refl, ap, ap₂, subst, _∙_, fun-ext}
+use Prim.Native.Nat.{ℕ, suc, _+_, _*_, _^_, _<_, _≤_}
+use mathlib.Core.Path.{_≡_, refl, sym, ap, ap₂, subst, _∙_, fun-ext}
 use mathlib.Core.Logic.{_⊎_, inl, inr, ⊎-elim}
 use mathlib.Core.Bool.{Bool, true, false, cond, _&&_}
 use mathlib.Core.Option.{Option, none, some}
 use native.Mathlib.Omega.{arith}
 use lib.Bits.{bitAnd}
-use lib.Dec.{T, T-not, eqb}
-use Rattle.base.proofs.Tests.{cond-has, eq-test}
-use Rattle.table.specs.Bits.{bit, ofBits}
-use Rattle.table.specs.Cells.{cells, low, high}
+use lib.Dec.{T, T-not, eqb, eqb→eq}
+use Rattle.base.proofs.Tests.{cond-has, and-intro, and-left, and-right, eq-test, test-ext}
+use Rattle.table.specs.Bits.{bit, all, ofBits}
+use Rattle.table.specs.Cells.{low, high, full}
 use Rattle.table.specs.Pick.{Proj, suits, least, orZero, leastOf}
 use Rattle.table.specs.Inner.Ranks.{masked, pickOf}
 use Rattle.table.specs.Inner.Blocks.{Covered}
+use Rattle.table.specs.Inner.Lines.{line}
 use Rattle.table.proofs.Below.{all-cong, all-intro, all-at}
-use Rattle.table.proofs.Bits.{ofBits-lt, bit-ofBits, bit-lt, bit-cases, test-and}
-use Rattle.table.proofs.Cells.{low-bit, high-bit}
+use Rattle.table.proofs.Bits.{ofBits-lt, bit-ofBits, bit-lt, bit-cases, bit-ext, zero-bit, test-and}
+use Rattle.table.proofs.Halves.{low-lt, high-lt, low-bit, high-bit}
+use Rattle.table.proofs.Wired.{full-lt, full-bit, line-low, line-high}
 use Rattle.table.proofs.Least.{Least, least-is, least-eq}
-use Rattle.table.proofs.Halving.{upper, common}
+use Rattle.table.proofs.Suited.{upper, common, suits-low, suits-high, suits-both}
 
 -- only the patterns and bits there are count
 pub least-cong : (key : ℕ → ℕ) (n : ℕ) (P Q : Proj) → ((p b : ℕ) → p < 2 ^ n → b < 2 → P p b ≡ Q p b) → leastOf key n P ≡ leastOf key n Q
@@ -113,14 +115,57 @@ module _ (r zeros ones : ℕ) where
       go true = each zeros
       go false = each ones
 
-  pub least-low : leastOf (cells r) r (masked (low r zeros) (low r ones)) ≡ leastOf (cells r) r (masked zeros ones)
-  least-low = least-cong (cells r) r (masked (low r zeros) (low r ones)) (masked zeros ones) (λ p b l _. masked-low p b l)
+  module _ (key : ℕ → ℕ) where
+    pub least-low : leastOf key r (masked (low r zeros) (low r ones)) ≡ leastOf key r (masked zeros ones)
+    least-low = least-cong key r (masked (low r zeros) (low r ones)) (masked zeros ones) (λ p b l _. masked-low p b l)
 
-  pub least-high : leastOf (cells r) r (masked (high r zeros) (high r ones)) ≡ leastOf (cells r) r (upper r (masked zeros ones))
-  least-high = least-cong (cells r) r (masked (high r zeros) (high r ones)) (upper r (masked zeros ones)) (λ p b _ _. masked-high p b)
+    pub least-high : leastOf key r (masked (high r zeros) (high r ones)) ≡ leastOf key r (upper r (masked zeros ones))
+    least-high = least-cong key r (masked (high r zeros) (high r ones)) (upper r (masked zeros ones)) (λ p b _ _. masked-high p b)
 
-  pub least-common : leastOf (cells r) r (masked (bitAnd (low r zeros) (high r zeros)) (bitAnd (low r ones) (high r ones)))
-      ≡ leastOf (cells r) r (common r (masked zeros ones))
-  least-common =
-      least-cong (cells r) r (masked (bitAnd (low r zeros) (high r zeros)) (bitAnd (low r ones) (high r ones))) (common r (masked zeros ones))
-      (λ p b l _. masked-common p b l)
+    pub least-common : leastOf key r (masked (bitAnd (low r zeros) (high r zeros)) (bitAnd (low r ones) (high r ones)))
+        ≡ leastOf key r (common r (masked zeros ones))
+    least-common =
+        least-cong key r (masked (bitAnd (low r zeros) (high r zeros)) (bitAnd (low r ones) (high r ones))) (common r (masked zeros ones))
+        (λ p b l _. masked-common p b l)
+
+-- A constant suits where its mask is full, so the line of the first input suits where every pattern of the lower half can be 0 and of the upper half can be 1.
+module _ (r zeros ones : ℕ) where
+  zero-suits : suits r (masked zeros ones) 0 ≡ all (2 ^ r) (λ p. eqb (bit zeros p) 1)
+  unfolding suits masked
+  zero-suits =
+      all-cong (2 ^ r) (λ p. masked zeros ones p (bit 0 p)) (λ p. eqb (bit zeros p) 1) (λ p _. ap (λ b. eqb (bit (cond (eqb b 0) zeros ones) p) 1) (zero-bit p))
+
+  full-suits : suits r (masked zeros ones) (full r) ≡ all (2 ^ r) (λ p. eqb (bit ones p) 1)
+  unfolding suits masked
+  full-suits =
+      all-cong (2 ^ r) (λ p. masked zeros ones p (bit (full r) p)) (λ p. eqb (bit ones p) 1)
+      (λ p l. ap (λ b. eqb (bit (cond (eqb b 0) zeros ones) p) 1) (full-bit r p l))
+
+all-full : (r x : ℕ) → x < 2 ^ (2 ^ r) → all (2 ^ r) (λ p. eqb (bit x p) 1) ≡ eqb x (full r)
+all-full r x l =
+    test-ext (all (2 ^ r) (λ p. eqb (bit x p) 1)) (eqb x (full r))
+    (λ a. eq-test (bit-ext (2 ^ r) x (full r) l (full-lt r) (λ p b. eqb→eq (bit x p) 1 (all-at (2 ^ r) (λ p. eqb (bit x p) 1) a p b) ∙ sym (full-bit r p b))))
+    (λ e. all-intro (2 ^ r) (λ p. eqb (bit x p) 1) (λ p b. eq-test (ap (λ y. bit y p) (eqb→eq x (full r) e) ∙ full-bit r p b)))
+
+suits-cong : (r : ℕ) (Q P : Proj) (t : ℕ) → ((p b : ℕ) → p < 2 ^ r → Q p b ≡ P p b) → suits r P t ≡ suits r Q t
+unfolding suits
+suits-cong r Q P t h = all-cong (2 ^ r) (λ p. P p (bit t p)) (λ p. Q p (bit t p)) (λ p l. sym (h p (bit t p) l))
+
+pub line-suits : (r zeros ones : ℕ) → ones < 2 ^ (2 ^ suc r)
+    → suits (suc r) (masked zeros ones) (line r) ≡ eqb (low r zeros) (full r) && eqb (high r ones) (full r)
+line-suits r zeros ones lo =
+    let P = masked zeros ones in
+    let a : suits r P 0 ≡ eqb (low r zeros) (full r) =
+    suits-cong r (masked (low r zeros) (low r ones)) P 0 (λ p b l. masked-low r zeros ones p b l)
+    ∙ zero-suits r (low r zeros) (low r ones) ∙ all-full r (low r zeros) (low-lt r zeros) in
+    let b : suits r (upper r P) (full r) ≡ eqb (high r ones) (full r) =
+    suits-cong r (masked (high r zeros) (high r ones)) (upper r P) (full r) (λ p b l. masked-high r zeros ones p b)
+    ∙ full-suits r (high r zeros) (high r ones) ∙ all-full r (high r ones) (high-lt r ones lo) in
+    test-ext (suits (suc r) P (line r)) (eqb (low r zeros) (full r) && eqb (high r ones) (full r))
+    (λ s.
+    and-intro (eqb (low r zeros) (full r)) (eqb (high r ones) (full r))
+    (subst T (ap (suits r P) (line-low r) ∙ a) (suits-low r P (line r) s)) (subst T (ap (suits r (upper r P)) (line-high r) ∙ b) (suits-high r P (line r) s)))
+    (λ t.
+    suits-both r P (line r)
+    (subst T (sym (ap (suits r P) (line-low r) ∙ a)) (and-left (eqb (low r zeros) (full r)) (eqb (high r ones) (full r)) t))
+    (subst T (sym (ap (suits r (upper r P)) (line-high r) ∙ b)) (and-right (eqb (low r zeros) (full r)) (eqb (high r ones) (full r)) t)))

@@ -12,8 +12,9 @@ use Rattle.table.specs.Pick.{Proj, suits, orZero, leastOf}
 use Rattle.table.specs.Inner.Blocks.{Covered}
 use Rattle.table.specs.Inner.Ranks.{masked, pickOf}
 use Rattle.table.proofs.Below.{all-cong}
-use Rattle.table.proofs.Cells.{ByHalves, low-lt, low-bit, high-bit}
-use Rattle.table.proofs.Halving.{upper, join, join-low, join-high, join-lt, join-halves, join-le, same-halves, counted-twice, suits-low, join-suits}
+use Rattle.table.proofs.Halves.{low-lt, low-bit, high-bit, join, join-low, join-high, join-lt, join-halves, join-le}
+use Rattle.table.proofs.Cells.{ByHalves, counted-twice}
+use Rattle.table.proofs.Suited.{upper, suits-low, join-suits}
 use Rattle.table.proofs.Least.{Least, least-is, least-eq}
 use Rattle.table.proofs.Masks.{mask-cong, pick-some}
 
@@ -68,14 +69,11 @@ module _ (r zeros ones : ℕ) (lz : zeros < 2 ^ (2 ^ r)) (lo : ones < 2 ^ (2 ^ r
         let more : (x : ℕ) → T (suits (suc r) Q x) → count r t ≤ count r (low r x) = λ x f. h .2 (low r x) (low-lt r x) (fits x f) in (
           join-lt r t t l l,
           join-suits r Q t t l l (rw (suits-second t) (h .1)) (rw (suits-first t) (h .1)),
-          λ x b f.
-              ⊎-elim (λ e. omega (arith, c, more x f, by .alike r x e)) (λ d. omega (arith, c, more x f, by .apart r x d)) (same-halves r x),
+          λ x b f. omega (arith, c, more x f, by .fewer r x),
           λ x b f g.
-              ⊎-elim
-              (λ e.
-              let m = h .3 (low r x) (low-lt r x) (fits x f) (omega (arith, c, g, by .alike r x e)) in
-              subst (λ z. join r t t ≤ z) (sym (join-halves r x)) (join-le r t t (high r x) (low r x) (rw e at m) m))
-              (λ d. absurd (omega (arith, c, g, more x f, by .apart r x d))) (same-halves r x),
+              let m = h .3 (low r x) (low-lt r x) (fits x f) (omega (arith, c, g, by .fewer r x)) in
+              let u = by .smaller r x (omega (arith, c, g, more x f)) in
+              subst (λ z. join r t t ≤ z) (sym (join-halves r x)) (join-le r t t (high r x) (low r x) (omega arith) m),
         )
 
     pub least-repeated : (t : ℕ) → leastOf (count r) r P ≡ some t → leastOf (count (suc r)) (suc r) Q ≡ some (join r t t)

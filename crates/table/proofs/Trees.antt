@@ -1,17 +1,19 @@
 -- Laws of trees: the cells of a table are a lower bound for every ordered tree that computes it, and the reduced tree reaches it.
 use Prim.Native.Nat.{ℕ, zero, suc, _+_, _*_, _^_, _%_, _-_, _<_, _≤_}
-use mathlib.Core.Path.{_≡_, refl, sym, ap, _∙_}
+use mathlib.Core.Path.{_≡_, refl, sym, ap, ap₂, subst, _∙_}
 use mathlib.Core.Logic.{_⊎_, inl, inr, ⊎-elim}
 use native.Mathlib.Omega.{arith}
 use native.Mathlib.Nat.{mod-lt, eq-or-lt-of-le, mod-one}
-use lib.Dec.{eqb, eqb→eq}
+use lib.Dec.{T, T-not, eqb, eqb→eq}
 use lib.Pow.{pow-pos, mod-pow-add}
-use Rattle.base.proofs.Tests.{cond-has, cond-has₂, eqb-yes, eqb-not}
+use Rattle.base.proofs.Tests.{cond-has, cond-has₂, and-intro, and-left, and-right, test-ext, eq-test, eqb-yes, eqb-not}
 use Rattle.table.specs.Bits.{bit}
-use Rattle.table.specs.Cells.{low, high, cells}
-use Rattle.table.specs.Tree.{Tree, con, sel, Ordered, follow, selectors, reduced}
-use Rattle.table.proofs.Bits.{bit-low, bit-top, bit-ext, bit-cases, bit-zero}
-use Rattle.table.proofs.Cells.{low-lt, high-lt, low-bit, high-bit, cells-same, cells-most}
+use Rattle.table.specs.Cells.{low, high, full, wiredTable, selectorCells, cells}
+use Rattle.table.specs.Tree.{Tree, con, sel, Ordered, follow, selectors, wiredTrees, treeCells, reduced}
+use Rattle.table.proofs.Bits.{bit-low, bit-top, bit-ext, bit-cases, bit-zero, zero-bit}
+use Rattle.table.proofs.Halves.{low-lt, high-lt, low-bit, high-bit, join, join-low, join-high, join-halves}
+use Rattle.table.proofs.Wired.{full-lt, full-bit, full-twice, wired-halves, halves-wired, selector-most, wired-le}
+use Rattle.table.proofs.Cells.{cells-same, cells-differ, cells-most}
 
 -- the two arms of a selector
 pub follow-zero : (n p i : ℕ) (z o : Tree) → bit p (n - i) ≡ 0 → follow n p (sel i z o) ≡ follow n p z
@@ -99,9 +101,25 @@ module _ (n k r : ℕ) (at : k + suc r ≡ n) (t : ℕ) (lt : t < 2 ^ (2 ^ suc r
   halves (sel i z e) o mx =
       ⊎-elim (λ d. inr (tests i z e d (o .2) (o .3) mx)) (λ h. inl (past (sel i z e) (h, o .1, o .2, o .3) mx)) (eq-or-lt-of-le (o .0))
 
+-- a selector with the constants 0 and 1 for its trees
+wired-constants : (z o : Tree) → T (wiredTrees z o) → (z ≡ con 0) × (o ≡ con 1)
+unfolding wiredTrees
+wired-constants (con a) (con b) w = (ap con (eqb→eq a 0 (and-left (eqb a 0) (eqb b 1) w)), ap con (eqb→eq b 1 (and-right (eqb a 0) (eqb b 1) w)))
+wired-constants (con a) (sel i z o) w = absurd w
+wired-constants (sel i y x) o w = absurd w
+
+-- trees of which the selector is soldered through mean the halves of the table that is soldered through
+means-wired : (n r t : ℕ) (z o : Tree) → t < 2 ^ (2 ^ suc r) → Means n r z (low r t) → Means n r o (high r t) → T (wiredTrees z o) → T (wiredTable r t)
+unfolding follow
+means-wired n r t z o lt mz mo w =
+    let c = wired-constants z o w in
+    halves-wired r t
+    (bit-ext (2 ^ r) (low r t) 0 (low-lt r t) (pow-pos (2 ^ r)) (λ p l. sym (mz p l) ∙ ap (follow n p) (c .0) ∙ sym (zero-bit p)))
+    (bit-ext (2 ^ r) (high r t) (full r) (high-lt r t lt) (full-lt r) (λ p l. sym (mo p l) ∙ ap (follow n p) (c .1) ∙ sym (full-bit r p l)))
+
 -- an ordered tree that computes a table has at least its cells
-pub least-tree : (n r k : ℕ) → k + r ≡ n → (x : Tree) → Ordered n k x → (t : ℕ) → t < 2 ^ (2 ^ r) → Means n r x t → cells r t ≤ selectors x
-unfolding cells selectors
+pub least-tree : (n r k : ℕ) → k + r ≡ n → (x : Tree) → Ordered n k x → (t : ℕ) → t < 2 ^ (2 ^ r) → Means n r x t → cells r t ≤ treeCells x
+unfolding cells treeCells
 least-tree n zero k at x o t lt mx = omega arith
 least-tree n (suc r) k at x o t lt mx =
     ⊎-elim
@@ -111,19 +129,84 @@ least-tree n (suc r) k at x o t lt mx =
     (omega (
       arith,
       cells-most r t,
+      wired-le (wiredTable r t) (wiredTrees (h .z) (h .o)) (means-wired n r t (h .z) (h .o) lt (h .z-means) (h .o-means)),
       least-tree n r (suc k) (omega arith) (h .z) (h .z-ordered) (low r t) (low-lt r t) (h .z-means),
       least-tree n r (suc k) (omega arith) (h .o) (h .o-ordered) (high r t) (high-lt r t lt) (h .o-means),
     )))
     (halves n k r at t lt x o mx)
 
--- the reduced tree
-pub reduced-selectors : (r k t : ℕ) → selectors (reduced r k t) ≡ cells r t
-unfolding reduced cells selectors
-reduced-selectors zero k t = refl
-reduced-selectors (suc r) k t =
-    let a = reduced-selectors r (suc k) (low r t) in
-    let b = reduced-selectors r (suc k) (high r t) in
-    cond-has₂ (λ x c. selectors x ≡ c) (eqb (low r t) (high r t)) (λ _. a) (λ _. cc)
+-- The reduced tree of a constant is that constant, and no other table has it. The constants of each width: c r, which is c of one input fewer twice.
+abbrev IsCon : ℕ → Tree → Type 0
+IsCon b (con a) = a ≡ b
+IsCon b (sel i z o) = ⊥
+
+module _ (b : ℕ) (c : ℕ → ℕ) (first : c 0 ≡ b) (inside : (r : ℕ) → c r < 2 ^ (2 ^ r)) (twice : (r : ℕ) → c (suc r) ≡ join r (c r) (c r)) where
+  constant-reduced : (r k : ℕ) → IsCon b (reduced r k (c r))
+  unfolding reduced
+  constant-reduced zero k = first
+  constant-reduced (suc r) k =
+      let l : low r (c (suc r)) ≡ c r = ap (low r) (twice r) ∙ join-low r (c r) (c r) (inside r) (inside r) in
+      let h : high r (c (suc r)) ≡ c r = ap (high r) (twice r) ∙ join-high r (c r) (c r) (inside r) (inside r) in
+      cond-has (IsCon b) (eqb (low r (c (suc r))) (high r (c (suc r)))) (λ _. rw l (constant-reduced r (suc k)))
+      (λ n. absurd (T-not (eqb (low r (c (suc r))) (high r (c (suc r)))) n (eq-test (l ∙ sym h))))
+
+  reduced-constant : (r k t : ℕ) → IsCon b (reduced r k t) → t ≡ c r
+  unfolding reduced
+  reduced-constant zero k t = λ e. e ∙ sym first
+  reduced-constant (suc r) k t =
+      cond-has (λ x. IsCon b x → t ≡ c (suc r)) (eqb (low r t) (high r t))
+      (λ e i.
+      let l = reduced-constant r (suc k) (low r t) i in
+      join-halves r t ∙ ap₂ (join r) (sym (eqb→eq (low r t) (high r t) e) ∙ l) l ∙ sym (twice r))
+      (λ _ i. absurd i)
+
+zero-twice : (r : ℕ) → 0 ≡ join r 0 0
+unfolding join
+zero-twice r = omega arith
+
+full-first : full 0 ≡ 1
+unfolding full
+full-first = refl
+
+-- so the selector over two reduced trees is soldered through where their table is
+wired-both : (z o : Tree) → IsCon 0 z → IsCon 1 o → T (wiredTrees z o)
+unfolding wiredTrees
+wired-both (con a) (con b) e d = and-intro (eqb a 0) (eqb b 1) (eq-test e) (eq-test d)
+wired-both (con a) (sel i z o) e d = absurd d
+wired-both (sel i y x) o e d = absurd e
+
+pub wired-reduced : (r k t : ℕ) → wiredTrees (reduced r k (low r t)) (reduced r k (high r t)) ≡ wiredTable r t
+wired-reduced r k t =
+    let z = reduced r k (low r t) in
+    let o = reduced r k (high r t) in
+    let none : ℕ → ℕ = λ _. 0 in
+    test-ext (wiredTrees z o) (wiredTable r t)
+    (λ w.
+    let c = wired-constants z o w in
+    halves-wired r t (reduced-constant 0 none refl (λ r. pow-pos (2 ^ r)) zero-twice r k (low r t) (subst (IsCon 0) (sym (c .0)) refl))
+    (reduced-constant 1 full full-first full-lt full-twice r k (high r t) (subst (IsCon 1) (sym (c .1)) refl)))
+    (λ w.
+    let h = wired-halves r t w in
+    wired-both z o (rw (h .0) (constant-reduced 0 none refl (λ r. pow-pos (2 ^ r)) zero-twice r k)) (rw (h .1) (constant-reduced 1 full full-first full-lt full-twice r k)))
+
+-- the reduced tree has as many cells as its table
+pub reduced-cells : (r k t : ℕ) → treeCells (reduced r k t) ≡ cells r t
+unfolding reduced cells treeCells
+reduced-cells zero k t = refl
+reduced-cells (suc r) k t =
+    let a = reduced-cells r (suc k) (low r t) in
+    let b = reduced-cells r (suc k) (high r t) in
+    let w = ap selectorCells (wired-reduced r (suc k) t) in
+    cond-has₂ (λ x c. treeCells x ≡ c) (eqb (low r t) (high r t)) (λ _. a) (λ _. omega arith)
+
+-- no tree has more cells than selectors, so a table has no more cells than the tree that is written of it has selectors
+pub cells-few : (x : Tree) → treeCells x ≤ selectors x
+unfolding treeCells selectors
+cells-few (con b) = omega arith
+cells-few (sel i z o) = omega (arith, selector-most (wiredTrees z o), cells-few z, cells-few o)
+
+pub cells-selectors : (r k t : ℕ) → cells r t ≤ selectors (reduced r k t)
+cells-selectors r k t = omega (arith, reduced-cells r k t, cells-few (reduced r k t))
 
 ordered-lower : (n k : ℕ) (x : Tree) → Ordered n (suc k) x → Ordered n k x
 unfolding Ordered

@@ -9,9 +9,10 @@ use Rattle.table.specs.Pick.{leastOf}
 use Rattle.table.specs.Inner.Ranks.{masked, pickOf, rank, tableSpace}
 use Rattle.table.specs.Inner.Pairs.{blockSpace, pairBits, zerosIn, onesIn}
 use Rattle.table.specs.Inner.Blocks.{oneSpace, threeSpace, entries, blockEntry, bestBlock, blockOf, blockAt, zerosAt, onesAt, Shown, PickShown, Covered}
-use Rattle.table.proofs.Cells.{cells-halves}
 use Rattle.table.proofs.Count.{repeated}
-use Rattle.table.proofs.Halving.{join, BestTable, least-best}
+use Rattle.table.proofs.Halving.{BestTable, least-best}
+use Rattle.table.proofs.Halves.{join}
+use Rattle.table.proofs.Cells.{cells-halves}
 use Rattle.table.proofs.Masks.{pick-some}
 use Rattle.table.proofs.Repeated.{least-repeated}
 use Rattle.table.proofs.Entries.{digits}
@@ -40,7 +41,7 @@ pub rank-at : {Lent : Type 0} {n k x : ℕ} (w : ℕ) → n ≡ k → Asked Lent
 rank-at w e h f = rw e (f (fit w e h))
 
 inside : (n zeros ones : ℕ) → Covered n zeros ones → pickOf (cells n) n zeros ones < 2 ^ (2 ^ n)
-inside n zeros ones h = subst (λ o. BestTable n (masked zeros ones) o) (pick-some (cells n) n zeros ones h) (least-best n (masked zeros ones)) .inside
+inside n zeros ones h = subst (λ o. BestTable (cells n) n (masked zeros ones) o) (pick-some (cells n) n zeros ones h) (least-best (cells n) n (masked zeros ones)) .inside
 
 -- one input, looked up as two: each mask stands twice in its half of the place
 pub one-place : (w : ℕ) → w < 2 ^ pairBits → WidthFits 1 w → w * (oneSpace + 1) < entries
@@ -96,10 +97,10 @@ three-inputs w x l s f =
     let t = pickOf (cells 3) 3 (zerosIn w) (onesIn w) in
     let lt : t < threeSpace = inside 3 (zerosIn w) (onesIn w) (f .2) in
     let k : x ≡ cells 3 t * threeSpace + t =
-    subst (λ o. Shown 3 threeSpace o x) (pick-some (cells 3) 3 (zerosIn w) (onesIn w) (f .2)) (pair-told w x (two-bytes w l (f .0) (f .1)) (f .0) (f .1) s) in
+    subst (λ o. Shown (cells 3) threeSpace o x) (pick-some (cells 3) 3 (zerosIn w) (onesIn w) (f .2)) (pair-told w x (two-bytes w l (f .0) (f .1)) (f .0) (f .1) s) in
     omega arith
 
 -- four inputs: the number that shows the pick is its rank
 pub four-inputs : (w x : ℕ) → PickShown 4 tableSpace (zerosIn w) (onesIn w) x → WidthFits 4 w → x ≡ rankIn 4 w
 unfolding rank
-four-inputs w x s f = subst (λ o. Shown 4 tableSpace o x) (pick-some (cells 4) 4 (zerosIn w) (onesIn w) (f .2)) s
+four-inputs w x s f = subst (λ o. Shown (cells 4) tableSpace o x) (pick-some (cells 4) 4 (zerosIn w) (onesIn w) (f .2)) s

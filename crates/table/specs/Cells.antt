@@ -1,7 +1,7 @@
--- Document 01, "Cells": how many selectors the reduced ordered decision tree of a table has.
+-- Document 01, "Cells", and document 02, E4: how many cells the reduced ordered decision tree of a table has.
 -- Bit p of a table is the wire on pattern p, so a table of n inputs is a number below 2 ^ (2 ^ n).
-use Prim.Native.Nat.{ℕ, zero, suc, _+_, _^_, _/_, _%_}
-use mathlib.Core.Bool.{cond}
+use Prim.Native.Nat.{ℕ, zero, suc, _+_, _-_, _^_, _/_, _%_}
+use mathlib.Core.Bool.{Bool, cond, _&&_}
 use mathlib.Core.List.{List}
 use lib.Dec.{eqb}
 use lib.ListN.{getD}
@@ -14,12 +14,24 @@ low n t = t % 2 ^ (2 ^ n)
 unfoldable pub high : ℕ → ℕ → ℕ
 high n t = t / 2 ^ (2 ^ n)
 
+-- the table of n inputs that is 1 on every pattern
+unfoldable pub full : ℕ → ℕ
+full n = 2 ^ (2 ^ n) - 1
+
+-- a table of n + 1 inputs that is the first of them (the projection function of that input): 0 throughout its lower half and 1 throughout its upper half
+unfoldable pub wiredTable : ℕ → ℕ → Bool
+wiredTable n t = eqb (low n t) 0 && eqb (high n t) (full n)
+
+-- the cells of one selector, by whether it is soldered through (E4): then it is none
+unfoldable pub selectorCells : Bool → ℕ
+selectorCells wired = cond wired 0 1
+
 -- a selector where the halves differ, and the cells below it; none of its own where they are the same
 unfoldable pub cells : ℕ → ℕ → ℕ
 cells zero t = zero
 cells (suc n) t =
     let a = cells n (low n t) in
-    let b = suc (a + cells n (high n t)) in
+    let b = selectorCells (wiredTable n t) + (a + cells n (high n t)) in
     cond (eqb (low n t) (high n t)) a b
 
 -- the tables of a list, in the order of the wires; 0 past its end

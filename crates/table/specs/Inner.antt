@@ -3,5 +3,6 @@ pub mod CellsWritten
 pub mod Ranks
 pub mod Blocks
 pub mod Pairs
+pub mod Lines
 pub mod Columns
 pub mod Drawing

@@ -1,9 +1,9 @@
--- Decision trees (document 01, "Stage sheet"): ordered, with their selectors counted as cells.
+-- Decision trees (document 01, "Stage sheet"): ordered, with their selectors, and which of these are cells (document 02, E4).
 use Prim.Native.Nat.{ℕ, zero, suc, _+_, _-_, _<_, _≤_}
-use mathlib.Core.Bool.{cond}
+use mathlib.Core.Bool.{Bool, false, cond, _&&_}
 use lib.Dec.{eqb}
 use Rattle.table.specs.Bits.{bit}
-use Rattle.table.specs.Cells.{low, high}
+use Rattle.table.specs.Cells.{low, high, selectorCells}
 
 -- a constant (bytes 23 and 24), or a selector (22) with its input and two subtrees, first the one for 0
 pub data Tree : Type 0 where
@@ -20,10 +20,21 @@ unfoldable pub follow : ℕ → ℕ → Tree → ℕ
 follow n p (con b) = b
 follow n p (sel i z o) = cond (eqb (bit p (n - i)) 0) (follow n p z) (follow n p o)
 
--- the cells of a tree
+-- the selectors of a tree, by which its bytes are counted
 unfoldable pub selectors : Tree → ℕ
 selectors (con b) = zero
 selectors (sel i z o) = suc (selectors z + selectors o)
+
+-- a selector with these two trees is soldered through (E4): they are the constants 0 and 1 themselves, and no larger trees that are worth as much
+unfoldable pub wiredTrees : (z o : Tree) → Bool
+wiredTrees (con a) (con b) = eqb a 0 && eqb b 1
+wiredTrees (con a) (sel i z o) = false
+wiredTrees (sel i z o) x = false
+
+-- the cells of a tree: its selectors but for those that are soldered through
+unfoldable pub treeCells : Tree → ℕ
+treeCells (con b) = zero
+treeCells (sel i z o) = selectorCells (wiredTrees z o) + (treeCells z + treeCells o)
 
 -- the tree that the writer emits: of a table of r inputs, which stand after k others; no selector where both halves are the same
 unfoldable pub reduced : ℕ → ℕ → ℕ → Tree

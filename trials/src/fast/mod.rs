@@ -3,8 +3,8 @@
 //! for `board` and `sheet`, which have the types that it is handed;
 //! `tests/agreement.rs` holds it to `search` and to `relation`.
 //!
-//! * There is one search for both boards. It is compiled for each of them and
-//!   for each number of inputs, and only the pick looks at the board.
+//! * There is one search for every count of cells. It is compiled for each
+//!   board's and for each number of inputs, and only the pick looks at the count.
 //! * A pick is found as one key, cells * 65536 + table, so that "fewest cells,
 //!   then the smallest number" is the smaller key. How, `tree` and `shared` say.
 //! * A part keeps for each wire where 0 and where 1 can stand. A split changes
@@ -23,12 +23,14 @@
 #![allow(clippy::needless_range_loop)]
 
 mod forming;
+mod masks;
 mod shared;
 mod tree;
 
 pub use forming::sets_of;
 
 use crate::board::Board;
+use std::marker::PhantomData;
 
 #[derive(Clone, Copy, PartialEq, Eq, Debug)]
 pub struct Answer {
@@ -40,9 +42,16 @@ pub struct Answer {
 }
 
 /// One cell, in a key.
-const CELL: u32 = 1 << 16;
+pub const CELL: u32 = 1 << 16;
 /// The key of a block that no table fits; four of them do not overflow.
-const NONE: u32 = 1024 * CELL;
+pub const NONE: u32 = 1024 * CELL;
+
+/// A count of cells, told by its picks.
+pub trait Count {
+    /// The key of the pick among N-input tables, from where 0 and where 1 can
+    /// stand.
+    fn pick<const N: usize>(zeros: u16, ones: u16) -> u32;
+}
 
 /// 1 in each lane.
 const LANES: u64 = 0x0001_0001_0001_0001;
@@ -73,16 +82,6 @@ fn sides(set: u16) -> (u64, u64) {
 const ZERO: [[u64; 4]; 4] =
     [[0x0000_FFFF_0000_FFFF; 4], [0x0000_0000_FFFF_FFFF; 4], [u64::MAX, 0, u64::MAX, 0], [u64::MAX, u64::MAX, 0, 0]];
 
-/// The key of the pick among N-input tables, on the board at hand.
-#[inline(always)]
-fn pick<const N: usize, const SHARED: bool>(zeros: u16, ones: u16) -> u32 {
-    if SHARED {
-        shared::pick::<N>(zeros, ones)
-    } else {
-        tree::pick::<N>(zeros, ones)
-    }
-}
-
 struct Part {
     /// For each value 4 * k + lane the patterns where it can stand.
     patterns: [u64; 4],
@@ -101,7 +100,7 @@ fn choose(table: u64, zero: u64, one: u64) -> u64 {
 }
 
 impl Part {
-    fn whole<const N: usize, const SHARED: bool>(sets: &[u16; 16]) -> Part {
+    fn whole<const N: usize, C: Count>(sets: &[u16; 16]) -> Part {
         let mut patterns = [0; 4];
         for p in 0..1 << N {
             for v in 0..16 {
@@ -111,7 +110,7 @@ impl Part {
         let (zeros, ones) = project::<N>(sets);
         let mut part = Part { patterns, zeros, ones, tables: 0, cells: 0, floor: 0 };
         for j in 0..4 {
-            let key = pick::<N, SHARED>(lane(zeros, j), lane(ones, j));
+            let key = C::pick::<N>(lane(zeros, j), lane(ones, j));
             part.tables |= u64::from(key & 0xFFFF) << (16 * j);
             part.cells |= u64::from(key >> 16) << (16 * j);
             part.floor += key >> 16;
@@ -145,12 +144,12 @@ fn project<const N: usize>(sets: &[u16; 16]) -> (u64, u64) {
 
 /// For each wire in turn the pick in what is left: the tables in lanes, and
 /// their cells.
-fn first_answer<const N: usize, const SHARED: bool>(sets: &[u16; 16]) -> (u64, u32) {
+fn first_answer<const N: usize, C: Count>(sets: &[u16; 16]) -> (u64, u32) {
     let mut left = *sets;
     let (mut tables, mut cells) = (0, 0);
     for j in 0..4 {
         let (zeros, ones) = project::<N>(&left);
-        let key = pick::<N, SHARED>(lane(zeros, j), lane(ones, j));
+        let key = C::pick::<N>(lane(zeros, j), lane(ones, j));
         for p in 0..1 << N {
             left[p] &= if key >> p & 1 == 1 { lane(WIRES, j) } else { !lane(WIRES, j) };
         }
@@ -160,7 +159,8 @@ fn first_answer<const N: usize, const SHARED: bool>(sets: &[u16; 16]) -> (u64, u
     (tables, cells)
 }
 
-struct Search<const N: usize, const SHARED: bool> {
+struct Search<const N: usize, C> {
+    count: PhantomData<C>,
     /// For each pattern the values that can stand there, in the part at hand.
     values: [u16; 16],
     best: u64,
@@ -170,7 +170,7 @@ struct Search<const N: usize, const SHARED: bool> {
     stopped: bool,
 }
 
-impl<const N: usize, const SHARED: bool> Search<N, SHARED> {
+impl<const N: usize, C: Count> Search<N, C> {
     /// Charges a visit, if the budget has one left.
     #[inline(always)]
     fn charge(&mut self) -> bool {
@@ -223,7 +223,7 @@ impl<const N: usize, const SHARED: bool> Search<N, SHARED> {
         while left != 0 {
             let at = left.trailing_zeros();
             left &= left - 1;
-            let key = pick::<N, SHARED>((zeros >> at) as u16, (ones >> at) as u16);
+            let key = C::pick::<N>((zeros >> at) as u16, (ones >> at) as u16);
             floor += (key >> 16) - (cells >> at) as u32 % 0x1_0000;
             if floor >= self.best_cells {
                 return;
@@ -248,10 +248,11 @@ impl<const N: usize, const SHARED: bool> Search<N, SHARED> {
     }
 }
 
-fn run<const N: usize, const SHARED: bool>(sets: &[u16; 16], budget: u32) -> Answer {
-    let (best, best_cells) = first_answer::<N, SHARED>(sets);
-    let whole = Part::whole::<N, SHARED>(sets);
-    let mut s = Search::<N, SHARED> { values: *sets, best, best_cells, visits: 0, budget, stopped: false };
+fn run<const N: usize, C: Count>(sets: &[u16; 16], budget: u32) -> Answer {
+    let (best, best_cells) = first_answer::<N, C>(sets);
+    let whole = Part::whole::<N, C>(sets);
+    let mut s =
+        Search::<N, C> { count: PhantomData, values: *sets, best, best_cells, visits: 0, budget, stopped: false };
     if whole.floor < s.best_cells && s.charge() {
         s.visit(&whole);
     }
@@ -267,15 +268,131 @@ fn run<const N: usize, const SHARED: bool>(sets: &[u16; 16], budget: u32) -> Ans
 /// Searches a well-defined relation: n 1 to 4, no set below 2^n empty. Bits
 /// from 2^m up are not set, so m need not be known: the wires from m up are 0.
 pub fn search(board: Board, n: u32, sets: &[u16; 16], budget: u32) -> Answer {
-    match (board, n) {
-        (Board::Tree, 1) => run::<1, false>(sets, budget),
-        (Board::Tree, 2) => run::<2, false>(sets, budget),
-        (Board::Tree, 3) => run::<3, false>(sets, budget),
-        (Board::Tree, 4) => run::<4, false>(sets, budget),
-        (Board::Shared, 1) => run::<1, true>(sets, budget),
-        (Board::Shared, 2) => run::<2, true>(sets, budget),
-        (Board::Shared, 3) => run::<3, true>(sets, budget),
-        (Board::Shared, 4) => run::<4, true>(sets, budget),
-        _ => panic!("sizes outside 1 to 4"),
+    match board {
+        Board::Tree => search_by::<tree::Cells>(n, sets, budget),
+        Board::Shared => search_by::<shared::Cells>(n, sets, budget),
+    }
+}
+
+/// The same by any count.
+pub fn search_by<C: Count>(n: u32, sets: &[u16; 16], budget: u32) -> Answer {
+    match n {
+        1 => run::<1, C>(sets, budget),
+        2 => run::<2, C>(sets, budget),
+        3 => run::<3, C>(sets, budget),
+        4 => run::<4, C>(sets, budget),
+        _ => panic!("inputs outside 1 to 4"),
+    }
+}
+
+#[cfg(test)]
+pub mod tests {
+    use super::*;
+    use crate::board::BOARDS;
+    use crate::cells::full;
+    use crate::pick::{fits, tables_by_cells, Projection};
+    use crate::random::Random;
+
+    /// The key by any count.
+    pub fn key_by<C: Count>(it: &Projection) -> u32 {
+        match it.n {
+            1 => C::pick::<1>(it.zeros, it.ones),
+            2 => C::pick::<2>(it.zeros, it.ones),
+            3 => C::pick::<3>(it.zeros, it.ones),
+            _ => C::pick::<4>(it.zeros, it.ones),
+        }
+    }
+
+    /// The key by trying all tables, cheap ones first.
+    fn by_trying(board: Board, tables: &[u16], it: &Projection) -> u32 {
+        let table = *tables.iter().find(|&&t| fits(it, t)).expect("some table fits");
+        board.cells(it.n, table) * CELL + u32::from(table)
+    }
+
+    fn key(board: Board, it: &Projection) -> u32 {
+        match board {
+            Board::Tree => key_by::<tree::Cells>(it),
+            Board::Shared => key_by::<shared::Cells>(it),
+        }
+    }
+
+    /// Up to three inputs, every projection: at each pattern 0, 1 or both.
+    #[test]
+    fn every_small_pick() {
+        for (board, n) in BOARDS.into_iter().flat_map(|board| (1..=3).map(move |n| (board, n))) {
+            let tables = tables_by_cells(board, n);
+            for zeros in 0..=full(n) {
+                for ones in 0..=full(n) {
+                    if zeros | ones == full(n) {
+                        let it = Projection { n, zeros, ones };
+                        assert_eq!(key(board, &it), by_trying(board, &tables, &it), "{board:?} {it:?}");
+                    }
+                }
+            }
+        }
+    }
+
+    /// Four inputs: every table by itself, and projections with few, half, many
+    /// and nearly all patterns that may be either.
+    #[test]
+    fn picks_of_four_inputs() {
+        for board in BOARDS {
+            let tables = tables_by_cells(board, 4);
+            for table in 0..=u16::MAX {
+                let key = key(board, &Projection { n: 4, zeros: !table, ones: table });
+                assert_eq!(key, board.cells(4, table) * CELL + u32::from(table));
+            }
+            let mut rng = Random::new(15);
+            for i in 0..80_000 {
+                let (table, any, more) = (rng.word(), rng.word(), rng.word());
+                let free = [any & more, any, any | more, any | more | rng.word()][i % 4];
+                let it = Projection { n: 4, zeros: !table | free, ones: table | free };
+                assert_eq!(key(board, &it), by_trying(board, &tables, &it), "{board:?} {it:?}");
+            }
+        }
+    }
+
+    /// The next projection: at the lowest pattern 0, then 1, then both, then 0
+    /// again and on to the next pattern.
+    fn next(it: &mut Projection) -> bool {
+        for bit in (0..16).map(|p| 1 << p) {
+            match (it.zeros & bit != 0, it.ones & bit != 0) {
+                (true, true) => it.ones ^= bit,
+                (true, false) => {
+                    (it.zeros, it.ones) = (it.zeros ^ bit, it.ones ^ bit);
+                    return true;
+                }
+                _ => {
+                    it.zeros ^= bit;
+                    return true;
+                }
+            }
+        }
+        false
+    }
+
+    /// Four inputs, every projection: with both at some pattern, the lesser of
+    /// the keys with 0 there and with 1 there, which came earlier.
+    #[test]
+    fn every_pick_of_four_inputs() {
+        for board in BOARDS {
+            let mut least: Vec<u32> = Vec::with_capacity(3usize.pow(16));
+            let mut it = Projection { n: 4, zeros: u16::MAX, ones: 0 };
+            loop {
+                let both = it.zeros & it.ones;
+                let expected = if both == 0 {
+                    board.cells(4, it.ones) * CELL + u32::from(it.ones)
+                } else {
+                    let back = 3usize.pow(both.trailing_zeros());
+                    least[least.len() - back].min(least[least.len() - 2 * back])
+                };
+                assert_eq!(key(board, &it), expected, "{board:?} {it:?}");
+                least.push(expected);
+                if !next(&mut it) {
+                    break;
+                }
+            }
+            assert_eq!(least.len(), 3usize.pow(16));
+        }
     }
 }

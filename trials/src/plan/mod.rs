@@ -3,7 +3,9 @@
 //! earlier cases stay as they are.
 
 mod clean;
+mod selectors;
 mod shared;
+mod straight;
 
 use crate::board::Board;
 use crate::case::Case;
@@ -13,7 +15,7 @@ use crate::draw::relations::{half_dense, junk_past_the_last, malformed, sets, th
 use crate::draw::sheet_faults::{plant, soup};
 use crate::draw::sheets::{draft, draft_of, hard_draft, hard_draft_of, Draft};
 use crate::draw::{bad_size, high_bit, sizes, stages};
-use crate::fast;
+use crate::fast::Answer;
 use crate::random::Random;
 use crate::relation::{handed, of_unit, Relation};
 use crate::rows::rows;
@@ -68,6 +70,7 @@ pub fn cases() -> Vec<Case> {
     many(FAULTY_READS, &mut Planner::faulty_read);
     cases.extend(clean::cases(&mut planner));
     cases.extend(shared::cases(&mut planner));
+    cases.extend(straight::cases(&mut planner));
     cases
 }
 
@@ -82,10 +85,10 @@ struct Planner {
 }
 
 impl Planner {
-    // How long a search is, the fast one tells.
+    // How long a search is, and what it finds: for the fewest selectors.
 
-    fn search_of(&self, r: &Relation, budget: u32) -> fast::Answer {
-        fast::search(self.board, r.n, &r.sets, budget)
+    fn search_of(&self, r: &Relation, budget: u32) -> Answer {
+        selectors::search(self.board, r.n, &r.sets, budget)
     }
 
     /// Whether the search does not end with its first answer.
@@ -179,8 +182,8 @@ impl Planner {
         match sheet::read(&sheet).and_then(|unit| of_unit(&unit)) {
             Ok(r) => {
                 let budget = self.budget(&r);
-                let answer = self.search_of(&r, budget);
-                let room = self.room(self.board.length(r.m, answer.cells));
+                let selectors = self.search_of(&r, budget).cells;
+                let room = self.room(self.board.length(r.m, selectors));
                 Case::Quote { board: self.board, budget, room, sheet }
             }
             Err(_) => {
@@ -372,7 +375,7 @@ impl Planner {
                     *set = thin(&mut self.rng, 5);
                 }
             }
-            if fast::search(self.board, 4, &sets, 10_000).stopped {
+            if self.search_of(&well_defined(4, 4, &sets), 10_000).stopped {
                 return Case::Search { board: self.board, n: 4, m: 4, budget: 10_000, sets };
             }
         }
@@ -485,7 +488,7 @@ mod tests {
             }
         }
         assert!(checked.held[0] > 5_000 && checked.held[1] > 1_500);
-        assert!(checked.copies > 1_500 && checked.stages > 5_000);
+        assert!(checked.copies > 1_500 && checked.stages > 5_000 && checked.written > 10_000);
     }
 
     #[test]

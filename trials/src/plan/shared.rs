@@ -1,4 +1,4 @@
-//! The cases of document 02, E2, behind all others: the calls of document 01 on
+//! The cases of document 02, E2, behind those of E1: the calls of document 01 on
 //! the board that shares selectors.
 
 use super::{Planner, LONGEST};
@@ -177,6 +177,6 @@ mod tests {
             })
         };
         let count = drawn().iter().filter(|case| differ(case)).count();
-        assert!(count > 500, "{count}");
+        assert!(count > 300, "{count}");
     }
 }

@@ -2,6 +2,7 @@
 //! document 02 makes of those sheets.
 
 pub mod shared;
+pub mod straight;
 
 use crate::board::Board;
 use crate::case::Case;
@@ -39,7 +40,7 @@ pub fn rows() -> Vec<(&'static str, Case)> {
         ("C as a sheet", quote(2, 196, &limits_only(1, 2, &C_SETS))),
         ("C1", search(1, 2, 1, &C_SETS)),
         ("C1 as a sheet", quote(1, 196, &limits_only(1, 2, &C_SETS))),
-        // Tables: the writer's length is 4 + 3 + 3 * cells.
+        // Tables: the writer's length is 4 + 3 + 3 * selectors.
         ("table 00", write(3, 1, 196, [0x00, 0, 0, 0])),
         ("table AA", write(3, 1, 196, [0xAA, 0, 0, 0])),
         ("table F0", write(3, 1, 196, [0xF0, 0, 0, 0])),
@@ -85,7 +86,8 @@ pub fn clean_rows() -> Vec<(&'static str, Case)> {
 pub const A_STAGE: [u8; 16] =
     [0x20, 0x02, 0x02, 0x21, 0x00, 0x22, 0x01, 0x24, 0x23, 0x21, 0x01, 0x22, 0x02, 0x23, 0x24, 0x2F];
 
-/// Sheet A's present stage: wire 0 is 0001, wire 1 is 1000; 4 cells.
+/// Sheet A's present stage: wire 0 is 0001, wire 1 is 1000; 4 selectors, one of
+/// them straight.
 const A_PRESENT: [u8; 22] = [
     0x20, 0x02, 0x02, 0x21, 0x00, 0x22, 0x01, 0x22, 0x02, 0x24, 0x23, 0x23, 0x21, 0x01, 0x22, 0x01, 0x23, 0x22, 0x02,
     0x23, 0x24, 0x2F,
@@ -152,14 +154,14 @@ mod tests {
 
     #[test]
     fn a() {
-        let two = format!("cells 2 floor 2 visits 0 best\n{A_LINE} +\n");
-        assert_eq!(reply("A"), two);
-        assert_eq!(reply("A with 16 bytes"), two);
+        let quoted = format!("cells 1 floor 1 visits 0 best\n{A_LINE} +\n");
+        assert_eq!(reply("A"), quoted);
+        assert_eq!(reply("A with 16 bytes"), quoted);
         assert_eq!(reply("A with 15 bytes"), "refused 12 at 16 +\n");
-        assert_eq!(reply("A handed in"), "3 10 0 0 cells 2 floor 2 visits 0 best\n");
-        assert_eq!(reply("A's stage audited"), "fits 2\n");
-        assert_eq!(reply("A's present stage audited"), "fits 4\n");
-        assert_eq!(reply("A's stage read"), "2 2 3 10 0 0 cells 2\n");
+        assert_eq!(reply("A handed in"), "3 10 0 0 cells 1 floor 1 visits 0 best\n");
+        assert_eq!(reply("A's stage audited"), "fits 1\n");
+        assert_eq!(reply("A's present stage audited"), "fits 3\n");
+        assert_eq!(reply("A's stage read"), "2 2 3 10 0 0 cells 1\n");
         assert_eq!(reply("A's stage written"), format!("16 {A_LINE} +\n"));
         assert_eq!(reply("A with 06 02 02 00"), "refused 10 at 2 +\n");
         assert_eq!(reply("A with 06 02 02 00 audited"), "sheet refused 10 at 2\n");
@@ -183,25 +185,27 @@ mod tests {
         assert_eq!(crate::relation::of_unit(&unit).unwrap().sets[..4], A_SETS);
     }
 
+    /// B's first answer has input 2 and AND, and no stage has two inputs. C's
+    /// first answer is input 1 and a constant: nothing is left to be visited.
     #[test]
     fn b_and_c() {
-        assert!(reply("B").ends_with("cells 3 floor 3 visits 1 best\n"));
-        assert!(reply("B as a sheet").starts_with("cells 3 floor 3 visits 1 best\n"));
-        assert!(reply("B0").ends_with("cells 3 floor 2 visits 0 stopped\n"));
-        assert!(reply("B0 as a sheet").starts_with("cells 3 floor 2 visits 0 stopped\n"));
-        assert!(reply("C").ends_with("cells 0 floor 0 visits 2 best\n"));
-        assert!(reply("C as a sheet").starts_with("cells 0 floor 0 visits 2 best\n"));
-        assert!(reply("C1").ends_with("cells 1 floor 0 visits 1 stopped\n"));
-        assert!(reply("C1 as a sheet").starts_with("cells 1 floor 0 visits 1 stopped\n"));
+        assert_eq!(reply("B"), "10 8 0 0 cells 1 floor 1 visits 1 best\n");
+        assert!(reply("B as a sheet").starts_with("cells 1 floor 1 visits 1 best\n"));
+        assert_eq!(reply("B0"), "10 8 0 0 cells 1 floor 0 visits 0 stopped\n");
+        assert!(reply("B0 as a sheet").starts_with("cells 1 floor 0 visits 0 stopped\n"));
+        for name in ["C", "C1"] {
+            assert_eq!(reply(name), "0 2 0 0 cells 0 floor 0 visits 0 best\n");
+            assert!(reply(&format!("{name} as a sheet")).starts_with("cells 0 floor 0 visits 0 best\n"));
+        }
     }
 
     #[test]
     fn tables() {
-        for (table, name, count) in
-            [(0x00, "00", 0), (0xAA, "AA", 1), (0xF0, "F0", 1), (0xE8, "E8", 5), (0x96, "96", 7)]
+        for (table, name, count, selectors) in
+            [(0x00, "00", 0, 0), (0xAA, "AA", 0, 1), (0xF0, "F0", 0, 1), (0xE8, "E8", 3, 5), (0x96, "96", 5, 7)]
         {
             assert_eq!(cells(3, table), count);
-            assert!(reply(&format!("table {name}")).starts_with(&format!("{} 20 03 01 ", 7 + 3 * count)));
+            assert!(reply(&format!("table {name}")).starts_with(&format!("{} 20 03 01 ", 7 + 3 * selectors)));
             let line = format!("{table} 0 0 0 cells {count} floor {count} visits 0 best\n");
             assert_eq!(reply(&format!("table {name} handed in")), line);
         }

@@ -10,14 +10,15 @@ use crate::diagram::LONGEST_SHARED;
 pub const A_LISTS: [u8; 18] =
     [0x20, 0x02, 0x02, 0x26, 0x00, 0x01, 0x01, 0x01, 0x00, 0x02, 0x26, 0x01, 0x01, 0x02, 0x00, 0x01, 0x02, 0x2F];
 
-/// Sheet A's present stage: wire 0 is 0001, wire 1 is 1000; 4 cells.
+/// Sheet A's present stage: wire 0 is 0001, wire 1 is 1000; 4 selectors, one of
+/// them straight.
 const A_PRESENT: [u8; 24] = [
     0x20, 0x02, 0x02, 0x26, 0x00, 0x02, 0x02, 0x01, 0x00, 0x01, 0x02, 0x00, 0x03, 0x26, 0x01, 0x02, 0x02, 0x00, 0x01,
     0x01, 0x00, 0x02, 0x03, 0x2F,
 ];
 
 /// A stage of one wire: its list, and the top.
-fn one_wire(n: u8, entries: &[[u8; 3]], top: u8) -> Vec<u8> {
+pub(super) fn one_wire(n: u8, entries: &[[u8; 3]], top: u8) -> Vec<u8> {
     let mut stage = vec![0x20, n, 0x01, 0x26, 0x00, entries.len() as u8];
     stage.extend(entries.concat());
     stage.extend([top, 0x2F]);
@@ -103,43 +104,44 @@ mod tests {
 
     #[test]
     fn a() {
-        let two = format!("cells 2 floor 2 visits 0 best\n{A_LINE} +\n");
-        assert_eq!(reply("A"), two);
-        assert_eq!(reply("A with 18 bytes"), two);
+        let quoted = format!("cells 1 floor 1 visits 0 best\n{A_LINE} +\n");
+        assert_eq!(reply("A"), quoted);
+        assert_eq!(reply("A with 18 bytes"), quoted);
         assert_eq!(reply("A with 17 bytes"), "refused 12 at 18 +\n");
         assert_eq!(reply("A with 15 bytes"), "refused 12 at 18 +\n");
         assert_eq!(reply("A with 16 bytes"), "refused 12 at 18 +\n");
-        assert_eq!(reply("A handed in"), "3 10 0 0 cells 2 floor 2 visits 0 best\n");
+        assert_eq!(reply("A handed in"), "3 10 0 0 cells 1 floor 1 visits 0 best\n");
         assert_eq!(reply("A's stage written"), format!("18 {A_LINE} +\n"));
         assert_eq!(reply("A's stage audited"), "stage refused 2 at 3\n");
         assert_eq!(reply("A's stage read"), "refused 2 at 3\n");
-        assert_eq!(reply("A's lists audited"), "fits 2\n");
-        assert_eq!(reply("A's present lists audited"), "fits 4\n");
-        assert_eq!(reply("A's lists read"), "2 2 3 10 0 0 cells 2\n");
-        assert_eq!(reply("A's present lists read"), "2 2 1 8 0 0 cells 4\n");
+        assert_eq!(reply("A's lists audited"), "fits 1\n");
+        assert_eq!(reply("A's present lists audited"), "fits 3\n");
+        assert_eq!(reply("A's lists read"), "2 2 3 10 0 0 cells 1\n");
+        assert_eq!(reply("A's present lists read"), "2 2 1 8 0 0 cells 3\n");
         assert_eq!(reply("A with 06 02 02 00"), "refused 10 at 2 +\n");
         assert_eq!(reply("A with 06 02 02 00 audited"), "sheet refused 10 at 2\n");
     }
 
+    /// As on the tree board: two inputs are too few to share anything.
     #[test]
     fn b_and_c() {
-        assert!(reply("B").ends_with("cells 3 floor 3 visits 1 best\n"));
-        assert!(reply("B as a sheet").starts_with("cells 3 floor 3 visits 1 best\n"));
-        assert!(reply("B0").ends_with("cells 3 floor 2 visits 0 stopped\n"));
-        assert!(reply("B0 as a sheet").starts_with("cells 3 floor 2 visits 0 stopped\n"));
-        assert!(reply("C").ends_with("cells 0 floor 0 visits 2 best\n"));
-        assert!(reply("C as a sheet").starts_with("cells 0 floor 0 visits 2 best\n"));
-        assert!(reply("C1").ends_with("cells 1 floor 0 visits 1 stopped\n"));
-        assert!(reply("C1 as a sheet").starts_with("cells 1 floor 0 visits 1 stopped\n"));
+        assert_eq!(reply("B"), "10 8 0 0 cells 1 floor 1 visits 1 best\n");
+        assert!(reply("B as a sheet").starts_with("cells 1 floor 1 visits 1 best\n"));
+        assert_eq!(reply("B0"), "10 8 0 0 cells 1 floor 0 visits 0 stopped\n");
+        assert!(reply("B0 as a sheet").starts_with("cells 1 floor 0 visits 0 stopped\n"));
+        for name in ["C", "C1"] {
+            assert_eq!(reply(name), "0 2 0 0 cells 0 floor 0 visits 0 best\n");
+            assert!(reply(&format!("{name} as a sheet")).starts_with("cells 0 floor 0 visits 0 best\n"));
+        }
     }
 
     /// Document 01's tables, counted anew.
     #[test]
     fn tables() {
-        for (table, name, count) in
-            [(0x00, "00", 0), (0xAA, "AA", 1), (0xF0, "F0", 1), (0xE8, "E8", 4), (0x96, "96", 5)]
+        for (table, name, count, selectors) in
+            [(0x00, "00", 0, 0), (0xAA, "AA", 0, 1), (0xF0, "F0", 0, 1), (0xE8, "E8", 3, 4), (0x96, "96", 4, 5)]
         {
-            assert!(reply(&format!("table {name}")).starts_with(&format!("{} 20 03 01 26 00 ", 8 + 3 * count)));
+            assert!(reply(&format!("table {name}")).starts_with(&format!("{} 20 03 01 26 00 ", 8 + 3 * selectors)));
             let line = format!("{table} 0 0 0 cells {count} floor {count} visits 0 best\n");
             assert_eq!(reply(&format!("table {name} handed in")), line);
         }
@@ -161,7 +163,7 @@ mod tests {
         assert_eq!(reply("parity of four"), four);
         assert_eq!(reply("parity of four, 29 bytes"), four);
         assert_eq!(reply("parity of four, 27 bytes"), "refused 12 at 29 +\n");
-        assert_eq!(reply("parity of four handed in"), "27030 0 0 0 cells 7 floor 7 visits 0 best\n");
+        assert_eq!(reply("parity of four handed in"), "27030 0 0 0 cells 6 floor 6 visits 0 best\n");
         let chosen = "17 20 03 01 26 00 03 03 00 01 02 00 01 01 02 03 04 2F +\n";
         assert_eq!(reply("two inputs chosen from"), chosen);
         assert!(reply("most selectors").starts_with("128 20 04 04 26 00 09 "));
@@ -171,11 +173,11 @@ mod tests {
     fn read_and_counted() {
         assert_eq!(reply("no entry, top 0"), "1 1 0 0 0 0 cells 0\n");
         assert_eq!(reply("no entry, top 1"), "1 1 3 0 0 0 cells 0\n");
-        assert_eq!(reply("253 entries, top 254"), "1 1 2 0 0 0 cells 253\n");
-        assert_eq!(reply("an entry twice"), "2 1 10 0 0 0 cells 3\n");
-        assert_eq!(reply("an entry not reached"), "2 1 10 0 0 0 cells 2\n");
+        assert_eq!(reply("253 entries, top 254"), "1 1 2 0 0 0 cells 0\n");
+        assert_eq!(reply("an entry twice"), "2 1 10 0 0 0 cells 1\n");
+        assert_eq!(reply("an entry not reached"), "2 1 10 0 0 0 cells 0\n");
         assert_eq!(reply("an entry worth a constant"), "2 1 12 0 0 0 cells 2\n");
-        assert_eq!(reply("an input passed over"), "3 1 250 0 0 0 cells 2\n");
+        assert_eq!(reply("an input passed over"), "3 1 250 0 0 0 cells 1\n");
     }
 
     #[test]

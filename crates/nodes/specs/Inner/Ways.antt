@@ -1,10 +1,12 @@
 -- What the functions of `picks` give on the way to the pick of a table of four inputs, from the table of the best quarters.
 use Prim.Native.Nat.{ℕ, zero, suc, _+_, _*_, _^_, _/_, _%_, _-_, min}
+use mathlib.Core.Bool.{cond}
 use mathlib.Core.List.{List, [], _∷_}
 use lib.Bits.{bitAnd, bitOr}
+use lib.Dec.{eqb}
 use Rattle.table.specs.Inner.Ranks.{tableSpace}
 use Rattle.table.specs.Inner.Pairs.{blockSpace, byteBits, pairBits}
-use Rattle.table.specs.Inner.Blocks.{entries, threeSpace, noEntry, bestAt}
+use Rattle.table.specs.Inner.Blocks.{entries, threeSpace, noTable, noEntry, bestAt}
 use Rattle.nodes.specs.Inner.Tops.{topPrice}
 
 -- a selector, in a rank
@@ -39,8 +41,21 @@ mostClass = noEntry * threeSpace + threeSpace
 abbrev pub apartAt : (x y i j : ℕ) → ℕ
 apartAt x y i j = classAt x i + classAt y j
 
+-- a constant quarter of ones
+abbrev pub onesQuarter : ℕ
+onesQuarter = blockSpace - 1
+
+-- more than the rank of any table
+abbrev pub noLine : ℕ
+noLine = noTable * oneNode
+
+-- The line of an input, which is soldered through: constant 0 in the quarters of a class, of masks x, and constant 1 in those of another, of masks y at the
+-- places j. No selector counts.
+unfoldable pub lineAt : (x y j : ℕ) → ℕ
+lineAt x y j = cond (eqb (bitAnd (x / blockSpace) y % blockSpace) onesQuarter) (j * onesQuarter) noLine
+
 abbrev pub halfAt : (x y i j : ℕ) → ℕ
-halfAt x y i j = min (classAt (bitAnd x y) (i + j)) (oneNode + apartAt x y i j)
+halfAt x y i j = min (min (classAt (bitAnd x y) (i + j)) (lineAt x y j)) (oneNode + apartAt x y i j)
 
 abbrev pub four : (a b c d : ℕ) → ℕ → ℕ
 four a b c d zero = a
@@ -61,11 +76,14 @@ places (j ∷ js) = places js + placeOf j
 abbrev pub classIn : (ℕ → ℕ) → List ℕ → ℕ
 classIn byte js = classAt (together byte js) (places js)
 
+abbrev pub lineIn : (ℕ → ℕ) → (zeros ones : List ℕ) → ℕ
+lineIn byte js ks = lineAt (together byte js) (together byte ks) (places ks)
+
 -- the masks of the quarters of a pair, each in the lowest byte
 abbrev pub quarterBytes : ℕ → ℕ → ℕ
 quarterBytes w = four w (w / 2 ^ byteBits) (w / 2 ^ (2 * byteBits)) (w / 2 ^ (3 * byteBits))
 
--- The least over the ways in which quarters coincide, from what the classes give, with no selectors on input 4.
+-- The least over the ways in which quarters coincide, from what the classes give, and over the lines, with no selectors on input 4.
 module _ (F : List ℕ → ℕ) where
   abbrev pub one : ℕ → ℕ
   one i = F (i ∷ [])
@@ -75,14 +93,6 @@ module _ (F : List ℕ → ℕ) where
 
   abbrev pub three : (i j k : ℕ) → ℕ
   three i j k = F (k ∷ j ∷ i ∷ [])
-
-  -- equal halves: one class, or two
-  abbrev pub halvesAlike : ℕ
-  halvesAlike = min (F (3 ∷ 2 ∷ 1 ∷ 0 ∷ [])) (oneNode + (two 0 2 + two 1 3))
-
-  -- halves that share no quarter
-  abbrev pub treeLike : ℕ
-  treeLike = oneNode + min (two 0 1) (oneNode + (one 0 + one 1)) + min (two 2 3) (oneNode + (one 2 + one 3))
 
   -- three quarters alike
   abbrev pub threeAlike : ℕ
@@ -99,54 +109,40 @@ module _ (F : List ℕ → ℕ) where
   abbrev pub acrossAlike : ℕ
   acrossAlike = 3 * oneNode + min crossedAlike besideAlike
 
-  unfoldable pub leastWay : ℕ
-  leastWay = min (min halvesAlike treeLike) (min threeAlike acrossAlike)
+  module _ (L : (zeros ones : List ℕ) → ℕ) where
+    -- a half, of the quarters i and j: one class, a line, or two classes
+    abbrev pub halfLeast : (i j : ℕ) → ℕ
+    halfLeast i j = min (min (two i j) (L (i ∷ []) (j ∷ []))) (oneNode + (one i + one j))
 
--- a bit of w stays where the bit beside it, which `beside` moves to its seat, is set, and where it is one of `free`
-abbrev pub restricted : (beside : ℕ → ℕ) (free w : ℕ) → ℕ
-restricted beside free w = bitAnd w (bitOr (beside w) free)
+    -- the line of the first input, and of the second
+    abbrev pub firstLine : ℕ
+    firstLine = L (1 ∷ 0 ∷ []) (3 ∷ 2 ∷ [])
 
-abbrev pub fromAbove : ℕ → ℕ
-fromAbove w = w / 2 ^ 1
+    abbrev pub secondLine : ℕ
+    secondLine = L (2 ∷ 0 ∷ []) (3 ∷ 1 ∷ [])
 
-abbrev pub fromBelow : ℕ → ℕ
-fromBelow w = w * 2 ^ 1 % 2 ^ pairBits
+    -- equal halves: one class, a line, or two classes
+    abbrev pub halvesAlike : ℕ
+    halvesAlike = min (min (F (3 ∷ 2 ∷ 1 ∷ 0 ∷ [])) secondLine) (oneNode + (two 0 2 + two 1 3))
 
--- all seats of a pair but those of the zeros on the patterns where the last input is 0 (even) or 1 (odd)
-abbrev pub notEvenZeros : ℕ
-notEvenZeros = 0xafafafaf
+    -- halves that share no quarter
+    abbrev pub treeLike : ℕ
+    treeLike = oneNode + halfLeast 0 1 + halfLeast 2 3
 
+    unfoldable pub leastWay : ℕ
+    leastWay = min (min (min halvesAlike firstLine) treeLike) (min threeAlike acrossAlike)
+
+-- all seats of a pair but those of the zeros on the odd patterns, where the last input is 1
 abbrev pub notOddZeros : ℕ
 notOddZeros = 0x5f5f5f5f
 
--- the masks under which no best quarter has the last input as a half, or its inverse
-abbrev pub noPlain : ℕ → ℕ
-noPlain = restricted fromAbove notEvenZeros
+-- each bit in the seat above its own
+abbrev pub fromBelow : ℕ → ℕ
+fromBelow w = w * 2 ^ 1 % 2 ^ pairBits
 
+-- the masks under which no best quarter has the inverse of the last input as a half: 0 stays on an odd pattern where it may stand on the even one below
 abbrev pub noInverted : ℕ → ℕ
-noInverted = restricted fromBelow notOddZeros
-
--- The choices of selectors on the last input, both, neither, the inverse, the input: the pair restricted to a choice, its selectors, and what it gives.
-abbrev pub choiceCount : ℕ
-choiceCount = 4
-
-abbrev pub choiceOf : (w u : ℕ) → ℕ
-choiceOf w = four w (noPlain (noInverted w)) (noPlain w) (noInverted w)
-
-abbrev pub costOf : ℕ → ℕ
-costOf = four (2 * oneNode) 0 oneNode oneNode
+noInverted w = bitAnd w (bitOr (fromBelow w) notOddZeros)
 
 abbrev pub wayOf : ℕ → ℕ
-wayOf w = leastWay (classIn (quarterBytes w))
-
-abbrev pub chosen : (w u : ℕ) → ℕ
-chosen w u = wayOf (choiceOf w u) + costOf u
-
--- more than any rank
-abbrev pub noPick : ℕ
-noPick = 0xffffffff
-
--- the least over the first u choices
-abbrev pub leastChosen : (w u : ℕ) → ℕ
-leastChosen w zero = noPick
-leastChosen w (suc u) = min (leastChosen w u) (chosen w u)
+wayOf w = leastWay (classIn (quarterBytes w)) (lineIn (quarterBytes w))

@@ -90,9 +90,8 @@ returns-2 c =
 
 stage-selectors-requires : tie.Need-stage-selectors-requires
 stage-selectors-requires c κs =
-    let a = from2 c .args in
     let z = sized (c .before .before) in
-    (z .n-least, z .n-most, z .m-most, tables-in (a .n) (a .m) (a .tables) (in-range c))
+    (z .n-most, z .m-most)
 
 stage-length-requires : tie.Need-stage-length-requires
 stage-length-requires c κs = search needs

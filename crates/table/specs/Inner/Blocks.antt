@@ -62,14 +62,14 @@ zerosAt low high = high / blockSpace * blockSpace + low / blockSpace
 abbrev pub onesAt : (low high : ℕ) → ℕ
 onesAt low high = high % blockSpace * blockSpace + low % blockSpace
 
--- a number shows the least table of n inputs: its cells times w, and the table; where none suits, at least as much as noTable cells
-abbrev pub Shown : ℕ → ℕ → Option ℕ → ℕ → Type 0
-Shown n w none x = noTable * w ≤ x
-Shown n w (some t) x = x ≡ cells n t * w + t
+-- a number shows a table by its key: the key times w, and the table; where there is none, at least as much as noTable times w
+abbrev pub Shown : (ℕ → ℕ) → ℕ → Option ℕ → ℕ → Type 0
+Shown key w none x = noTable * w ≤ x
+Shown key w (some t) x = x ≡ key t * w + t
 
--- it shows the least table between two masks
+-- it shows the least table of n inputs between two masks, by its cells
 abbrev pub PickShown : (n w zeros ones x : ℕ) → Type 0
-PickShown n w zeros ones = Shown n w (leastOf (cells n) n (masked zeros ones))
+PickShown n w zeros ones = Shown (cells n) w (leastOf (cells n) n (masked zeros ones))
 
 -- each of the patterns has 0 or 1
 abbrev pub Covered : ℕ → ℕ → ℕ → Type 0

@@ -1,7 +1,7 @@
 -- `tops` meets its contract: the rule of the table is one test over all of its entries.
 use mathlib.Core.Path.{refl}
 use Rattle.table.specs.Bits.{bit, all}
-use Rattle.table.specs.Cells.{low, high}
+use Rattle.table.specs.Cells.{low, high, full, wiredTable, selectorCells}
 use Rattle.table.specs.Pick.{suits, nearer, least, leastOf}
 use Rattle.table.specs.Inner.Ranks.{masked}
 use Rattle.table.specs.Inner.Blocks.{blockEntry, bestBlock}
@@ -12,7 +12,7 @@ use Rattle.nodes.proofs.picks.tops.Statement.{statement}
 use Rattle.nodes.proofs.picks.tops.Tie as tie
 
 returns : tie.Need-returns
-unfolding right bestBlock blockEntry topPrice price leastOf least nearer suits masked all bit low high
+unfolding right bestBlock blockEntry topPrice price leastOf least nearer suits masked all bit low high full wiredTable selectorCells
 returns c = tested topPrice _ refl tt
 
 pub tops-spec : {M : Type 1} → statement M

@@ -1,4 +1,4 @@
--- `way` meets its contract: equal halves where the masks are repeated, and otherwise the least of four groups.
+-- `way` meets its contract: equal halves where the masks are repeated, and otherwise the least of four groups and a line.
 use Prim.Native.Nat.{min}
 use mathlib.Core.Path.{sym, ap₂, _∙_}
 use native.Mathlib.Omega.{arith}
@@ -15,6 +15,12 @@ returns : tie.Need-returns
 returns c =
     let h = c .before in
     (h .halves-alike .ensures .0 ∙ sym (repeated-way (h .before .args .pair) (omega arith)), h .halves-alike .ensures .1)
+
+add-line : tie.Need-add-line
+add-line c = search needs
+
+line-requires : tie.Need-line-requires
+line-requires c κs = search needs
 
 three-alike-requires : tie.Need-three-alike-requires
 three-alike-requires c κs = search needs
@@ -34,19 +40,25 @@ lesser-requires-2 c κs = search needs
 lesser-requires-3 : tie.Need-lesser-requires-3
 lesser-requires-3 c κs = search needs
 
+lesser-requires-4 : tie.Need-lesser-requires-4
+lesser-requires-4 c κs = search needs
+
 returns-2 : tie.Need-returns-2
 unfolding leastWay
 returns-2 c =
-    let y = c .before in
+    let z = c .before in
+    let y = z .before in
     let x = y .before in
     let tree = x .before in
     let across = tree .before in
     let three = across .before in
-    let halves = three .before .before in (
-      c .lesser3 .ensures
-          ∙ ap₂ min (x .lesser .ensures ∙ ap₂ min (halves .halves-alike .ensures .0) (tree .tree-like .ensures))
-          (y .lesser2 .ensures ∙ ap₂ min (three .three-alike .ensures) (across .across-alike .ensures)),
-      omega (arith, c .lesser3 .ensures, x .lesser .ensures, halves .halves-alike .ensures .1),
+    let first = three .before in
+    let halves = first .before .before in (
+      c .lesser4 .ensures
+          ∙ ap₂ min
+          (y .lesser2 .ensures ∙ ap₂ min (x .lesser .ensures ∙ ap₂ min (halves .halves-alike .ensures .0) (first .line .ensures .0)) (tree .tree-like .ensures))
+          (z .lesser3 .ensures ∙ ap₂ min (three .three-alike .ensures) (across .across-alike .ensures)),
+      omega (arith, c .lesser4 .ensures, y .lesser2 .ensures, x .lesser .ensures, halves .halves-alike .ensures .1),
     )
 
 pub way-spec : {M : Type 1} → statement M
@@ -55,10 +67,13 @@ way-spec =
     (tie.spec
     halves-alike-requires
     returns
+    add-line
+    line-requires
     three-alike-requires
     across-alike-requires
     tree-like-requires
     lesser-requires
     lesser-requires-2
     lesser-requires-3
+    lesser-requires-4
     returns-2)

@@ -4,7 +4,7 @@ use mathlib.Core.Path.{_≡_, refl, subst}
 use native.Mathlib.Omega.{arith}
 use borrow.Author.Needs.{needs}
 use lib.ListN.{length, drop, length-set}
-use Rattle.diagram.specs.Diagram.{mostEntries}
+use Rattle.diagram.specs.Diagram.{mostEntries, entryPrice}
 use Rattle.diagram.specs.Diagrams.{diagramDrawing}
 use Rattle.diagram.specs.Read.{entryAt}
 use Rattle.stage_reader.specs.Inner.Numbers.{mostNumbers, entryThere, entryBy}
@@ -41,6 +41,13 @@ judged : (c : tie.After-judge-entry Inv-loop μ-loop)
 judged c =
     let g = turn c .loop .inv .3 in
     c .judge-entry .ensures (g .entries) (own-number g) (g .inputs-tell)
+
+-- it was accepted: there is room for it, and its bytes stand there
+few : (e : tie.Else1 Inv-loop μ-loop) → turn (e .before) .loop .k < mostEntries
+few e = omega (arith, e .before .before .before .loop-test .taken, from (turn (e .before)) .pre .1)
+
+whole : (e : tie.Else1 Inv-loop μ-loop) → place (turn (e .before)) + 3 ≤ length (from (turn (e .before)) .args .s .now)
+whole e = entry-there (turn (e .before) .loop .inv .3) (judged (e .before)) (e .if1 .left) (few e)
 
 all-ones-requires : tie.Need-all-ones-requires Inv-loop μ-loop
 all-ones-requires c κs = search needs
@@ -87,18 +94,13 @@ keep-entry-requires c κs =
     let e = c .before .before in
     let j = e .before in
     let l = turn j in
-    let few : l .loop .k < mostEntries = omega (arith, j .before .before .loop-test .taken, from l .pre .1) in
-    let g = l .loop .inv .3 in (
-      from l .pre .0,
-      entry-there g (judged j) (e .if1 .left) few,
-      omega arith,
-      entry-selects g (judged j) (e .if1 .left) few,
-    )
+    (from l .pre .0, whole e, omega (arith, few e), entry-selects (l .loop .inv .3) (judged j) (e .if1 .left) (few e))
 
 count-entry-requires : tie.Need-count-entry-requires Inv-loop μ-loop
 count-entry-requires c κs =
-    let l = turn (c .before .before .before .before) in
-    omega (arith, cells-few (l .loop .inv .3), l .loop .inv .0, from l .pre .1)
+    let e = c .before .before .before in
+    let l = turn (e .before) in
+    (whole e, omega (arith, cells-few (l .loop .inv .3), few e))
 
 add-k : tie.Need-add-k Inv-loop μ-loop
 add-k c = omega arith
@@ -114,12 +116,11 @@ loop-again c =
     let l = turn j in
     let a = from l .args in
     let i = l .loop .inv in
-    let few : l .loop .k < mostEntries = omega (arith, j .before .before .loop-test .taken, from l .pre .1) in
-    let count = c .count-entry .ensures (entryThere (a .s .now) (place l)) in (
+    let count : c .count-entry .result ≡ entryPrice (entryThere (a .s .now) (place l)) + l .loop .cells = c .count-entry .ensures in (
       omega (arith, j .before .before .loop-test .taken),
       simp (kept .0, length-set) (i .1),
       simp (kept .1, length-set) (i .2),
-      rw (kept .0, kept .1, count) (one-more (i .3) (judged j) (e .if1 .left) few (i .1) (i .2)),
+      rw (kept .0, kept .1, count) (one-more (i .3) (judged j) (e .if1 .left) (few e) (i .1) (i .2)),
     )
 
 mul-read-top : tie.Need-mul-read-top Inv-loop μ-loop

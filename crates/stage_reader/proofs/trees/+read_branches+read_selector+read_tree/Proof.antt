@@ -15,7 +15,8 @@ use Rattle.sheet.specs.Limits.{maxPatterns, countOut}
 use Rattle.sheet.proofs.Sizes.{count-in}
 use Rattle.sheet.proofs.limits.all_ones.Reads as all-ones-reads
 use Rattle.sheet.proofs.limits.count_out.Reads as count-out-reads
-use Rattle.table.specs.Tree.{selectors}
+use Rattle.table.specs.Tree.{treeCells}
+use Rattle.table.proofs.Wired.{selector-most}
 use Rattle.stage.specs.Steps.{fault}
 use Rattle.stage.specs.TreeRead.{branchesAt, selectorAt, treeAt}
 use Rattle.stage.specs.Trees.{treeDrawing}
@@ -26,6 +27,7 @@ use Rattle.stage_reader.proofs.Taken.{handed, step-refused}
 use Rattle.stage_reader.proofs.Branches.{tree-bounds, first-fault, second-fault, both-taken}
 use Rattle.stage_reader.proofs.due.misplaced_number.Reads as misplaced-number-reads
 use Rattle.stage_reader.proofs.tables.select.Reads as select-reads
+use Rattle.stage_reader.proofs.trees.selector_cost.Reads as selector-cost-reads
 use Rattle.stage_reader.proofs.trees.read_branches.Reads as branches
 use Rattle.stage_reader.proofs.trees.read_selector.Reads as selector
 use Rattle.stage_reader.proofs.trees.read_tree.Reads as tree
@@ -49,7 +51,7 @@ module _ (t : ℕ) where
 
   -- the two trees of a selector
   abbrev branches-claims : branches-lts.Claims
-  branches-claims = (below 2 tree.Pre, tree.Post, select-reads.Asked, select-reads.Learnt)
+  branches-claims = (below 2 tree.Pre, tree.Post, select-reads.Asked, select-reads.Learnt, selector-cost-reads.Asked, selector-cost-reads.Learnt)
 
   abbrev Branches : (branches-lts.Claims → In 1 kinds.ps → Out 1 kinds.ps kinds.r → Type 0) → Type 0
   Branches N = N branches-claims (here 3 branches.Pre) branches.Post
@@ -121,17 +123,23 @@ module _ (t : ℕ) where
   branches-select-requires : Branches branches-lts.Need-select-requires
   branches-select-requires c κs = omega (arith, bounds (c .before), from (earlier (c .before)) .pre .1)
 
-  branches-add-t14 : Branches branches-lts.Need-add-t14
-  branches-add-t14 c = omega (arith, bounds (c .before .before))
+  branches-cost-requires : Branches branches-lts.Need-selector-cost-requires
+  branches-cost-requires c κs = search needs
+
+  one-most : (c : Branches branches-lts.After-selector-cost) → c .selector-cost .result ≤ 1
+  one-most c = rw (c .selector-cost .ensures) (selector-most _)
 
   branches-add-t15 : Branches branches-lts.Need-add-t15
-  branches-add-t15 c = omega (arith, bounds (c .before .before))
+  branches-add-t15 c = omega (arith, one-most c, bounds (c .before .before .before))
+
+  branches-add-t16 : Branches branches-lts.Need-add-t16
+  branches-add-t16 c = omega (arith, one-most c, bounds (c .before .before .before))
 
   branches-returns-3 : Branches branches-lts.Need-returns-3
   branches-returns-3 c =
-      let o = c .before .before in
+      let o = c .before .before .before in
       let a = from (earlier o) .args in
-      both-taken (a .s .now) (a .n) (a .i) (a .at) _ _ _ (first (earlier o)) _ _ _ _ (second o) (c .select .ensures)
+      both-taken (a .s .now) (a .n) (a .i) (a .at) _ _ _ (first (earlier o)) _ _ _ _ _ (second o) (c .before .select .ensures) (c .selector-cost .ensures)
 
   pub branches-meet : {M : Type 1} → branches-lts.Closed branches-claims (here 3 branches.Pre) branches.Post M
   branches-meet =
@@ -148,8 +156,9 @@ module _ (t : ℕ) where
       branches-told-2
       branches-returns-2
       branches-select-requires
-      branches-add-t14
+      branches-cost-requires
       branches-add-t15
+      branches-add-t16
       branches-returns-3
 
   -- a selector
@@ -294,14 +303,14 @@ module _ (t : ℕ) where
       rw (tree-selects (a .s .now) (a .n) (a .k) (a .at) (from-tree e .pre .1 .0) (e .if1 .left) (c .before .match .keys1)) (c .read-selector .ensures)
 
   tree-returns-3 : Tree tree-lts.Need-returns-3
-  unfolding stepOf selectors
+  unfolding stepOf treeCells
   tree-returns-3 c =
       let e = c .before .before in
       let a = from-tree e .args in
       rw (tree-zero (a .s .now) (a .n) (a .k) (a .at) (from-tree e .pre .1 .0) (e .if1 .left) (c .match .keys2), table-zero (a .n))
 
   tree-returns-4 : Tree tree-lts.Need-returns-4
-  unfolding stepOf selectors
+  unfolding stepOf treeCells
   tree-returns-4 c =
       let e = c .before .before .before in
       let a = from-tree e .args in

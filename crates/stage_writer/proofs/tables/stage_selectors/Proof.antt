@@ -31,15 +31,13 @@ array-read-selectors : tie.Need-array-read-selectors Inv-loop μ-loop
 array-read-selectors c = omega arith
 
 selectors-requires : tie.Need-selectors-requires Inv-loop μ-loop
-selectors-requires c κs =
-    let p = c .before .before .pre in
-    (p .0, p .1, p .3 (c .before .loop .j) (c .loop-test .taken))
+selectors-requires c κs = c .before .before .pre .0
 
 add-all : tie.Need-add-all Inv-loop μ-loop
 add-all c =
     let l = c .before .before .loop in
     let s = c .before .before .before in
-    omega (arith, l .inv, s .pre .2, c .before .loop-test .taken, c .selectors .ensures)
+    omega (arith, l .inv, s .pre .1, c .before .loop-test .taken, c .selectors .ensures)
 
 add-j : tie.Need-add-j Inv-loop μ-loop
 add-j c = omega arith

@@ -2,7 +2,7 @@
 use mathlib.Core.Path.{_≡_, _∙_}
 use native.Mathlib.Omega.{arith}
 use borrow.Author.Needs.{needs}
-use Rattle.table.proofs.Count.{fits-at, cells-at, entry-small, of-one, of-two, of-three, of-four-alike, of-four}
+use Rattle.table.proofs.Count.{fits-at, cells-at, entry-small, of-one, of-two, of-three, of-four-alike, of-input-one, of-four}
 use Rattle.table.proofs.cell_counts.count.Statement.{statement}
 use Rattle.table.proofs.cell_counts.count.Tie as tie
 
@@ -51,6 +51,18 @@ cast-high c = search needs
 count8-requires-4 : tie.Need-count8-requires-4
 count8-requires-4 c κs = search needs
 
+returns-4 : tie.Need-returns-4
+returns-4 c =
+    let i = c .before .before .before .before .before in
+    let four : i .args .n ≡ 4 = omega arith in
+    cells-at (i .args .t) four (i .pre .2) (λ h. c .count84 .ensures ∙ of-four-alike (i .args .t) h (c .before .if4 .taken))
+
+returns-5 : tie.Need-returns-5
+returns-5 c =
+    let i = c .before .before .before .before .before in
+    let four : i .args .n ≡ 4 = omega arith in
+    cells-at (i .args .t) four (i .pre .2) (λ h. of-input-one (i .args .t) h (c .if5 .taken))
+
 count8-requires-5 : tie.Need-count8-requires-5
 count8-requires-5 c κs = search needs
 
@@ -66,18 +78,12 @@ add-result-2 c =
     let high = entry-small _ (c .count86 .ensures) in
     omega arith
 
-returns-4 : tie.Need-returns-4
-returns-4 c =
-    let i = c .before .before .before .before .before in
-    let four : i .args .n ≡ 4 = omega arith in
-    cells-at (i .args .t) four (i .pre .2) (λ h. c .count84 .ensures ∙ of-four-alike (i .args .t) h (c .before .if4 .taken))
-
-returns-5 : tie.Need-returns-5
-returns-5 c =
-    let i = c .before .before .before .before .before .before in
+returns-6 : tie.Need-returns-6
+returns-6 c =
+    let i = c .before .before .before .before .before .before .before in
     let four : i .args .n ≡ 4 = omega arith in
     cells-at (i .args .t) four (i .pre .2)
-    (λ h. of-four (i .args .t) h (c .before .before .if4 .left) (c .before .count85 .ensures) (c .count86 .ensures))
+    (λ h. of-four (i .args .t) h (c .before .before .before .if4 .left) (c .before .before .if5 .left) (c .before .count85 .ensures) (c .count86 .ensures))
 
 pub count-spec : {M : Type 1} → statement M
 count-spec =
@@ -96,9 +102,10 @@ count-spec =
     returns-3
     cast-high
     count8-requires-4
+    returns-4
+    returns-5
     count8-requires-5
     add-result
     count8-requires-6
     add-result-2
-    returns-4
-    returns-5)
+    returns-6)

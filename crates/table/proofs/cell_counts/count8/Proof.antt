@@ -5,7 +5,7 @@ use Prim.Native.Nat.{ℕ}
 use lib.Dec.{eqb, eqb→eq}
 use lib.ListN.{getD}
 use borrow.Author.Needs.{needs}
-use Rattle.table.specs.Cells.{cells, low, high}
+use Rattle.table.specs.Cells.{low, high, full, wiredTable, selectorCells, cells}
 use Rattle.base.proofs.Table.{at}
 use Rattle.table.proofs.cell_counts.count8.Statement.{statement}
 use Rattle.table.proofs.cell_counts.count8.Tie as tie
@@ -13,14 +13,14 @@ use Rattle.table.proofs.cell_counts.count8.Tie as tie
 -- the entries as the code has them
 table : List ℕ
 table =
-    0 ∷ 3 ∷ 3 ∷ 2 ∷ 3 ∷ 2 ∷ 4 ∷ 3 ∷ 3 ∷ 4 ∷ 2 ∷ 3 ∷ 2 ∷ 3 ∷ 3 ∷ 1 ∷ 3 ∷ 2 ∷ 5 ∷ 4 ∷ 5 ∷ 4 ∷ 6 ∷ 5 ∷ 5 ∷ 6 ∷ 4 ∷ 5 ∷ 4 ∷ 5 ∷ 5 ∷ 3 ∷
-    3 ∷ 5 ∷ 2 ∷ 4 ∷ 5 ∷ 4 ∷ 6 ∷ 5 ∷ 5 ∷ 6 ∷ 4 ∷ 5 ∷ 4 ∷ 5 ∷ 5 ∷ 3 ∷ 2 ∷ 4 ∷ 4 ∷ 1 ∷ 4 ∷ 3 ∷ 5 ∷ 4 ∷ 4 ∷ 5 ∷ 3 ∷ 4 ∷ 3 ∷ 4 ∷ 4 ∷ 2 ∷
-    3 ∷ 5 ∷ 5 ∷ 4 ∷ 2 ∷ 4 ∷ 6 ∷ 5 ∷ 5 ∷ 6 ∷ 4 ∷ 5 ∷ 4 ∷ 5 ∷ 5 ∷ 3 ∷ 2 ∷ 4 ∷ 4 ∷ 3 ∷ 4 ∷ 1 ∷ 5 ∷ 4 ∷ 4 ∷ 5 ∷ 3 ∷ 4 ∷ 3 ∷ 4 ∷ 4 ∷ 2 ∷
-    4 ∷ 6 ∷ 6 ∷ 5 ∷ 6 ∷ 5 ∷ 3 ∷ 6 ∷ 6 ∷ 7 ∷ 5 ∷ 6 ∷ 5 ∷ 6 ∷ 6 ∷ 4 ∷ 3 ∷ 5 ∷ 5 ∷ 4 ∷ 5 ∷ 4 ∷ 6 ∷ 2 ∷ 5 ∷ 6 ∷ 4 ∷ 5 ∷ 4 ∷ 5 ∷ 5 ∷ 3 ∷
-    3 ∷ 5 ∷ 5 ∷ 4 ∷ 5 ∷ 4 ∷ 6 ∷ 5 ∷ 2 ∷ 6 ∷ 4 ∷ 5 ∷ 4 ∷ 5 ∷ 5 ∷ 3 ∷ 4 ∷ 6 ∷ 6 ∷ 5 ∷ 6 ∷ 5 ∷ 7 ∷ 6 ∷ 6 ∷ 3 ∷ 5 ∷ 6 ∷ 5 ∷ 6 ∷ 6 ∷ 4 ∷
-    2 ∷ 4 ∷ 4 ∷ 3 ∷ 4 ∷ 3 ∷ 5 ∷ 4 ∷ 4 ∷ 5 ∷ 1 ∷ 4 ∷ 3 ∷ 4 ∷ 4 ∷ 2 ∷ 3 ∷ 5 ∷ 5 ∷ 4 ∷ 5 ∷ 4 ∷ 6 ∷ 5 ∷ 5 ∷ 6 ∷ 4 ∷ 2 ∷ 4 ∷ 5 ∷ 5 ∷ 3 ∷
-    2 ∷ 4 ∷ 4 ∷ 3 ∷ 4 ∷ 3 ∷ 5 ∷ 4 ∷ 4 ∷ 5 ∷ 3 ∷ 4 ∷ 1 ∷ 4 ∷ 4 ∷ 2 ∷ 3 ∷ 5 ∷ 5 ∷ 4 ∷ 5 ∷ 4 ∷ 6 ∷ 5 ∷ 5 ∷ 6 ∷ 4 ∷ 5 ∷ 4 ∷ 2 ∷ 5 ∷ 3 ∷
-    3 ∷ 5 ∷ 5 ∷ 4 ∷ 5 ∷ 4 ∷ 6 ∷ 5 ∷ 5 ∷ 6 ∷ 4 ∷ 5 ∷ 4 ∷ 5 ∷ 2 ∷ 3 ∷ 1 ∷ 3 ∷ 3 ∷ 2 ∷ 3 ∷ 2 ∷ 4 ∷ 3 ∷ 3 ∷ 4 ∷ 2 ∷ 3 ∷ 2 ∷ 3 ∷ 3 ∷ 0 ∷
+    0 ∷ 3 ∷ 2 ∷ 2 ∷ 3 ∷ 2 ∷ 3 ∷ 3 ∷ 2 ∷ 3 ∷ 1 ∷ 2 ∷ 1 ∷ 3 ∷ 2 ∷ 1 ∷ 3 ∷ 2 ∷ 4 ∷ 4 ∷ 5 ∷ 4 ∷ 5 ∷ 5 ∷ 4 ∷ 5 ∷ 3 ∷ 4 ∷ 3 ∷ 5 ∷ 4 ∷ 3 ∷
+    2 ∷ 4 ∷ 1 ∷ 3 ∷ 4 ∷ 3 ∷ 4 ∷ 4 ∷ 3 ∷ 4 ∷ 2 ∷ 3 ∷ 2 ∷ 4 ∷ 3 ∷ 2 ∷ 2 ∷ 4 ∷ 3 ∷ 1 ∷ 4 ∷ 3 ∷ 4 ∷ 4 ∷ 3 ∷ 4 ∷ 2 ∷ 3 ∷ 2 ∷ 4 ∷ 3 ∷ 2 ∷
+    3 ∷ 5 ∷ 4 ∷ 4 ∷ 2 ∷ 4 ∷ 5 ∷ 5 ∷ 4 ∷ 5 ∷ 3 ∷ 4 ∷ 3 ∷ 5 ∷ 4 ∷ 3 ∷ 2 ∷ 4 ∷ 3 ∷ 3 ∷ 4 ∷ 1 ∷ 4 ∷ 4 ∷ 3 ∷ 4 ∷ 2 ∷ 3 ∷ 2 ∷ 4 ∷ 3 ∷ 2 ∷
+    3 ∷ 5 ∷ 4 ∷ 4 ∷ 5 ∷ 4 ∷ 2 ∷ 5 ∷ 4 ∷ 5 ∷ 3 ∷ 4 ∷ 3 ∷ 5 ∷ 4 ∷ 3 ∷ 3 ∷ 5 ∷ 4 ∷ 4 ∷ 5 ∷ 4 ∷ 5 ∷ 2 ∷ 4 ∷ 5 ∷ 3 ∷ 4 ∷ 3 ∷ 5 ∷ 4 ∷ 3 ∷
+    2 ∷ 4 ∷ 3 ∷ 3 ∷ 4 ∷ 3 ∷ 4 ∷ 4 ∷ 1 ∷ 4 ∷ 2 ∷ 3 ∷ 2 ∷ 4 ∷ 3 ∷ 2 ∷ 3 ∷ 5 ∷ 4 ∷ 4 ∷ 5 ∷ 4 ∷ 5 ∷ 5 ∷ 4 ∷ 2 ∷ 3 ∷ 4 ∷ 3 ∷ 5 ∷ 4 ∷ 3 ∷
+    1 ∷ 3 ∷ 2 ∷ 2 ∷ 3 ∷ 2 ∷ 3 ∷ 3 ∷ 2 ∷ 3 ∷ 0 ∷ 2 ∷ 1 ∷ 3 ∷ 2 ∷ 1 ∷ 2 ∷ 4 ∷ 3 ∷ 3 ∷ 4 ∷ 3 ∷ 4 ∷ 4 ∷ 3 ∷ 4 ∷ 2 ∷ 1 ∷ 2 ∷ 4 ∷ 3 ∷ 2 ∷
+    1 ∷ 3 ∷ 2 ∷ 2 ∷ 3 ∷ 2 ∷ 3 ∷ 3 ∷ 2 ∷ 3 ∷ 1 ∷ 2 ∷ 0 ∷ 3 ∷ 2 ∷ 1 ∷ 3 ∷ 5 ∷ 4 ∷ 4 ∷ 5 ∷ 4 ∷ 5 ∷ 5 ∷ 4 ∷ 5 ∷ 3 ∷ 4 ∷ 3 ∷ 2 ∷ 4 ∷ 3 ∷
+    2 ∷ 4 ∷ 3 ∷ 3 ∷ 4 ∷ 3 ∷ 4 ∷ 4 ∷ 3 ∷ 4 ∷ 2 ∷ 3 ∷ 2 ∷ 4 ∷ 1 ∷ 2 ∷ 0 ∷ 3 ∷ 2 ∷ 2 ∷ 3 ∷ 2 ∷ 3 ∷ 3 ∷ 2 ∷ 3 ∷ 1 ∷ 2 ∷ 1 ∷ 3 ∷ 2 ∷ 0 ∷
     []
 
 right : ℕ → ℕ → Bool
@@ -30,7 +30,7 @@ array-read-result : tie.Need-array-read-result
 array-read-result c = search needs
 
 returns : tie.Need-returns
-unfolding table right cells low high
+unfolding table right cells low high full wiredTable selectorCells
 returns c = eqb→eq (getD table (c .args .t) 0) (cells 3 (c .args .t)) (at right table tt (c .args .t) (search needs))
 
 pub count8-spec : {M : Type 1} → statement M

@@ -1,7 +1,7 @@
 -- `blocks` meets its contract: the rule of the table is one test over all of its entries.
 use mathlib.Core.Path.{refl}
 use Rattle.table.specs.Bits.{bit, all}
-use Rattle.table.specs.Cells.{cells, low, high}
+use Rattle.table.specs.Cells.{low, high, full, wiredTable, selectorCells, cells}
 use Rattle.table.specs.Pick.{suits, nearer, least, leastOf}
 use Rattle.table.specs.Inner.Ranks.{masked}
 use Rattle.table.specs.Inner.Blocks.{blockEntry, bestBlock}
@@ -10,7 +10,7 @@ use Rattle.table.proofs.picks.blocks.Statement.{statement}
 use Rattle.table.proofs.picks.blocks.Tie as tie
 
 returns : tie.Need-returns
-unfolding right bestBlock blockEntry leastOf least nearer suits masked all bit cells low high
+unfolding right bestBlock blockEntry leastOf least nearer suits masked all bit cells low high full wiredTable selectorCells
 returns c = tested (cells 2) _ refl tt
 
 pub blocks-spec : {M : Type 1} → statement M
