@@ -6,8 +6,10 @@ use mathlib.Core.Bool.{not}
 use mathlib.Core.List.{List, [], _∷_}
 use native.Mathlib.Omega.{arith}
 use lib.Dec.{T, T-not, not-T, eqb, eqb→eq}
+use lib.ListN.{length}
 use Rattle.base.proofs.Tests.{cond-has, eq-test}
 use Rattle.table.specs.Cells.{low, high, full, wiredTable, selectorCells}
+use Rattle.table.proofs.Wired.{selector-most}
 use Rattle.nodes.specs.Nodes.{Node, node, same, has, listing, price, weight, nodes}
 use Rattle.nodes.specs.Subfunctions.{Distinct}
 use Rattle.nodes.proofs.Lists.{has-later, has-cases}
@@ -105,3 +107,13 @@ listing-grown =
 pub listing-once : (n t : ℕ) → Distinct (listing n t [])
 unfolding Distinct
 listing-once n t = listing-grown n t [] .distinct tt
+
+-- no list counts for more than its nodes, so a table has no more cells than what is written of it has selectors
+pub weight-few : (ks : List Node) → weight price ks ≤ length ks
+unfolding weight price
+weight-few [] = omega arith
+weight-few (k ∷ ks) = omega (arith, selector-most (wiredTable (k .after) (k .table)), weight-few ks)
+
+pub nodes-listed : (n t : ℕ) → nodes n t ≤ length (listing n t [])
+unfolding nodes
+nodes-listed n t = weight-few (listing n t [])

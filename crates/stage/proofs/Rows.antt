@@ -56,11 +56,6 @@ pub a-written : (writtenOf treeForm 2 2 (3 ∷ 10 ∷ 0 ∷ 0 ∷ []) 15 ≡ ref
 unfolding writing
 a-written = (refl, refl, refl)
 
--- a larger tree that is worth 0 leaves its selector a cell
-pub larger-counted : treeCells (sel 1 (sel 2 (con 0) (con 0)) (con 1)) ≡ 2
-unfolding treeCells wiredTrees selectorCells
-larger-counted = refl
-
 -- the refusals of a stage sheet
 pub empty-sheet : readStage [] ≡ noStage (refusalAt cutShort 0)
 unfolding reading

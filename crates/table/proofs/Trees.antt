@@ -15,6 +15,20 @@ use Rattle.table.proofs.Halves.{low-lt, high-lt, low-bit, high-bit, joi
 use Rattle.table.proofs.Wired.{full-lt, full-bit, full-twice, wired-halves, halves-wired, selector-most, wired-le}
 use Rattle.table.proofs.Cells.{cells-same, cells-differ, cells-most}
 
+-- Worked rows, computed from the meanings (document 02, E4): the straight line is no cell, the inverted one is, and a larger tree that is worth 0 leaves its
+-- selector a cell.
+pub straight-free : treeCells (sel 1 (con 0) (con 1)) ≡ 0
+unfolding treeCells wiredTrees selectorCells
+straight-free = refl
+
+pub inverted-counted : treeCells (sel 1 (con 1) (con 0)) ≡ 1
+unfolding treeCells wiredTrees selectorCells
+inverted-counted = refl
+
+pub larger-counted : treeCells (sel 1 (sel 2 (con 0) (con 0)) (con 1)) ≡ 2
+unfolding treeCells wiredTrees selectorCells
+larger-counted = refl
+
 -- the two arms of a selector
 pub follow-zero : (n p i : ℕ) (z o : Tree) → bit p (n - i) ≡ 0 → follow n p (sel i z o) ≡ follow n p z
 unfolding follow

@@ -1,8 +1,8 @@
 -- `way` meets its contract: equal halves where the masks are repeated, and otherwise the least of four groups and a line.
 use Prim.Native.Nat.{min}
-use mathlib.Core.Path.{sym, ap₂, _∙_}
+use mathlib.Core.Path.{_≡_, sym, ap₂, _∙_}
 use native.Mathlib.Omega.{arith}
-use Rattle.nodes.specs.Inner.Ways.{leastWay}
+use Rattle.nodes.specs.Inner.Ways.{classIn, lineIn, quarterBytes, firstLine, leastWay}
 use Rattle.nodes.proofs.HalvesAlike.{repeated-way}
 use borrow.Author.Needs.{needs}
 use Rattle.nodes.proofs.picks.way.Statement.{statement}
@@ -53,12 +53,16 @@ returns-2 c =
     let across = tree .before in
     let three = across .before in
     let first = three .before in
-    let halves = first .before .before in (
+    let halves = first .before .before in
+    let w = halves .before .args .pair in
+    let straight : first .line .result ≡ firstLine (classIn (quarterBytes w)) (lineIn (quarterBytes w)) = first .line .ensures .0 in
+    let least : x .lesser .result ≡ min (halves .halves-alike .result) (first .line .result) = x .lesser .ensures in
+    let apart : y .lesser2 .result ≡ min (x .lesser .result) (tree .tree-like .result) = y .lesser2 .ensures in
+    let shared : z .lesser3 .result ≡ min (three .three-alike .result) (across .across-alike .result) = z .lesser3 .ensures in (
       c .lesser4 .ensures
-          ∙ ap₂ min
-          (y .lesser2 .ensures ∙ ap₂ min (x .lesser .ensures ∙ ap₂ min (halves .halves-alike .ensures .0) (first .line .ensures .0)) (tree .tree-like .ensures))
-          (z .lesser3 .ensures ∙ ap₂ min (three .three-alike .ensures) (across .across-alike .ensures)),
-      omega (arith, c .lesser4 .ensures, y .lesser2 .ensures, x .lesser .ensures, halves .halves-alike .ensures .1),
+          ∙ ap₂ min (apart ∙ ap₂ min (least ∙ ap₂ min (halves .halves-alike .ensures .0) straight) (tree .tree-like .ensures))
+          (shared ∙ ap₂ min (three .three-alike .ensures) (across .across-alike .ensures)),
+      omega (arith, c .lesser4 .ensures, apart, least, halves .halves-alike .ensures .1),
     )
 
 pub way-spec : {M : Type 1} → statement M

@@ -1,11 +1,13 @@
 -- `pick4` meets its contract: the bytes of the pair are places, and so are two of them bit by bit together.
-use Prim.Native.Nat.{_*_}
-use mathlib.Core.Path.{ap₂, _∙_}
+use Prim.Native.Nat.{_*_, _/_, _%_}
+use mathlib.Core.Path.{_≡_, ap₂, _∙_}
 use native.Mathlib.Omega.{arith}
+use lib.Bits.{bitAnd}
 use Rattle.table.specs.Cells.{full}
 use Rattle.table.specs.Inner.Ranks.{tableSpace}
-use Rattle.table.specs.Inner.Blocks.{noTable}
+use Rattle.table.specs.Inner.Blocks.{entries, noTable}
 use Rattle.table.specs.Inner.Lines.{line, lineBy}
+use Rattle.table.proofs.Pairs.{fromByte}
 use Rattle.table.proofs.Places.{places-same, halves-both, blocks-both, four-places}
 use borrow.Author.Needs.{needs}
 use Rattle.table.proofs.picks.pick4.Statement.{statement}
@@ -63,9 +65,11 @@ returns c =
     let l = c .before .before .line-or-none in
     let h = halves-both w (omega arith) in
     let g = blocks-both w (omega arith) in
+    let both = bitAnd w (fromByte 1 w) in
+    let told : l .result ≡ lineBy (both % entries) (both / (entries * entries) % entries) (line 3) (noTable * tableSpace) = l .ensures in
     rw (c .lesser2 .ensures, c .before .lesser .ensures)
     (four-places w _ _ _ _ (a .result) (b .result) (d .result) (l .result) (omega arith) (a .ensures .0) (b .ensures .0)
-    (places-same (h .0) (h .1) (d .result) (d .ensures .0)) (l .ensures ∙ ap₂ (λ x y. lineBy x y 0xFF00 (noTable * tableSpace)) (g .0) (g .1))
+    (places-same (h .0) (h .1) (d .result) (d .ensures .0)) (told ∙ ap₂ (λ x y. lineBy x y (line 3) (noTable * tableSpace)) (g .0) (g .1))
     (omega arith) (omega arith) (omega arith) (omega arith))
 
 pub pick4-spec : {M : Type 1} → statement M
