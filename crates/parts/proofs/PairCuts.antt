@@ -21,7 +21,7 @@ use Rattle.relation.specs.Inner.Members.{member, withBit}
 use Rattle.relation.specs.Inner.Narrowed.{narrowed}
 use Rattle.relation.specs.Inner.Masks.{cut}
 use Rattle.relation.proofs.Masks.{mask-narrowed}
-use Rattle.parts.specs.Inner.Pairs.{bothSides, pairOf, sidesOf, cutPair}
+use Rattle.parts.specs.Inner.Pairs.{bothSides, pairOf, lostOf, cutPair}
 use Rattle.parts.proofs.PairBits.{paired-back}
 use Rattle.parts.proofs.PairSums.{pair-zeros, pair-ones}
 
@@ -77,13 +77,6 @@ put-fits x k {s} {t} lk e ls room =
     omega (arith, seat-shifted k s lk ls)
 
 -- the bits at a seat that are lost
-complement : (c e : Bool) → bothSides - (isOne c + upperHalf * isOne e) ≡ isOne (not c) + upperHalf * isOne (not e)
-unfolding isOne
-complement true true = omega arith
-complement true false = omega arith
-complement false true = omega arith
-complement false false = omega arith
-
 and-bit : (x : ℕ) (t : Bool) → bitAnd x (isOne t) ≡ x % 2 * isOne t
 unfolding isOne
 and-bit x true = and-mask x 1 ∙ omega arith
@@ -98,10 +91,10 @@ and-two v t u =
     ap₂ bitAnd (sym ev) (sym el) ∙ and-block blockPatterns (v / upperHalf) (isOne u) (v % upperHalf) (isOne t) (omega arith) lt
     ∙ ap₂ (λ x y. x * upperHalf + y) (and-bit (v / upperHalf) u) (and-bit (v % upperHalf) t ∙ ap (λ x. x * isOne t) low) ∙ omega arith
 
-and-lost : (x s w j : ℕ) {l : ℕ} → l ≡ bothSides - sidesOf w j
+and-lost : (x s w j : ℕ) {l : ℕ} → l ≡ lostOf w j
     → bitAnd x (l * 2 ^ s)
     ≡ (bit x s * isOne (not (occurs maxWires (member w) j 1)) + upperHalf * (bit x (s + blockPatterns) * isOne (not (occurs maxWires (member w) j 0)))) * 2 ^ s
-unfolding sidesOf bit
+unfolding lostOf bit
 and-lost x s w j {l} e =
     let t = not (occurs maxWires (member w) j 1) in
     let u = not (occurs maxWires (member w) j 0) in
@@ -109,7 +102,7 @@ and-lost x s w j {l} e =
     let k = isOne t + upperHalf * isOne u in
     let high : x / 2 ^ (s + blockPatterns) ≡ v / upperHalf = ap (λ y. x / y) (pow-add 2 s blockPatterns) ∙ sym (div-div-eq-div-mul x (2 ^ s) upperHalf) in
     ap₂ bitAnd (sym (div-add-mod' x (2 ^ s)))
-    (ap (λ y. y * 2 ^ s) (e ∙ complement (occurs maxWires (member w) j 1) (occurs maxWires (member w) j 0)) ∙ sym (add-zero (k * 2 ^ s)))
+    (ap (λ y. y * 2 ^ s) e ∙ sym (add-zero (k * 2 ^ s)))
     ∙ and-block s v k (x % 2 ^ s) 0 (mod-lt x (pow-pos s)) (pow-pos s)
     ∙ ap₂ (λ y z. y * 2 ^ s + z) (and-two v t u) (and-zero-r (x % 2 ^ s))
     ∙ add-zero ((v % 2 * isOne t + upperHalf * (v / upperHalf % 2 * isOne u)) * 2 ^ s)
@@ -154,7 +147,7 @@ module _ (zeros ones p : ℕ) (d₀ d₁ : Bool) (lz : zeros < 2 ^ maxPatterns) 
       after-sum ∙ e
 
 -- what the code takes off is what the masks lose
-pub cut-taken : (x p w j : ℕ) {l s : ℕ} → x < 2 ^ pairBits → p < maxPatterns → l ≡ bothSides - sidesOf w j → s ≡ seat p
+pub cut-taken : (x p w j : ℕ) {l s : ℕ} → x < 2 ^ pairBits → p < maxPatterns → l ≡ lostOf w j → s ≡ seat p
     → x - bitAnd x (l * 2 ^ s) ≡ cutPair x p w j
 unfolding cutPair
 cut-taken x p w j {l} {s} lx lp el es =

@@ -11,7 +11,7 @@ ghost use Rattle.sheet.specs.Limits.{maxInputs, maxWires, maxPatterns};
 ghost use Rattle.table.specs.Inner.Pairs.{blockPatterns, pairBits, seat};
 ghost use Rattle.table.specs.Bits.{isOne};
 ghost use Rattle.relation.specs.Inner.Narrowed.{NonePast};
-ghost use Rattle.parts.specs.Inner.Pairs.{bothSides, pairOf, pairsOf, sidesOf, cutPair, cutPairs};
+ghost use Rattle.parts.specs.Inner.Pairs.{bothSides, bitsOf, pairOf, pairsOf, sidesOf, lostOf, cutPair, cutPairs};
 
 // The patterns of a block have a bit each in either half of a byte.
 const BLOCK: u8 = BLOCK_PATTERNS;
@@ -21,21 +21,33 @@ const BYTE: u8 = 2 * BLOCK;
 // What the lowest bit of the upper half counts for.
 const UPPER: u32 = 1 << BLOCK;
 
-// A pattern's bits where both 0 and 1 occur.
-const BOTH: u32 = 1 + UPPER;
-
 fn one(there: bool) -> u32
     ensures { λ r. ⌜ r ≡ isOne there ⌝ }
 {
     if there { 1 } else { 0 }
 }
 
-// What occurs of wire j in a set: 1 where 1 does, and in the upper half where 0 does.
+// A pattern's two bits: the first in the lower half of its byte, which is for a wire at 1, the second in the upper half, for a wire at 0.
+fn bits_of(ones: bool, zeros: bool) -> u32
+    ensures { λ r. ⌜ (r ≡ bitsOf ones zeros) × (r ≤ bothSides) ⌝ }
+{
+    one(ones) + UPPER * one(zeros)
+}
+
+// What occurs of wire j in a set.
 fn sides(set: u16, j: u8) -> u32
     requires { ⌜ j < maxWires ⌝ }
     ensures { λ r. ⌜ (r ≡ sidesOf set j) × (r ≤ bothSides) ⌝ }
 {
-    one(has(set, j, 1)) + UPPER * one(has(set, j, 0))
+    bits_of(has(set, j, 1), has(set, j, 0))
+}
+
+// What does not.
+fn lost(set: u16, j: u8) -> u32
+    requires { ⌜ j < maxWires ⌝ }
+    ensures { λ r. ⌜ (r ≡ lostOf set j) × (r ≤ bothSides) ⌝ }
+{
+    bits_of(!has(set, j, 1), !has(set, j, 0))
 }
 
 // Where the bits of a pattern stand: the lower of them.
@@ -91,8 +103,7 @@ fn cut_pair(x: u32, p: u8, set: u16, j: u8) -> u32
     requires { ⌜ (p < maxPatterns) × (j < maxWires) ⌝ }
     ensures { λ r. ⌜ r ≡ cutPair x p set j ⌝ }
 {
-    let lost = BOTH - sides(set, j);
-    x - (x & (lost << seat_of(p)))
+    x - (x & (lost(set, j) << seat_of(p)))
 }
 
 pub fn cut_pairs(pairs: [u32; Sheet::WIRES], p: u8, set: u16) -> [u32; Sheet::WIRES]

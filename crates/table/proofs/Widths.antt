@@ -1,6 +1,7 @@
 -- What `pick` returns at each number of inputs up to four, from the table of blocks: where the pair's blocks stand, and the rank.
-use Prim.Native.Nat.{ℕ, _+_, _*_, _^_, _/_, _%_, _<_, _≤_}
+use Prim.Native.Nat.{ℕ, suc, _+_, _*_, _-_, _^_, _/_, _%_, _<_, _≤_}
 use mathlib.Core.Path.{_≡_, ap, ap₂, subst, _∙_}
+use mathlib.Core.Option.{some}
 use native.Mathlib.Omega.{arith}
 use lib.Arith.{digits-mod}
 use Rattle.sheet.specs.Limits.{maxInputs}
@@ -8,9 +9,9 @@ use Rattle.table.specs.Cells.{cells}
 use Rattle.table.specs.Pick.{leastOf}
 use Rattle.table.specs.Inner.Ranks.{masked, pickOf, rank, tableSpace}
 use Rattle.table.specs.Inner.Pairs.{blockSpace, pairBits, zerosIn, onesIn}
-use Rattle.table.specs.Inner.Blocks.{oneSpace, threeSpace, entries, blockEntry, bestBlock, blockOf, blockAt, zerosAt, onesAt, Shown, PickShown, Covered}
+use Rattle.table.specs.Inner.Blocks.{oneSpace, threeSpace, entries, blockEntry, bestBlock, pickKey, blockOf, blockAt, Shown, PickShown, HalvesShow, Covered}
 use Rattle.table.proofs.Count.{repeated}
-use Rattle.table.proofs.Halving.{BestTable, least-best}
+use Rattle.table.proofs.Halving.{BestTable, least-best, least-more}
 use Rattle.table.proofs.Halves.{join}
 use Rattle.table.proofs.Cells.{cells-halves}
 use Rattle.table.proofs.Masks.{pick-some}
@@ -43,12 +44,16 @@ rank-at w e h f = rw e (f (fit w e h))
 inside : (n zeros ones : ℕ) → Covered n zeros ones → pickOf (cells n) n zeros ones < 2 ^ (2 ^ n)
 inside n zeros ones h = subst (λ o. BestTable (cells n) n (masked zeros ones) o) (pick-some (cells n) n zeros ones h) (least-best (cells n) n (masked zeros ones)) .inside
 
+-- the least by the key that picks are found by is the pick
+picked : (n zeros ones : ℕ) → Covered n zeros ones → leastOf (pickKey n) n (masked zeros ones) ≡ some (pickOf (cells n) n zeros ones)
+picked n zeros ones h = least-more (cells n) n (masked zeros ones) ∙ pick-some (cells n) n zeros ones h
+
 -- one input, looked up as two: each mask stands twice in its half of the place
 pub one-place : (w : ℕ) → w < 2 ^ pairBits → WidthFits 1 w → w * (oneSpace + 1) < entries
 one-place w l f = omega (arith, one-byte w l (omega (arith, f .0)) (omega (arith, f .1)), f .0, f .1)
 
 rank-one : (zeros ones x : ℕ) → zeros < oneSpace → ones < oneSpace → Covered 1 zeros ones → x ≡ blockOf (zeros * (oneSpace + 1)) (ones * (oneSpace + 1))
-    → x / threeSpace * tableSpace + x % oneSpace ≡ rank (cells 1) (pickOf (cells 1) 1 zeros ones)
+    → (x / threeSpace - 1) * tableSpace + x % oneSpace ≡ rank (cells 1) (pickOf (cells 1) 1 zeros ones)
 unfolding bestBlock blockEntry rank join
 rank-one zeros ones x lz lo h e =
     let t = pickOf (cells 1) 1 zeros ones in
@@ -56,15 +61,18 @@ rank-one zeros ones x lz lo h e =
     let lt : t < oneSpace = inside 1 zeros ones h in
     let ez : zeros * (oneSpace + 1) ≡ zeros * oneSpace + zeros = omega arith in
     let eo : ones * (oneSpace + 1) ≡ ones * oneSpace + ones = omega arith in
-    let k : x ≡ cells 2 u * threeSpace + u * (blockSpace + 1) =
-    e ∙ ap₂ (bestBlock (cells 2)) ez eo
-    ∙ ap (blockEntry (cells 2)) (least-repeated 1 zeros ones lz lo cells cells-halves t (pick-some (cells 1) 1 zeros ones h)) in
-    let m : x ≡ cells 1 t * threeSpace + u * (blockSpace + 1) = k ∙ ap (λ y. y * threeSpace + u * (blockSpace + 1)) (repeated 1 t lt) in
-    let d = digits (cells 1 t) u x (omega arith) m in
-    let f : x ≡ (cells 1 t * 64 + t * 21) * oneSpace + t = omega arith in
-    rw (d .0, ap (λ y. y % oneSpace) f ∙ digits-mod (cells 1 t * 64 + t * 21) lt)
+    let k : x ≡ pickKey 2 u * threeSpace + u * (blockSpace + 1) =
+    e ∙ ap₂ blockOf ez eo
+    ∙ ap (blockEntry (pickKey 2))
+    (least-more (cells 2) 2 (masked (zeros * oneSpace + zeros) (ones * oneSpace + ones))
+    ∙ least-repeated 1 zeros ones lz lo cells cells-halves t (pick-some (cells 1) 1 zeros ones h)) in
+    let m : x ≡ pickKey 1 t * threeSpace + u * (blockSpace + 1) = k ∙ ap (λ y. suc y * threeSpace + u * (blockSpace + 1)) (repeated 1 t lt) in
+    let d = digits (pickKey 1 t) u x (omega arith) m in
+    let f : x ≡ (pickKey 1 t * 64 + t * 21) * oneSpace + t = omega arith in
+    omega (arith, d .0, ap (λ y. y % oneSpace) f ∙ digits-mod (pickKey 1 t * 64 + t * 21) lt)
 
-pub one-input : (w x : ℕ) → w < 2 ^ pairBits → x ≡ blockAt (w * (oneSpace + 1)) → WidthFits 1 w → x / threeSpace * tableSpace + x % oneSpace ≡ rankIn 1 w
+pub one-input : (w x : ℕ) → w < 2 ^ pairBits → x ≡ blockAt (w * (oneSpace + 1)) → WidthFits 1 w
+    → (x / threeSpace - 1) * tableSpace + x % oneSpace ≡ rankIn 1 w
 one-input w x l e f =
     let b = one-byte w l (omega (arith, f .0)) (omega (arith, f .1)) in
     let z : w * (oneSpace + 1) / blockSpace ≡ zerosIn w * (oneSpace + 1) = omega (arith, b, f .0, f .1) in
@@ -75,32 +83,33 @@ one-input w x l e f =
 pub two-place : (w : ℕ) → w < 2 ^ pairBits → WidthFits 2 w → w < entries
 two-place w l f = omega (arith, one-byte w l (f .0) (f .1), f .0, f .1)
 
-pub two-inputs : (w x : ℕ) → w < 2 ^ pairBits → x ≡ blockAt w → WidthFits 2 w → x / threeSpace * tableSpace + x % blockSpace ≡ rankIn 2 w
+pub two-inputs : (w x : ℕ) → w < 2 ^ pairBits → x ≡ blockAt w → WidthFits 2 w
+    → (x / threeSpace - 1) * tableSpace + x % blockSpace ≡ rankIn 2 w
 unfolding bestBlock blockEntry rank
 two-inputs w x l e f =
     let b = one-byte w l (f .0) (f .1) in
     let z : w / blockSpace ≡ zerosIn w = omega (arith, b, f .0, f .1) in
     let o : w % blockSpace ≡ onesIn w = omega (arith, b, f .0, f .1) in
     let t = pickOf (cells 2) 2 (zerosIn w) (onesIn w) in
-    let k : x ≡ cells 2 t * threeSpace + t * (blockSpace + 1) = e ∙ ap₂ blockOf z o ∙ ap (blockEntry (cells 2)) (pick-some (cells 2) 2 (zerosIn w) (onesIn w) (f .2)) in
-    let d = digits (cells 2 t) t x (inside 2 (zerosIn w) (onesIn w) (f .2)) k in
-    rw (d .0, d .1)
+    let k : x ≡ pickKey 2 t * threeSpace + t * (blockSpace + 1) = e ∙ ap₂ blockOf z o ∙ ap (blockEntry (pickKey 2)) (picked 2 (zerosIn w) (onesIn w) (f .2)) in
+    let d = digits (pickKey 2 t) t x (inside 2 (zerosIn w) (onesIn w) (f .2)) k in
+    omega (arith, d .0, d .1)
 
 -- three inputs: the pair is two places
-pub three-place : (w : ℕ) → w < 2 ^ pairBits → WidthFits 3 w → w / entries < entries
-three-place w l f = omega (arith, two-bytes w l (f .0) (f .1))
-
-pub three-inputs : (w x : ℕ) → w < 2 ^ pairBits → PickShown 3 threeSpace (zerosAt (w % entries) (w / entries)) (onesAt (w % entries) (w / entries)) x
-    → WidthFits 3 w → x / threeSpace * tableSpace + x % threeSpace ≡ rankIn 3 w
+pub three-inputs : (w x : ℕ) → w < 2 ^ pairBits → HalvesShow (w % entries) (w / entries % entries) x → WidthFits 3 w
+    → (x / threeSpace - 1) * tableSpace + x % threeSpace ≡ rankIn 3 w
 unfolding rank
 three-inputs w x l s f =
     let t = pickOf (cells 3) 3 (zerosIn w) (onesIn w) in
     let lt : t < threeSpace = inside 3 (zerosIn w) (onesIn w) (f .2) in
-    let k : x ≡ cells 3 t * threeSpace + t =
-    subst (λ o. Shown (cells 3) threeSpace o x) (pick-some (cells 3) 3 (zerosIn w) (onesIn w) (f .2)) (pair-told w x (two-bytes w l (f .0) (f .1)) (f .0) (f .1) s) in
+    let k : x ≡ pickKey 3 t * threeSpace + t =
+    subst (λ o. Shown (pickKey 3) threeSpace o x) (picked 3 (zerosIn w) (onesIn w) (f .2)) (pair-told w x (two-bytes w l (f .0) (f .1)) (f .0) (f .1) s) in
     omega arith
 
--- four inputs: the number that shows the pick is its rank
-pub four-inputs : (w x : ℕ) → PickShown 4 tableSpace (zerosIn w) (onesIn w) x → WidthFits 4 w → x ≡ rankIn 4 w
+-- four inputs: the number that shows the pick is its rank and a key more
+pub four-inputs : (w x : ℕ) → PickShown 4 tableSpace (zerosIn w) (onesIn w) x → WidthFits 4 w → x - tableSpace ≡ rankIn 4 w
 unfolding rank
-four-inputs w x s f = subst (λ o. Shown (cells 4) tableSpace o x) (pick-some (cells 4) 4 (zerosIn w) (onesIn w) (f .2)) s
+four-inputs w x s f =
+    let t = pickOf (cells 4) 4 (zerosIn w) (onesIn w) in
+    let k : x ≡ pickKey 4 t * tableSpace + t = subst (λ o. Shown (pickKey 4) tableSpace o x) (picked 4 (zerosIn w) (onesIn w) (f .2)) s in
+    omega arith

@@ -4,11 +4,11 @@
 // copied by every function that names it. Each byte of the pair is the place of a block in that table, so no place has to be made.
 use sheet::Sheet;
 ghost use mathlib.Core.Path.{_≡_};
-ghost use Prim.Native.Nat.{_<_, _≤_, _^_, min};
+ghost use Prim.Native.Nat.{_+_, _*_, _/_, _%_, _^_, _<_, _≤_, min};
 ghost use Rattle.sheet.specs.Limits.{maxInputs};
 ghost use Rattle.table.specs.Cells.{cells};
 ghost use Rattle.table.specs.Inner.Ranks.{pickOf, rank, tableSpace};
-ghost use Rattle.table.specs.Inner.Blocks.{entries, threeSpace, noEntry, blockAt, zerosAt, onesAt, Blocks, PickShown, Covered};
+ghost use Rattle.table.specs.Inner.Blocks.{entries, threeSpace, noEntry, blockAt, Blocks, HalvesShow, PickShown, Covered};
 ghost use Rattle.table.specs.Inner.Lines.{lineBy};
 ghost use Rattle.table.specs.Inner.Pairs.{zerosIn, onesIn};
 
@@ -35,19 +35,18 @@ pub const THIRD_BYTE: u32 = PLACES * PLACES;
 
 pub const FOURTH_BYTE: u32 = THIRD_BYTE * PLACES;
 
-// All patterns of a block.
-const FULL_BLOCK: u32 = BLOCK_SPACE - 1;
+// The first of three inputs, or of four, as a number that shows it: its key is 1. What a pair needs for it to suit are the zeros of the lower half and the ones
+// of the upper half.
+const LINE_OF_THREE: u32 = THREE_SPACE + 0xf0;
 
-// The table of three inputs and of four that is the first of them.
-const LINE_OF_THREE: u32 = 0xf0;
+const LINE_OF_FOUR: u32 = TABLE_SPACE + 0xff00;
 
-const LINE_OF_FOUR: u32 = 0xff00;
+const NEEDS_OF_THREE: u32 = 0x0ff0;
 
-// Where no table suits: more cells than any table has.
-const NO_TABLE: u32 = 64;
+const NEEDS_OF_FOUR: u32 = 0x0f0ff0f0;
 
-// The pick of each pair of masks of two inputs, at zeros * BLOCK_SPACE + ones: cells * THREE_SPACE + table * 17, the table twice side by side.
-// Where some pattern is in no mask there is none: NO_TABLE cells.
+// The pick of each pair of masks of two inputs, at zeros * BLOCK_SPACE + ones: its key, one more than its cells, times THREE_SPACE, and table * 17, the table
+// twice side by side. Where some pattern is in no mask there is none: 64 for its key.
 const BLOCKS: [u16; ENTRIES] = [
     0x4000,
     0x4000,
@@ -64,7 +63,7 @@ const BLOCKS: [u16; ENTRIES] = [
     0x4000,
     0x4000,
     0x4000,
-    0x00ff,
+    0x01ff,
     0x4000,
     0x4000,
     0x4000,
@@ -79,8 +78,8 @@ const BLOCKS: [u16; ENTRIES] = [
     0x4000,
     0x4000,
     0x4000,
-    0x01ee,
-    0x00ff,
+    0x02ee,
+    0x01ff,
     0x4000,
     0x4000,
     0x4000,
@@ -94,9 +93,9 @@ const BLOCKS: [u16; ENTRIES] = [
     0x4000,
     0x4000,
     0x4000,
-    0x02dd,
+    0x03dd,
     0x4000,
-    0x00ff,
+    0x01ff,
     0x4000,
     0x4000,
     0x4000,
@@ -109,10 +108,10 @@ const BLOCKS: [u16; ENTRIES] = [
     0x4000,
     0x4000,
     0x4000,
-    0x00cc,
-    0x00cc,
-    0x00cc,
-    0x00cc,
+    0x01cc,
+    0x01cc,
+    0x01cc,
+    0x01cc,
     0x4000,
     0x4000,
     0x4000,
@@ -124,11 +123,11 @@ const BLOCKS: [u16; ENTRIES] = [
     0x4000,
     0x4000,
     0x4000,
-    0x01bb,
+    0x02bb,
     0x4000,
     0x4000,
     0x4000,
-    0x00ff,
+    0x01ff,
     0x4000,
     0x4000,
     0x4000,
@@ -139,12 +138,12 @@ const BLOCKS: [u16; ENTRIES] = [
     0x4000,
     0x4000,
     0x4000,
-    0x00aa,
-    0x00aa,
+    0x01aa,
+    0x01aa,
     0x4000,
     0x4000,
-    0x00aa,
-    0x00aa,
+    0x01aa,
+    0x01aa,
     0x4000,
     0x4000,
     0x4000,
@@ -154,13 +153,13 @@ const BLOCKS: [u16; ENTRIES] = [
     0x4000,
     0x4000,
     0x4000,
-    0x0299,
+    0x0399,
     0x4000,
-    0x01bb,
+    0x02bb,
     0x4000,
-    0x0299,
+    0x0399,
     0x4000,
-    0x00ff,
+    0x01ff,
     0x4000,
     0x4000,
     0x4000,
@@ -169,14 +168,14 @@ const BLOCKS: [u16; ENTRIES] = [
     0x4000,
     0x4000,
     0x4000,
-    0x0188,
-    0x0188,
-    0x00aa,
-    0x00aa,
-    0x00cc,
-    0x00cc,
-    0x00aa,
-    0x00aa,
+    0x0288,
+    0x0288,
+    0x01aa,
+    0x01aa,
+    0x01cc,
+    0x01cc,
+    0x01aa,
+    0x01aa,
     0x4000,
     0x4000,
     0x4000,
@@ -184,7 +183,7 @@ const BLOCKS: [u16; ENTRIES] = [
     0x4000,
     0x4000,
     0x4000,
-    0x0277,
+    0x0377,
     0x4000,
     0x4000,
     0x4000,
@@ -192,119 +191,119 @@ const BLOCKS: [u16; ENTRIES] = [
     0x4000,
     0x4000,
     0x4000,
-    0x00ff,
+    0x01ff,
     0x4000,
     0x4000,
     0x4000,
     0x4000,
     0x4000,
     0x4000,
-    0x0266,
-    0x0266,
+    0x0366,
+    0x0366,
     0x4000,
     0x4000,
     0x4000,
     0x4000,
     0x4000,
     0x4000,
-    0x01ee,
-    0x00ff,
+    0x02ee,
+    0x01ff,
     0x4000,
     0x4000,
     0x4000,
     0x4000,
     0x4000,
-    0x0155,
+    0x0255,
     0x4000,
-    0x0155,
+    0x0255,
     0x4000,
     0x4000,
     0x4000,
     0x4000,
     0x4000,
-    0x0155,
+    0x0255,
     0x4000,
-    0x00ff,
+    0x01ff,
     0x4000,
     0x4000,
     0x4000,
     0x4000,
-    0x0244,
-    0x0155,
-    0x0244,
-    0x0155,
+    0x0344,
+    0x0255,
+    0x0344,
+    0x0255,
     0x4000,
     0x4000,
     0x4000,
     0x4000,
-    0x00cc,
-    0x00cc,
-    0x00cc,
-    0x00cc,
+    0x01cc,
+    0x01cc,
+    0x01cc,
+    0x01cc,
     0x4000,
     0x4000,
     0x4000,
-    0x0133,
+    0x0233,
     0x4000,
     0x4000,
     0x4000,
-    0x0133,
+    0x0233,
     0x4000,
     0x4000,
     0x4000,
-    0x0133,
+    0x0233,
     0x4000,
     0x4000,
     0x4000,
-    0x00ff,
+    0x01ff,
     0x4000,
     0x4000,
-    0x0122,
-    0x0122,
+    0x0222,
+    0x0222,
     0x4000,
     0x4000,
-    0x0122,
-    0x0122,
+    0x0222,
+    0x0222,
     0x4000,
     0x4000,
-    0x00aa,
-    0x00aa,
+    0x01aa,
+    0x01aa,
     0x4000,
     0x4000,
-    0x00aa,
-    0x00aa,
+    0x01aa,
+    0x01aa,
     0x4000,
-    0x0211,
+    0x0311,
     0x4000,
-    0x0133,
+    0x0233,
     0x4000,
-    0x0155,
+    0x0255,
     0x4000,
-    0x0133,
+    0x0233,
     0x4000,
-    0x0211,
+    0x0311,
     0x4000,
-    0x0133,
+    0x0233,
     0x4000,
-    0x0155,
+    0x0255,
     0x4000,
-    0x00ff,
-    0x0000,
-    0x0000,
-    0x0000,
-    0x0000,
-    0x0000,
-    0x0000,
-    0x0000,
-    0x0000,
-    0x0000,
-    0x0000,
-    0x0000,
-    0x0000,
-    0x0000,
-    0x0000,
-    0x0000,
-    0x0000,
+    0x01ff,
+    0x0100,
+    0x0100,
+    0x0100,
+    0x0100,
+    0x0100,
+    0x0100,
+    0x0100,
+    0x0100,
+    0x0100,
+    0x0100,
+    0x0100,
+    0x0100,
+    0x0100,
+    0x0100,
+    0x0100,
+    0x0100,
 ];
 
 // The table of blocks, to be lent to the functions below.
@@ -323,70 +322,53 @@ pub fn lesser(a: u32, b: u32) -> u32
 // Two inputs: an entry of the table.
 fn block(e: &[u16; ENTRIES], at: u32) -> u32
     requires { ⌜ Blocks (now e) × (at < entries) ⌝ }
-    ensures { λ r. ⌜ (r ≡ blockAt at) × (r ≤ noEntry) ⌝ }
+    ensures { λ r. ⌜ (r ≡ blockAt at) × (threeSpace ≤ r) × (r ≤ noEntry) ⌝ }
 {
     e[at as usize] as u32
 }
 
-// The line of an input where it suits: every pattern of the place `low` can be 0, and every pattern of the place `high` can be 1. It has no cells, since it is
-// soldered through.
-fn line_or_none(low: u32, high: u32, table: u32, none: u32) -> u32
-    ensures { λ r. ⌜ r ≡ lineBy low high table none ⌝ }
+// The line of an input where a pair has what it needs, and another number where it does not.
+fn line_or(pair: u32, needed: u32, line: u32, other: u32) -> u32
+    ensures { λ r. ⌜ r ≡ lineBy pair needed line other ⌝ }
 {
-    if low / BLOCK_SPACE != FULL_BLOCK {
-        return none;
-    }
-    if high % BLOCK_SPACE != FULL_BLOCK {
-        return none;
-    }
-    table
+    if pair & needed == needed { line } else { other }
 }
 
-// Three inputs, from the places of the lower and the upper half: cells * THREE_SPACE + table. Two places, bit by bit together, are the place of what
-// both blocks have.
-fn pick3(e: &[u16; ENTRIES], low: u32, high: u32) -> u32
-    requires { ⌜ Blocks (now e) × (low < entries) × (high < entries) ⌝ }
-    ensures { λ r. ⌜ PickShown 3 threeSpace (zerosAt low high) (onesAt low high) r × (r ≤ noEntry) ⌝ }
+// Three inputs, from the lower two bytes of a pair, which are the places of the lower and the upper half: key * THREE_SPACE + table. Two places, bit by bit
+// together, are the place of what both blocks have. Keys have one more than the cells, so that those of two halves add up to that of both under a selector.
+// Where the line suits it is less than any two halves.
+fn pick3(e: &[u16; ENTRIES], pair: u32) -> u32
+    requires { ⌜ Blocks (now e) ⌝ }
+    ensures { λ r. ⌜ HalvesShow (pair % entries) (pair / entries % entries) r × (threeSpace ≤ r) × (r ≤ noEntry) ⌝ }
 {
+    let low = pair % PLACES;
+    let high = pair / PLACES % PLACES;
     let a = block(e, low);
     let b = block(e, high);
     let c = block(e, low & high);
-    let line = line_or_none(low, high, LINE_OF_THREE, NO_TABLE * THREE_SPACE);
-    lesser(
-        lesser(c, line),
-        (a / THREE_SPACE + 1) * THREE_SPACE + a % BLOCK_SPACE + b / BLOCK_SPACE * BLOCK_SPACE,
-    )
+    let two = a / THREE_SPACE * THREE_SPACE + a % BLOCK_SPACE + b / BLOCK_SPACE * BLOCK_SPACE;
+    lesser(c, line_or(pair, NEEDS_OF_THREE, LINE_OF_THREE, two))
 }
 
-// Four inputs, and no more: the rank. The four bytes of the pair are the places of its blocks, and two tables of three inputs side by side fill
-// TABLE_SPACE. What both halves have, and what both blocks of each half have, is found for all at once: tests on one number are made in one.
+// Four inputs, and no more: key * TABLE_SPACE + table. The four bytes of the pair are the places of its blocks, and two tables of three inputs side by side
+// fill TABLE_SPACE.
 fn pick4(e: &[u16; ENTRIES], pair: u32) -> u32
     requires { ⌜ Blocks (now e) ⌝ }
-    ensures { λ r. ⌜ PickShown 4 tableSpace (zerosIn pair) (onesIn pair) r ⌝ }
+    ensures { λ r. ⌜ PickShown 4 tableSpace (zerosIn pair) (onesIn pair) r × (tableSpace ≤ r) ⌝ }
 {
-    let a0 = pair % PLACES;
-    let a1 = pair / PLACES % PLACES;
-    let b0 = pair / THIRD_BYTE % PLACES;
-    let b1 = pair / FOURTH_BYTE;
-    let a = pick3(e, a0, a1);
-    let b = pick3(e, b0, b1);
-    let halves = pair & (pair / THIRD_BYTE);
-    let c = pick3(e, halves % PLACES, halves / PLACES % PLACES);
-    let blocks = pair & (pair / PLACES);
-    let line = line_or_none(
-        blocks % PLACES,
-        blocks / THIRD_BYTE % PLACES,
-        LINE_OF_FOUR,
-        NO_TABLE * TABLE_SPACE,
-    );
+    let upper = pair / THIRD_BYTE;
+    let a = pick3(e, pair);
+    let b = pick3(e, upper);
+    let c = pick3(e, pair & upper);
+    let two = a / THREE_SPACE * TABLE_SPACE + a % THREE_SPACE + b * THREE_SPACE;
     lesser(
-        lesser(c * THREE_SPACE + c % THREE_SPACE, line),
-        (a / THREE_SPACE + 1) * TABLE_SPACE + a % THREE_SPACE + b * THREE_SPACE,
+        c * THREE_SPACE + c % THREE_SPACE,
+        line_or(pair, NEEDS_OF_FOUR, LINE_OF_FOUR, two),
     )
 }
 
 // The rank of the pick between the two masks of a pair, among the tables of n inputs. The search calls it with the masks of a wire, which cover every
-// pattern. There is an arm for each number of inputs up to four.
+// pattern. There is an arm for each number of inputs up to four. The cells are one less than the key.
 // One input is looked up as two: times 5, the two patterns of each mask stand there twice.
 pub fn pick(e: &[u16; ENTRIES], n: u8, pair: u32) -> u32
     requires { ⌜ Blocks (now e) × (1 ≤ n) × (n ≤ maxInputs) × (zerosIn pair < 2 ^ (2 ^ n)) × (onesIn pair < 2 ^ (2 ^ n))
@@ -396,16 +378,16 @@ pub fn pick(e: &[u16; ENTRIES], n: u8, pair: u32) -> u32
     match n {
         1 => {
             let x = block(e, pair * 5);
-            x / THREE_SPACE * TABLE_SPACE + x % ONE_SPACE
+            (x / THREE_SPACE - 1) * TABLE_SPACE + x % ONE_SPACE
         }
         2 => {
             let x = block(e, pair);
-            x / THREE_SPACE * TABLE_SPACE + x % BLOCK_SPACE
+            (x / THREE_SPACE - 1) * TABLE_SPACE + x % BLOCK_SPACE
         }
         3 => {
-            let x = pick3(e, pair % PLACES, pair / PLACES);
-            x / THREE_SPACE * TABLE_SPACE + x % THREE_SPACE
+            let x = pick3(e, pair);
+            (x / THREE_SPACE - 1) * TABLE_SPACE + x % THREE_SPACE
         }
-        _ => pick4(e, pair),
+        _ => pick4(e, pair) - TABLE_SPACE,
     }
 }

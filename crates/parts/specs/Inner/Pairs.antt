@@ -1,5 +1,6 @@
 -- The two masks of each wire's projection, in one number a wire.
 use Prim.Native.Nat.{ℕ, _+_, _*_, _^_, _<_}
+use mathlib.Core.Bool.{Bool, not}
 use mathlib.Core.List.{List}
 use lib.ListN.{getD}
 use Rattle.sheet.specs.Limits.{maxWires}
@@ -21,9 +22,17 @@ pairsOf sets = tabulate maxWires (pairOf sets)
 abbrev pub bothSides : ℕ
 bothSides = 1 + upperHalf
 
--- a pattern's bits in a pair, before they are put at its seat: what occurs of wire j in its set w
+-- a pattern's bits in a pair, before they are put at its seat
+abbrev pub bitsOf : (ones zeros : Bool) → ℕ
+bitsOf ones zeros = isOne ones + upperHalf * isOne zeros
+
+-- what occurs of wire j in its set w
 unfoldable pub sidesOf : ℕ → ℕ → ℕ
-sidesOf w j = isOne (occurs maxWires (member w) j 1) + upperHalf * isOne (occurs maxWires (member w) j 0)
+sidesOf w j = bitsOf (occurs maxWires (member w) j 1) (occurs maxWires (member w) j 0)
+
+-- what does not
+unfoldable pub lostOf : ℕ → ℕ → ℕ
+lostOf w j = bitsOf (not (occurs maxWires (member w) j 1)) (not (occurs maxWires (member w) j 0))
 
 -- a pair once pattern p has the set w: the pattern goes from the masks of what no longer occurs
 unfoldable pub cutPair : ℕ → ℕ → ℕ → ℕ → ℕ

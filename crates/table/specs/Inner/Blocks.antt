@@ -1,6 +1,6 @@
 -- The least tables of two inputs, by what a table counts for, between all pairs of masks: one list with an entry for each pair. Where the cells count, these
 -- are the picks.
-use Prim.Native.Nat.{ℕ, _+_, _*_, _/_, _%_, _^_, _<_, _≤_}
+use Prim.Native.Nat.{ℕ, suc, _+_, _*_, _/_, _%_, _^_, _<_, _≤_}
 use mathlib.Core.Path.{_≡_}
 use mathlib.Core.List.{List}
 use mathlib.Core.Option.{Option, none, some}
@@ -22,7 +22,7 @@ oneSpace = 2 ^ (2 ^ 1)
 abbrev pub threeSpace : ℕ
 threeSpace = 2 ^ (2 ^ 3)
 
--- where no table suits: more cells than any table has
+-- where no table suits: more than any table counts for
 abbrev pub noTable : ℕ
 noTable = 64
 
@@ -45,15 +45,19 @@ pub record BestBlocks (count : ℕ → ℕ) (e : List ℕ) : Type 0 where
 abbrev pub bestAt : (ℕ → ℕ) → ℕ → ℕ
 bestAt count at = bestBlock count (at / blockSpace) (at % blockSpace)
 
--- the same where the cells count
+-- The key by which picks of trees are found: the cells and one more. So the keys of two halves add up to that of both under a selector which is a cell.
+abbrev pub pickKey : ℕ → ℕ → ℕ
+pickKey n t = suc (cells n t)
+
+-- the same where that key counts
 abbrev pub Blocks : List ℕ → Type 0
-Blocks = BestBlocks (cells 2)
+Blocks = BestBlocks (pickKey 2)
 
 abbrev pub blockOf : (zeros ones : ℕ) → ℕ
-blockOf = bestBlock (cells 2)
+blockOf = bestBlock (pickKey 2)
 
 abbrev pub blockAt : ℕ → ℕ
-blockAt = bestAt (cells 2)
+blockAt = bestAt (pickKey 2)
 
 -- the masks of three inputs whose lower and upper half stand at two places
 abbrev pub zerosAt : (low high : ℕ) → ℕ
@@ -67,9 +71,13 @@ abbrev pub Shown : (ℕ → ℕ) → ℕ → Option ℕ → ℕ → Type 0
 Shown key w none x = noTable * w ≤ x
 Shown key w (some t) x = x ≡ key t * w + t
 
--- it shows the least table of n inputs between two masks, by its cells
+-- it shows the least table of n inputs between two masks
 abbrev pub PickShown : (n w zeros ones x : ℕ) → Type 0
-PickShown n w zeros ones = Shown (cells n) w (leastOf (cells n) n (masked zeros ones))
+PickShown n w zeros ones = Shown (pickKey n) w (leastOf (pickKey n) n (masked zeros ones))
+
+-- the same of three inputs, told by the places of a lower and an upper half
+abbrev pub HalvesShow : (low high x : ℕ) → Type 0
+HalvesShow low high = PickShown 3 threeSpace (zerosAt low high) (onesAt low high)
 
 -- each of the patterns has 0 or 1
 abbrev pub Covered : ℕ → ℕ → ℕ → Type 0

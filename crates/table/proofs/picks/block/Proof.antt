@@ -12,7 +12,7 @@ element-copy-out-result : tie.Need-element-copy-out-result
 element-copy-out-result c = search needs
 
 cast-result : tie.Need-cast-result
-cast-result c = omega (arith, block-at (c .before .pre .0) (c .before .args .at) (c .before .pre .1) .1)
+cast-result c = omega (arith, block-at (c .before .pre .0) (c .before .args .at) (c .before .pre .1) .2)
 
 returns : tie.Need-returns
 returns c = block-at (c .before .pre .0) (c .before .args .at) (c .before .pre .1)

@@ -4,14 +4,14 @@ use Rattle.table.specs.Bits.{bit, all}
 use Rattle.table.specs.Cells.{low, high, full, wiredTable, selectorCells, cells}
 use Rattle.table.specs.Pick.{suits, nearer, least, leastOf}
 use Rattle.table.specs.Inner.Ranks.{masked}
-use Rattle.table.specs.Inner.Blocks.{blockEntry, bestBlock}
+use Rattle.table.specs.Inner.Blocks.{blockEntry, bestBlock, pickKey}
 use Rattle.table.proofs.BestBlocks.{right, tested}
 use Rattle.table.proofs.picks.blocks.Statement.{statement}
 use Rattle.table.proofs.picks.blocks.Tie as tie
 
 returns : tie.Need-returns
 unfolding right bestBlock blockEntry leastOf least nearer suits masked all bit cells low high full wiredTable selectorCells
-returns c = tested (cells 2) _ refl tt
+returns c = tested (pickKey 2) _ refl tt
 
 pub blocks-spec : {M : Type 1} → statement M
 blocks-spec = tie.close (tie.spec returns)
