@@ -1,4 +1,4 @@
--- Document 01, "Bench sheets": the starred rows, proved together over the written meanings, with the figures that document 02 (E4) has for them.
+-- Document 01, "Bench sheets": the starred rows, proved together over the written meanings, with the figures that follow from document 02's E4.
 use Prim.Native.Nat.{ℕ}
 use mathlib.Core.Path.{_≡_, refl}
 use mathlib.Core.List.{List, [], _∷_}

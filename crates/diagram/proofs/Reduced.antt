@@ -14,7 +14,7 @@ use Rattle.base.proofs.Tests.{cond-has, cond-has₂, cond-has₃, eqb-yes, eqb-
 use Rattle.sheet.specs.Limits.{maxInputs}
 use Rattle.table.specs.Bits.{bit}
 use Rattle.table.specs.Cells.{low, high, selectorCells}
-use Rattle.table.specs.Tree.{Tree, con, sel, follow, wiredTrees, reduced}
+use Rattle.table.specs.Tree.{Tree, con, sel, follow, isCon, wiredTrees, reduced}
 use Rattle.table.proofs.Halves.{low-lt, high-lt}
 use Rattle.table.proofs.Trees.{reduced-ordered, reduced-follow, wired-reduced}
 use Rattle.nodes.specs.Nodes.{Node, node, same, has, listing, price, weight, nodes}
@@ -232,21 +232,20 @@ number-tells ks zero k t = λ _. refl
 number-tells ks (suc r) k t =
     cond-has₃ (λ a y x. T a → Tells y x) (eqb (low r t) (high r t)) (λ _. number-tells ks r (suc k) (low r t)) (λ _. node-number-least ks (node r t))
 
-wired-numbers : (x y : ℕ) (z o : Tree) → Tells x z → Tells y o → eqb x 0 && eqb y 1 ≡ wiredTrees z o
-unfolding wiredTrees
-wired-numbers x y (con a) (con b) e d = rw (e, d)
-wired-numbers x y (con a) (sel i z o) e d = rw (ne-eqb y 1 (λ q. omega (arith, d))) (and-false (eqb x 0))
-wired-numbers x y (sel i z o) u e d = rw (ne-eqb x 0 (λ q. omega (arith, e)))
+constant-number : (b x : ℕ) (z : Tree) → b < 2 → Tells x z → eqb x b ≡ isCon b z
+unfolding isCon
+constant-number b x (con a) l e = rw e
+constant-number b x (sel i z o) l e = ne-eqb x b (λ q. omega (arith, e))
 
 -- an entry costs what its node does, and so for all of them
 price-same : (n : ℕ) (before : List Node) (k : Node) → Based n before k → entryPrice (entryOf n before k) ≡ price k
-unfolding entryPrice price wiredEntry
+unfolding entryPrice price wiredEntry wiredTrees
 price-same n before k b =
     let r = k .after in
     let t = k .table in
     ap selectorCells
-    (wired-numbers _ _ (reduced r 0 (low r t)) (reduced r 0 (high r t)) (number-tells before r 0 (low r t) (b .zero-there))
-    (number-tells before r 0 (high r t) (b .one-there))
+    (ap₂ _&&_ (constant-number 0 _ (reduced r 0 (low r t)) (omega arith) (number-tells before r 0 (low r t) (b .zero-there)))
+    (constant-number 1 _ (reduced r 0 (high r t)) (omega arith) (number-tells before r 0 (high r t) (b .one-there)))
     ∙ wired-reduced r 0 t)
 
 entries-price : (n : ℕ) (ks : List Node) → Closed n ks → entriesCells (entriesOf n ks) ≡ weight price ks

@@ -1,4 +1,4 @@
--- What `class` gives is the best quarter of its class, and on restricted masks the best without the inverse of the last input; what `line` gives.
+-- What `class` gives is the best quarter of its class, and on restricted masks the best without the inverse of the last input; what `line_rank` gives.
 use Prim.Native.Nat.{ℕ, _+_, _*_, _^_, _/_, _%_, _<_}
 use mathlib.Core.Path.{_≡_, refl, sym, ap, ap₂, _∙_, fun-ext}
 use mathlib.Core.Bool.{Bool, true, false, cond, not, _&&_}

@@ -1,4 +1,4 @@
-// The pick for the board that shares selectors: the table of fewest nodes between the two masks of a pair (table::picks).
+// The pick for the board that shares selectors: the table whose nodes count for least between the two masks of a pair (table::picks).
 // A table of four inputs has four quarters, its cofactors by inputs 1 and 2, and the bytes of the pair are their masks. Which selectors on inputs 1 and 2 a
 // table needs is told by which of its quarters coincide. Quarters that coincide are a class, and each class takes its best quarter by itself: first by
 // whether that needs a selector on input 3 which counts, then by its number. A line of input 1 or 2, soldered through, has constant quarters and is tried by
@@ -8,6 +8,7 @@
 use table::picks::BLOCK_SPACE;
 use table::picks::ENTRIES;
 use table::picks::FOURTH_BYTE;
+use table::picks::NO_TABLE;
 use table::picks::ONE_SPACE;
 use table::picks::PLACES;
 use table::picks::TABLE_SPACE;
@@ -303,7 +304,7 @@ const NODES: u32 = 0xffff0000;
 const DIGIT: u32 = BLOCK_SPACE - 1;
 
 // A line that does not suit: more than the rank of any table.
-const NO_LINE: u32 = 64 * NODE;
+const NO_LINE: u32 = NO_TABLE * NODE;
 
 // The seats of a pair but for the zeros of the odd patterns, where input 4 is 1.
 const NOT_ODD_ZEROS: u32 = 0x5f5f5f5f;
@@ -355,7 +356,7 @@ fn apart(e: &[u16; ENTRIES], x: u32, y: u32, i: u32, j: u32) -> u32
 
 // The line of an input, soldered through: constant 0 for the class of masks x, and constant 1 for that of masks y at the places j. The patterns that can be
 // 0 stand in the upper half of the one byte, those that can be 1 in the lower half of the other, and all four are asked for in both.
-fn line(x: u32, y: u32, j: u32) -> u32
+fn line_rank(x: u32, y: u32, j: u32) -> u32
     requires { ⌜ j ≤ allPlaces ⌝ }
     ensures { λ r. ⌜ (r ≡ lineAt x y j) × (r ≤ noLine) ⌝ }
 {
@@ -372,7 +373,7 @@ fn half(e: &[u16; ENTRIES], x: u32, y: u32, i: u32, j: u32) -> u32
     ensures { λ r. ⌜ (r ≡ halfAt x y i j) × (r ≤ mostClass) ⌝ }
 {
     lesser(
-        lesser(class(e, x & y, i + j), line(x, y, j)),
+        lesser(class(e, x & y, i + j), line_rank(x, y, j)),
         NODE + apart(e, x, y, i, j),
     )
 }
@@ -385,7 +386,7 @@ fn halves_alike(e: &[u16; ENTRIES], a: u32, b: u32, c: u32, d: u32) -> u32
     lesser(
         lesser(
             class(e, a & b & c & d, A + B + C + D),
-            line(a & c, b & d, B + D),
+            line_rank(a & c, b & d, B + D),
         ),
         NODE + apart(e, a & c, b & d, A + C, B + D),
     )
@@ -461,7 +462,7 @@ fn way(e: &[u16; ENTRIES], pair: u32) -> u32
     if pair % THIRD_BYTE == c {
         return halves;
     }
-    let first = line(a & b, c & d, C + D);
+    let first = line_rank(a & b, c & d, C + D);
     let three = three_alike(e, a, b, c, d);
     let across = across_alike(e, a, b, c, d);
     let tree = tree_like(e, a, b, c, d);

@@ -42,7 +42,7 @@ fn sides(set: u16, j: u8) -> u32
     bits_of(has(set, j, 1), has(set, j, 0))
 }
 
-// What does not.
+// What does not occur of it.
 fn lost(set: u16, j: u8) -> u32
     requires { ⌜ j < maxWires ⌝ }
     ensures { λ r. ⌜ (r ≡ lostOf set j) × (r ≤ bothSides) ⌝ }

@@ -8,7 +8,7 @@ use Rattle.base.specs.Refusals.{refusalAt, cutShort, unknown, outOfRange, trail
 use Rattle.base.specs.Lowest.{lowest}
 use Rattle.table.specs.Bits.{bit, sum, ofBits, tabulate}
 use Rattle.table.specs.Cells.{low, high, selectorCells}
-use Rattle.table.specs.Tree.{con, sel, follow, wiredTrees, treeCells, reduced}
+use Rattle.table.specs.Tree.{con, sel, follow, isCon, wiredTrees, treeCells, reduced}
 use Rattle.stage.specs.Steps.{andThen, misplaced, dueNumber, due, operand}
 use Rattle.stage.specs.Bytes.{wiresBytes, stageBytes}
 use Rattle.stage.specs.Read.{wiresAt, nothingAfter, endAt, closed, readSheet}
@@ -42,7 +42,7 @@ a-tables = refl
 
 -- the inverted line is a cell, and the straight one is none
 pub a-cells : drawnCells treeDrawing (sel 1 (con 1) (con 0) ∷ sel 2 (con 0) (con 1) ∷ []) ≡ 1
-unfolding drawnCells treeCells wiredTrees selectorCells
+unfolding drawnCells treeCells isCon wiredTrees selectorCells
 a-cells = refl
 
 pub a-bytes : stageOf treeForm 2 2 (3 ∷ 10 ∷ 0 ∷ 0 ∷ []) ≡ stage-a

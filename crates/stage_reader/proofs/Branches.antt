@@ -11,8 +11,8 @@ use Rattle.base.specs.declared.Refusal.{Refusal}
 use Rattle.base.proofs.Tests.{and-false}
 use Rattle.sheet.specs.Limits.{maxInputs, maxPatterns}
 use Rattle.table.specs.Cells.{selectorCells}
-use Rattle.table.specs.Tree.{Tree, con, sel, Ordered, wiredTrees, treeCells}
-use Rattle.table.proofs.Trees.{cells-few}
+use Rattle.table.specs.Tree.{Tree, con, sel, Ordered, isCon, wiredTrees, treeCells}
+use Rattle.table.proofs.Trees.{tree-cells-most}
 use Rattle.stage.specs.Steps.{Read, taken, andThen}
 use Rattle.stage.specs.TreeBytes.{constantByte, treeBytes}
 use Rattle.stage.specs.TreeRead.{branchesAt, treeAt}
@@ -37,7 +37,7 @@ pub tree-bounds : (s : List ℕ) (n k at t c next : ℕ) → k ≤ n → n ≤ m
     → (t < 2 ^ (2 ^ n)) × (c < maxPatterns)
 tree-bounds s n k at t c next l h e =
     let z = tree-took s n k at t c next e in
-    (rw (z .table) (table-lt n k (z .shape) (z .formed)), omega (arith, z .cells, cells-few (z .shape), selectors-few n k (z .shape) l h (z .formed)))
+    (rw (z .table) (table-lt n k (z .shape) (z .formed)), omega (arith, z .cells, tree-cells-most (z .shape), selectors-few n k (z .shape) l h (z .formed)))
 
 -- the first byte of a tree tells whether it is a constant, and which
 first-byte : (s : List ℕ) (n k at next : ℕ) (x : Tree) → there s n k at ≡ taken x next (drop next s) → getD s at 0 ≡ getD (treeBytes x) 0 0
@@ -51,22 +51,26 @@ first-byte s n k at next x e =
     front (con b) = refl
     front (sel i z o) = refl
 
-zero-byte : (a : ℕ) → a < 2 → eqb (constantByte a) (constantByte 0) ≡ eqb a 0
-zero-byte zero h = refl
-zero-byte (suc zero) h = refl
-zero-byte (suc (suc a)) h = absurd (omega arith)
+same-constant : (a b : ℕ) → a < 2 → b < 2 → eqb (constantByte a) (constantByte b) ≡ eqb a b
+same-constant zero zero g h = refl
+same-constant zero (suc zero) g h = refl
+same-constant (suc zero) zero g h = refl
+same-constant (suc zero) (suc zero) g h = refl
+same-constant zero (suc (suc b)) g h = absurd (omega arith)
+same-constant (suc zero) (suc (suc b)) g h = absurd (omega arith)
+same-constant (suc (suc a)) b g h = absurd (omega arith)
 
-one-byte : (b : ℕ) → b < 2 → eqb (constantByte b) (constantByte 1) ≡ eqb b 1
-one-byte zero h = refl
-one-byte (suc zero) h = refl
-one-byte (suc (suc b)) h = absurd (omega arith)
+constant-front : (n k b : ℕ) (x : Tree) → b < 2 → Ordered n k x → eqb (getD (treeBytes x) 0 0) (constantByte b) ≡ isCon b x
+unfolding treeBytes isCon Ordered
+constant-front n k b (con a) l g = same-constant a b g l
+constant-front n k zero (sel i z o) l g = refl
+constant-front n k (suc zero) (sel i z o) l g = refl
+constant-front n k (suc (suc b)) (sel i z o) l g = absurd (omega arith)
 
-wired-bytes : (n k : ℕ) (z o : Tree) → Ordered n k z → Ordered n k o
+wired-fronts : (n k : ℕ) (z o : Tree) → Ordered n k z → Ordered n k o
     → eqb (getD (treeBytes z) 0 0) (constantByte 0) && eqb (getD (treeBytes o) 0 0) (constantByte 1) ≡ wiredTrees z o
-unfolding treeBytes wiredTrees Ordered
-wired-bytes n k (con a) (con b) g h = rw (zero-byte a g, one-byte b h)
-wired-bytes n k (con a) (sel i y x) g h = and-false (eqb (constantByte a) (constantByte 0))
-wired-bytes n k (sel i y x) o g h = refl
+unfolding wiredTrees
+wired-fronts n k z o g h = ap₂ _&&_ (constant-front n k 0 z (omega arith) g) (constant-front n k 1 o (omega arith) h)
 
 -- the branches of a selector
 module _ (s : List ℕ) (n i at : ℕ) where
@@ -94,6 +98,6 @@ module _ (s : List ℕ) (n i at : ℕ) where
         let a : r ≡ tableOf n (sel i (z .shape) (o .shape)) = e ∙ tables ∙ table-select n i i (z .shape) (o .shape) (z .formed) (o .formed) in
         let wired = ap₂ (λ x y. eqb x (constantByte 0) && eqb y (constantByte 1))
         (first-byte s n i at next (z .shape) (z .is)) (first-byte s n i next past (o .shape) (o .is)) in
-        let cost = f ∙ ap selectorCells (wired ∙ wired-bytes n i (z .shape) (o .shape) (z .formed) (o .formed)) in
+        let cost = f ∙ ap selectorCells (wired ∙ wired-fronts n i (z .shape) (o .shape) (z .formed) (o .formed)) in
         let b : own + c + d ≡ selectorCells (wiredTrees (z .shape) (o .shape)) + (treeCells (z .shape) + treeCells (o .shape)) = omega (arith, cost, z .cells, o .cells) in
         rw (z .is, o .is) (cc)

@@ -7,7 +7,7 @@ use lib.ListN.{length}
 use Rattle.sheet.specs.Limits.{maxInputs}
 use Rattle.nodes.specs.declared.BoardKind.{BoardKind}
 use Rattle.nodes.specs.declared.BoardKind.the-variants.{Tree, Sharing}
-use Rattle.table.proofs.Trees.{cells-few as trees-few}
+use Rattle.table.proofs.Trees.{tree-cells-most}
 use Rattle.table.proofs.Wired.{selector-most}
 use Rattle.stage.proofs.TreeTables.{selectors-few}
 use Rattle.diagram.specs.Diagram.{Entry, mostEntries, wiredEntry, entryPrice, entriesCells}
@@ -22,7 +22,7 @@ entries-few [] = omega arith
 entries-few (e ∷ es) = omega (arith, selector-most (wiredEntry e), entries-few es)
 
 cells-few : (kind : BoardKind) (n : ℕ) (x : formOf kind .Shape) → n ≤ maxInputs → formOf kind .WellFormed n x → formOf kind .cells x ≤ mostEntries
-cells-few Tree n x h w = omega (arith, trees-few x, selectors-few n 0 x (omega arith) h w)
+cells-few Tree n x h w = omega (arith, tree-cells-most x, selectors-few n 0 x (omega arith) h w)
 cells-few Sharing n x h w = omega (arith, entries-few (x .entries), w .few)
 
 pub wire-few : (kind : BoardKind) (s : List ℕ) (n m j at t c next : ℕ)

@@ -16,6 +16,7 @@ ghost use mathlib.Core.List.{List};
 ghost use Prim.Native.Nat.{ℕ, _+_, _<_, _≤_};
 ghost use lib.ListN.{length, set, drop};
 ghost use Rattle.sheet.specs.Limits.{maxInputs};
+ghost use Rattle.stage.specs.Bytes.{selectorBytes};
 ghost use Rattle.stage.specs.Steps.{andThen};
 ghost use Rattle.diagram.specs.Diagram.{Entry, entry, nextNumber, mostEntries, entryPrice, entriesCells};
 ghost use Rattle.diagram.specs.Read.{entryRefusal, entryAt, entriesAt, topAt, diagramWireAt};
@@ -92,7 +93,7 @@ fn keep_entry(
 // The cells with the entry at a place: one more, whether or not it repeats another and whether or not anything leads to it, but no more where it names the
 // constants 0 and 1 (document 02, E4).
 fn count_entry(s: &[u8], at: usize, cells: u16) -> u16
-    requires { ⌜ (at + 3 ≤ length (now s)) × (cells ≤ mostEntries) ⌝ }
+    requires { ⌜ (at + selectorBytes ≤ length (now s)) × (cells ≤ mostEntries) ⌝ }
     ensures { λ r. ⌜ r ≡ entryPrice (entryThere (now (s .entry)) at) + cells ⌝ }
 {
     if s[at + 1] != 0 {

@@ -77,8 +77,8 @@ fn list_nodes(keys: &mut [u32; MOST_NODES], count: u8, w: u8, t: u16) -> u8
     add_node(keys, with_both, key)
 }
 
-// How many nodes a table has.
-pub fn node_count(n: u8, t: u16) -> u8
+// How many entries are written of a table: its nodes, whether or not they count.
+pub fn entry_count(n: u8, t: u16) -> u8
     requires { ⌜ n ≤ maxInputs ⌝ }
     ensures { λ r. ⌜ (r ≡ length (listing n t [])) × (r < maxPatterns) ⌝ }
 {

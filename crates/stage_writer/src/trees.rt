@@ -4,7 +4,7 @@ use crate::common::half_of;
 use crate::common::put_with_operand;
 use base::put;
 ghost use mathlib.Core.Path.{_≡_};
-ghost use Prim.Native.Nat.{ℕ, _+_, _^_, _<_, _≤_};
+ghost use Prim.Native.Nat.{ℕ, _+_, _≤_};
 ghost use lib.ListN.{length};
 ghost use Rattle.sheet.specs.Limits.{maxInputs};
 ghost use Rattle.table.specs.Tree.{selectors, reduced};
@@ -12,10 +12,10 @@ ghost use Rattle.stage.specs.TreeBytes.{constantByte, treeBytes, treeWireBytes}
 ghost use Rattle.diagram.specs.Bytes.{longestShared};
 ghost use Rattle.base.specs.Inner.Put.{Put};
 
-// How many selectors the reduced tree of a table of w inputs has, whatever number k of inputs stand before these. It has fewer than the table has patterns.
+// How many selectors the reduced tree of a table of w inputs has, whatever number k of inputs stand before these.
 pub fn selector_count(w: u8, t: u16) -> u8
     requires { ⌜ w ≤ maxInputs ⌝ }
-    ensures { λ r. ⌜ ((k : ℕ) → r ≡ selectors (reduced w k t)) × (r < 2 ^ w) ⌝ }
+    ensures { λ r. ⌜ ((k : ℕ) → r ≡ selectors (reduced w k t)) ⌝ }
 {
     if w == 0 {
         return 0;

@@ -1,6 +1,6 @@
 // A wire by the board: the only place where the writer looks at which board it writes for.
 // Inner functions: `write_on` has tested sizes and tables before it calls them, and the buffer before any of them writes.
-use crate::diagrams::node_count;
+use crate::diagrams::entry_count;
 use crate::diagrams::put_diagram_wire;
 use crate::trees::put_tree_wire;
 use crate::trees::selector_count;
@@ -34,7 +34,7 @@ pub fn selectors(kind: BoardKind, n: u8, t: u16) -> u8
 {
     match kind {
         BoardKind::Tree => selector_count(n, t),
-        BoardKind::Sharing => node_count(n, t),
+        BoardKind::Sharing => entry_count(n, t),
     }
 }
 

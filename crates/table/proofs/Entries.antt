@@ -11,9 +11,9 @@ use lib.Dec.{eqb}
 use Rattle.base.proofs.Tests.{cond-has₂}
 use Rattle.table.specs.Cells.{low, high, full, cells}
 use Rattle.table.specs.Pick.{Proj, leastOf}
-use Rattle.table.specs.Inner.Ranks.{masked, tableSpace}
+use Rattle.table.specs.Inner.Ranks.{masked, tableSpace, pickKey}
 use Rattle.table.specs.Inner.Pairs.{blockSpace}
-use Rattle.table.specs.Inner.Blocks.{threeSpace, noTable, blockEntry, bestBlock, pickKey, blockOf, Shown, PickShown}
+use Rattle.table.specs.Inner.Blocks.{threeSpace, noTable, blockEntry, bestBlock, blockOf, Shown, PickShown}
 use Rattle.table.specs.Inner.Lines.{line}
 use Rattle.table.proofs.Halves.{join}
 use Rattle.table.proofs.Wired.{line-wired}
@@ -57,7 +57,7 @@ unfolding fitting
 line-shown r w zeros ones z lo e =
     rw (line-suits r zeros ones lo, e)
     (cond-has₂ (λ o x. Shown (pickKey (suc r)) w o x) (eqb (low r zeros) (full r) && eqb (high r ones) (full r))
-    (λ _. omega (arith, ap (λ c. suc c * w) (wired-cells r (line r) (line-wired r)))) (λ _. le-refl (noTable * w)))
+    (λ _. omega (arith, ap (λ c. (1 + c) * w) (wired-cells r (line r) (line-wired r)))) (λ _. le-refl (noTable * w)))
 
 -- a line that is no more than two halves stands for both: the least of three is then the least of two
 pub line-choice : (fits : Bool) (table most c two : ℕ) → c ≤ most → table ≤ two → min c (cond fits table two) ≡ min (min c (cond fits table most)) two

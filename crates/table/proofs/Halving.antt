@@ -10,7 +10,7 @@ use lib.Dec.{T, T-not, eqb, eqb→eq}
 use Rattle.base.proofs.Tests.{cond-has, decide, eq-test, test-yes}
 use Rattle.table.specs.Cells.{low, high, wiredTable, cells}
 use Rattle.table.specs.Pick.{Proj, suits, least, leastOf}
-use Rattle.table.specs.Inner.Blocks.{pickKey}
+use Rattle.table.specs.Inner.Ranks.{pickKey}
 use Rattle.table.specs.Inner.Lines.{line}
 use Rattle.table.proofs.Halves.{low-lt, high-lt, join, join-low, join-high, join-lt, join-halves, join-le}
 use Rattle.table.proofs.Wired.{line-lt, wired-line, not-wired-one, selector-most}
@@ -46,9 +46,9 @@ cells-key r =
         → (cells r (low r (join r h l)) ≡ cells r l) × (cells r (high r (join r h l)) ≡ cells r h)
     parts h l lh ll = (ap (cells r) (join-low r h l lh ll), ap (cells r) (join-high r h l lh ll))
 
--- One more in every key is such a key too, with one less for a selector: the key that picks are found by is the cells' with nothing for a selector.
-more-key : (key : ℕ → ℕ → ℕ) (step r : ℕ) → KeyHalves key (suc step) r → KeyHalves (λ n t. suc (key n t)) step r
-more-key key step r laws =
+-- With d more in every key it is such a key too, with d less for a selector. So the key that picks are found by has nothing for a selector.
+more-key : (d : ℕ) (key : ℕ → ℕ → ℕ) (step r : ℕ) → KeyHalves key (d + step) r → KeyHalves (λ n t. d + key n t) step r
+more-key d key step r laws =
     record {
       same = λ s t ls lt h. omega (arith, laws .same s t ls lt (omega arith));
       back = λ s t ls lt h. omega (arith, laws .back s t ls lt (omega arith));
@@ -57,7 +57,7 @@ more-key key step r laws =
     }
 
 pub pick-key : (r : ℕ) → KeyHalves pickKey 0 r
-pick-key r = more-key cells 0 r (cells-key r)
+pick-key r = more-key 1 cells 0 r (cells-key r)
 
 -- the best table that suits a projection
 pub record Best (key : ℕ → ℕ) (n : ℕ) (P : Proj) (t : ℕ) : Type 0 where
@@ -88,13 +88,12 @@ best-only key n P (some s) (some t) a b =
     let g = b .first s (a .inside) (a .suited) in
     ap {B = Option ℕ} some (le-antisymm (f .smaller (g .fewer)) (g .smaller (f .fewer)))
 
--- with one more in every key it is the same
-pub least-more : (key : ℕ → ℕ) (n : ℕ) (P : Proj) → leastOf (λ t. suc (key t)) n P ≡ leastOf key n P
-least-more key n P =
-    best-only (λ t. suc (key t)) n P (leastOf (λ t. suc (key t)) n P) (leastOf key n P) (least-best (λ t. suc (key t)) n P)
-    (more (leastOf key n P) (least-best key n P))
+-- with d more in every key it is the same
+pub least-more : (d : ℕ) (key : ℕ → ℕ) (n : ℕ) (P : Proj) → leastOf (λ t. d + key t) n P ≡ leastOf key n P
+least-more d key n P =
+    best-only (λ t. d + key t) n P (leastOf (λ t. d + key t) n P) (leastOf key n P) (least-best (λ t. d + key t) n P) (more (leastOf key n P) (least-best key n P))
   where
-    more : (o : Option ℕ) → BestTable key n P o → BestTable (λ t. suc (key t)) n P o
+    more : (o : Option ℕ) → BestTable key n P o → BestTable (λ t. d + key t) n P o
     more none b = b
     more (some t) b =
         record {

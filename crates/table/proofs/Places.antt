@@ -15,9 +15,9 @@ use Rattle.base.proofs.Tests.{and-intro, and-left, and-right, eq-test, test-ext
 use Rattle.table.specs.Cells as Cells
 use Rattle.table.specs.Cells.{full}
 use Rattle.table.specs.Pick.{leastOf}
-use Rattle.table.specs.Inner.Ranks.{masked, tableSpace}
+use Rattle.table.specs.Inner.Ranks.{masked, tableSpace, pickKey}
 use Rattle.table.specs.Inner.Lines.{line, needsOfThree, needsOfFour, lineBy}
-use Rattle.table.specs.Inner.Blocks.{entries, threeSpace, noTable, noEntry, bestBlock, pickKey, blockOf, blockAt, zerosAt, onesAt, Blocks, PickShown, HalvesShow}
+use Rattle.table.specs.Inner.Blocks.{entries, threeSpace, noTable, noEntry, bestBlock, blockOf, blockAt, zerosAt, onesAt, Blocks, PickShown, HalvesShow}
 use Rattle.table.specs.Inner.Pairs.{blockPatterns, blockSpace, byteBits, pairBits, zerosIn, onesIn}
 use Rattle.table.proofs.Pairs.{Place, fromBlock, fromByte, byte-place, first-place, zeros-lt, ones-lt}
 use Rattle.table.proofs.Cells.{cells-lt}

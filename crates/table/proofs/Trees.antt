@@ -9,24 +9,24 @@ use lib.Pow.{pow-pos, mod-pow-add}
 use Rattle.base.proofs.Tests.{cond-has, cond-has₂, and-intro, and-left, and-right, test-ext, eq-test, eqb-yes, eqb-not}
 use Rattle.table.specs.Bits.{bit}
 use Rattle.table.specs.Cells.{low, high, full, wiredTable, selectorCells, cells}
-use Rattle.table.specs.Tree.{Tree, con, sel, Ordered, follow, selectors, wiredTrees, treeCells, reduced}
+use Rattle.table.specs.Tree.{Tree, con, sel, Ordered, follow, selectors, isCon, wiredTrees, treeCells, reduced}
 use Rattle.table.proofs.Bits.{bit-low, bit-top, bit-ext, bit-cases, bit-zero, zero-bit}
 use Rattle.table.proofs.Halves.{low-lt, high-lt, low-bit, high-bit, join, join-low, join-high, join-halves}
 use Rattle.table.proofs.Wired.{full-lt, full-bit, full-twice, wired-halves, halves-wired, selector-most, wired-le}
-use Rattle.table.proofs.Cells.{cells-same, cells-differ, cells-most}
+use Rattle.table.proofs.Cells.{cells-same, cells-most}
 
 -- Worked rows, computed from the meanings (document 02, E4): the straight line is no cell, the inverted one is, and a larger tree that is worth 0 leaves its
 -- selector a cell.
 pub straight-free : treeCells (sel 1 (con 0) (con 1)) ≡ 0
-unfolding treeCells wiredTrees selectorCells
+unfolding treeCells isCon wiredTrees selectorCells
 straight-free = refl
 
 pub inverted-counted : treeCells (sel 1 (con 1) (con 0)) ≡ 1
-unfolding treeCells wiredTrees selectorCells
+unfolding treeCells isCon wiredTrees selectorCells
 inverted-counted = refl
 
 pub larger-counted : treeCells (sel 1 (sel 2 (con 0) (con 0)) (con 1)) ≡ 2
-unfolding treeCells wiredTrees selectorCells
+unfolding treeCells isCon wiredTrees selectorCells
 larger-counted = refl
 
 -- the two arms of a selector
@@ -115,12 +115,15 @@ module _ (n k r : ℕ) (at : k + suc r ≡ n) (t : ℕ) (lt : t < 2 ^ (2 ^ suc r
   halves (sel i z e) o mx =
       ⊎-elim (λ d. inr (tests i z e d (o .2) (o .3) mx)) (λ h. inl (past (sel i z e) (h, o .1, o .2, o .3) mx)) (eq-or-lt-of-le (o .0))
 
--- a selector with the constants 0 and 1 for its trees
+-- a selector that is soldered through has the constants 0 and 1 for its trees
+con-is : (b : ℕ) (x : Tree) → T (isCon b x) → x ≡ con b
+unfolding isCon
+con-is b (con a) h = ap con (eqb→eq a b h)
+con-is b (sel i z o) h = absurd h
+
 wired-constants : (z o : Tree) → T (wiredTrees z o) → (z ≡ con 0) × (o ≡ con 1)
 unfolding wiredTrees
-wired-constants (con a) (con b) w = (ap con (eqb→eq a 0 (and-left (eqb a 0) (eqb b 1) w)), ap con (eqb→eq b 1 (and-right (eqb a 0) (eqb b 1) w)))
-wired-constants (con a) (sel i z o) w = absurd w
-wired-constants (sel i y x) o w = absurd w
+wired-constants z o w = (con-is 0 z (and-left (isCon 0 z) (isCon 1 o) w), con-is 1 o (and-right (isCon 0 z) (isCon 1 o) w))
 
 -- trees of which the selector is soldered through mean the halves of the table that is soldered through
 means-wired : (n r t : ℕ) (z o : Tree) → t < 2 ^ (2 ^ suc r) → Means n r z (low r t) → Means n r o (high r t) → T (wiredTrees z o) → T (wiredTable r t)
@@ -150,25 +153,21 @@ least-tree n (suc r) k at x o t lt mx =
     (halves n k r at t lt x o mx)
 
 -- The reduced tree of a constant is that constant, and no other table has it. The constants of each width: c r, which is c of one input fewer twice.
-abbrev IsCon : ℕ → Tree → Type 0
-IsCon b (con a) = a ≡ b
-IsCon b (sel i z o) = ⊥
-
 module _ (b : ℕ) (c : ℕ → ℕ) (first : c 0 ≡ b) (inside : (r : ℕ) → c r < 2 ^ (2 ^ r)) (twice : (r : ℕ) → c (suc r) ≡ join r (c r) (c r)) where
-  constant-reduced : (r k : ℕ) → IsCon b (reduced r k (c r))
-  unfolding reduced
-  constant-reduced zero k = first
+  constant-reduced : (r k : ℕ) → T (isCon b (reduced r k (c r)))
+  unfolding reduced isCon
+  constant-reduced zero k = eq-test first
   constant-reduced (suc r) k =
       let l : low r (c (suc r)) ≡ c r = ap (low r) (twice r) ∙ join-low r (c r) (c r) (inside r) (inside r) in
       let h : high r (c (suc r)) ≡ c r = ap (high r) (twice r) ∙ join-high r (c r) (c r) (inside r) (inside r) in
-      cond-has (IsCon b) (eqb (low r (c (suc r))) (high r (c (suc r)))) (λ _. rw l (constant-reduced r (suc k)))
+      cond-has (λ x. T (isCon b x)) (eqb (low r (c (suc r))) (high r (c (suc r)))) (λ _. rw l (constant-reduced r (suc k)))
       (λ n. absurd (T-not (eqb (low r (c (suc r))) (high r (c (suc r)))) n (eq-test (l ∙ sym h))))
 
-  reduced-constant : (r k t : ℕ) → IsCon b (reduced r k t) → t ≡ c r
-  unfolding reduced
-  reduced-constant zero k t = λ e. e ∙ sym first
+  reduced-constant : (r k t : ℕ) → T (isCon b (reduced r k t)) → t ≡ c r
+  unfolding reduced isCon
+  reduced-constant zero k t = λ e. eqb→eq t b e ∙ sym first
   reduced-constant (suc r) k t =
-      cond-has (λ x. IsCon b x → t ≡ c (suc r)) (eqb (low r t) (high r t))
+      cond-has (λ x. T (isCon b x) → t ≡ c (suc r)) (eqb (low r t) (high r t))
       (λ e i.
       let l = reduced-constant r (suc k) (low r t) i in
       join-halves r t ∙ ap₂ (join r) (sym (eqb→eq (low r t) (high r t) e) ∙ l) l ∙ sym (twice r))
@@ -183,25 +182,19 @@ unfolding full
 full-first = refl
 
 -- so the selector over two reduced trees is soldered through where their table is
-wired-both : (z o : Tree) → IsCon 0 z → IsCon 1 o → T (wiredTrees z o)
-unfolding wiredTrees
-wired-both (con a) (con b) e d = and-intro (eqb a 0) (eqb b 1) (eq-test e) (eq-test d)
-wired-both (con a) (sel i z o) e d = absurd d
-wired-both (sel i y x) o e d = absurd e
-
 pub wired-reduced : (r k t : ℕ) → wiredTrees (reduced r k (low r t)) (reduced r k (high r t)) ≡ wiredTable r t
+unfolding wiredTrees
 wired-reduced r k t =
     let z = reduced r k (low r t) in
     let o = reduced r k (high r t) in
     let none : ℕ → ℕ = λ _. 0 in
     test-ext (wiredTrees z o) (wiredTable r t)
     (λ w.
-    let c = wired-constants z o w in
-    halves-wired r t (reduced-constant 0 none refl (λ r. pow-pos (2 ^ r)) zero-twice r k (low r t) (subst (IsCon 0) (sym (c .0)) refl))
-    (reduced-constant 1 full full-first full-lt full-twice r k (high r t) (subst (IsCon 1) (sym (c .1)) refl)))
+    halves-wired r t (reduced-constant 0 none refl (λ r. pow-pos (2 ^ r)) zero-twice r k (low r t) (and-left (isCon 0 z) (isCon 1 o) w))
+    (reduced-constant 1 full full-first full-lt full-twice r k (high r t) (and-right (isCon 0 z) (isCon 1 o) w)))
     (λ w.
     let h = wired-halves r t w in
-    wired-both z o (rw (h .0) (constant-reduced 0 none refl (λ r. pow-pos (2 ^ r)) zero-twice r k)) (rw (h .1) (constant-reduced 1 full full-first full-lt full-twice r k)))
+    and-intro (isCon 0 z) (isCon 1 o) (rw (h .0) (constant-reduced 0 none refl (λ r. pow-pos (2 ^ r)) zero-twice r k)) (rw (h .1) (constant-reduced 1 full full-first full-lt full-twice r k)))
 
 -- the reduced tree has as many cells as its table
 pub reduced-cells : (r k t : ℕ) → treeCells (reduced r k t) ≡ cells r t
@@ -214,13 +207,13 @@ reduced-cells (suc r) k t =
     cond-has₂ (λ x c. treeCells x ≡ c) (eqb (low r t) (high r t)) (λ _. a) (λ _. omega arith)
 
 -- no tree has more cells than selectors, so a table has no more cells than the tree that is written of it has selectors
-pub cells-few : (x : Tree) → treeCells x ≤ selectors x
+pub tree-cells-most : (x : Tree) → treeCells x ≤ selectors x
 unfolding treeCells selectors
-cells-few (con b) = omega arith
-cells-few (sel i z o) = omega (arith, selector-most (wiredTrees z o), cells-few z, cells-few o)
+tree-cells-most (con b) = omega arith
+tree-cells-most (sel i z o) = omega (arith, selector-most (wiredTrees z o), tree-cells-most z, tree-cells-most o)
 
 pub cells-selectors : (r k t : ℕ) → cells r t ≤ selectors (reduced r k t)
-cells-selectors r k t = omega (arith, reduced-cells r k t, cells-few (reduced r k t))
+cells-selectors r k t = omega (arith, reduced-cells r k t, tree-cells-most (reduced r k t))
 
 ordered-lower : (n k : ℕ) (x : Tree) → Ordered n (suc k) x → Ordered n k x
 unfolding Ordered

@@ -1,5 +1,5 @@
 -- What `pick` returns at each number of inputs up to four, from the table of blocks: where the pair's blocks stand, and the rank.
-use Prim.Native.Nat.{ℕ, suc, _+_, _*_, _-_, _^_, _/_, _%_, _<_, _≤_}
+use Prim.Native.Nat.{ℕ, _+_, _*_, _-_, _^_, _/_, _%_, _<_, _≤_}
 use mathlib.Core.Path.{_≡_, ap, ap₂, subst, _∙_}
 use mathlib.Core.Option.{some}
 use native.Mathlib.Omega.{arith}
@@ -7,9 +7,9 @@ use lib.Arith.{digits-mod}
 use Rattle.sheet.specs.Limits.{maxInputs}
 use Rattle.table.specs.Cells.{cells}
 use Rattle.table.specs.Pick.{leastOf}
-use Rattle.table.specs.Inner.Ranks.{masked, pickOf, rank, tableSpace}
+use Rattle.table.specs.Inner.Ranks.{masked, pickOf, rank, tableSpace, pickKey}
 use Rattle.table.specs.Inner.Pairs.{blockSpace, pairBits, zerosIn, onesIn}
-use Rattle.table.specs.Inner.Blocks.{oneSpace, threeSpace, entries, blockEntry, bestBlock, pickKey, blockOf, blockAt, Shown, PickShown, HalvesShow, Covered}
+use Rattle.table.specs.Inner.Blocks.{oneSpace, threeSpace, entries, blockEntry, bestBlock, blockOf, blockAt, Shown, PickShown, HalvesShow, Covered}
 use Rattle.table.proofs.Count.{repeated}
 use Rattle.table.proofs.Halving.{BestTable, least-best, least-more}
 use Rattle.table.proofs.Halves.{join}
@@ -46,7 +46,7 @@ inside n zeros ones h = subst (λ o. BestTable (cells n) n (masked zeros ones) o
 
 -- the least by the key that picks are found by is the pick
 picked : (n zeros ones : ℕ) → Covered n zeros ones → leastOf (pickKey n) n (masked zeros ones) ≡ some (pickOf (cells n) n zeros ones)
-picked n zeros ones h = least-more (cells n) n (masked zeros ones) ∙ pick-some (cells n) n zeros ones h
+picked n zeros ones h = least-more 1 (cells n) n (masked zeros ones) ∙ pick-some (cells n) n zeros ones h
 
 -- one input, looked up as two: each mask stands twice in its half of the place
 pub one-place : (w : ℕ) → w < 2 ^ pairBits → WidthFits 1 w → w * (oneSpace + 1) < entries
@@ -64,9 +64,9 @@ rank-one zeros ones x lz lo h e =
     let k : x ≡ pickKey 2 u * threeSpace + u * (blockSpace + 1) =
     e ∙ ap₂ blockOf ez eo
     ∙ ap (blockEntry (pickKey 2))
-    (least-more (cells 2) 2 (masked (zeros * oneSpace + zeros) (ones * oneSpace + ones))
+    (least-more 1 (cells 2) 2 (masked (zeros * oneSpace + zeros) (ones * oneSpace + ones))
     ∙ least-repeated 1 zeros ones lz lo cells cells-halves t (pick-some (cells 1) 1 zeros ones h)) in
-    let m : x ≡ pickKey 1 t * threeSpace + u * (blockSpace + 1) = k ∙ ap (λ y. suc y * threeSpace + u * (blockSpace + 1)) (repeated 1 t lt) in
+    let m : x ≡ pickKey 1 t * threeSpace + u * (blockSpace + 1) = k ∙ ap (λ y. (1 + y) * threeSpace + u * (blockSpace + 1)) (repeated 1 t lt) in
     let d = digits (pickKey 1 t) u x (omega arith) m in
     let f : x ≡ (pickKey 1 t * 64 + t * 21) * oneSpace + t = omega arith in
     omega (arith, d .0, ap (λ y. y % oneSpace) f ∙ digits-mod (pickKey 1 t * 64 + t * 21) lt)

@@ -25,11 +25,14 @@ unfoldable pub selectors : Tree → ℕ
 selectors (con b) = zero
 selectors (sel i z o) = suc (selectors z + selectors o)
 
--- a selector with these two trees is soldered through (E4): they are the constants 0 and 1 themselves, and no larger trees that are worth as much
+-- a tree is the constant b itself, and no larger one that is worth as much
+unfoldable pub isCon : ℕ → Tree → Bool
+isCon b (con a) = eqb a b
+isCon b (sel i z o) = false
+
+-- a selector with these two trees is soldered through (E4)
 unfoldable pub wiredTrees : (z o : Tree) → Bool
-wiredTrees (con a) (con b) = eqb a 0 && eqb b 1
-wiredTrees (con a) (sel i z o) = false
-wiredTrees (sel i z o) x = false
+wiredTrees z o = isCon 0 z && isCon 1 o
 
 -- the cells of a tree: its selectors but for those that are soldered through
 unfoldable pub treeCells : Tree → ℕ

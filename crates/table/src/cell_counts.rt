@@ -1,4 +1,5 @@
-// Cells of a table: the size of the reduced ordered decision tree of its function.
+// Cells of a table: the selectors of the reduced ordered decision tree of its function, but for those that are soldered through (document 02, E4).
+// For callers of the library: the search has its cells from the picks, and the writer counts selectors.
 use crate::picks::THREE_SPACE;
 ghost use mathlib.Core.Path.{_≡_};
 ghost use Prim.Native.Nat.{_<_, _≤_, _^_};
@@ -14,7 +15,7 @@ const TWICE: u16 = 0x11;
 const FOUR_TIMES: u16 = 0x55;
 
 // The table of four inputs that is the first of them.
-const INPUT_ONE: u16 = 0xff00;
+pub const INPUT_ONE: u16 = 0xff00;
 
 // The cells of every three-input function, at the function's table.
 const CELLS: [u8; THREE_SPACE as usize] = [

@@ -1,7 +1,8 @@
 // The pick between two masks by halving: the best table that is 0 only on patterns of the mask `zeros` and 1 only on patterns of the mask `ones`.
 // Both masks come in one number, the pair: a byte for each four patterns, `zeros` in its upper half and `ones` in its lower.
-// A result is one number, its rank: cells, then the table. Blocks of two inputs are looked up in a table that the caller lends, since a constant is
+// A result is one number: a key, which is one more than the cells, then the table; `pick` makes it the rank, cells and table. Blocks of two inputs are looked up in a table that the caller lends, since a constant is
 // copied by every function that names it. Each byte of the pair is the place of a block in that table, so no place has to be made.
+use crate::cell_counts::INPUT_ONE;
 use sheet::Sheet;
 ghost use mathlib.Core.Path.{_≡_};
 ghost use Prim.Native.Nat.{_+_, _*_, _/_, _%_, _^_, _<_, _≤_, min};
@@ -39,14 +40,17 @@ pub const FOURTH_BYTE: u32 = THIRD_BYTE * PLACES;
 // of the upper half.
 const LINE_OF_THREE: u32 = THREE_SPACE + 0xf0;
 
-const LINE_OF_FOUR: u32 = TABLE_SPACE + 0xff00;
+const LINE_OF_FOUR: u32 = TABLE_SPACE + INPUT_ONE as u32;
 
 const NEEDS_OF_THREE: u32 = 0x0ff0;
 
 const NEEDS_OF_FOUR: u32 = 0x0f0ff0f0;
 
+// Where no table suits: more than any table counts for.
+pub const NO_TABLE: u32 = 64;
+
 // The pick of each pair of masks of two inputs, at zeros * BLOCK_SPACE + ones: its key, one more than its cells, times THREE_SPACE, and table * 17, the table
-// twice side by side. Where some pattern is in no mask there is none: 64 for its key.
+// twice side by side. Where some pattern is in no mask there is none: NO_TABLE for its key.
 const BLOCKS: [u16; ENTRIES] = [
     0x4000,
     0x4000,

@@ -103,7 +103,8 @@ impl Planner {
         self.rng.of(&[0, 1, 2, 10_000, u32::MAX])
     }
 
-    /// A budget for a relation: 0, 1, few, just enough, one too few, many.
+    /// A budget for a relation: 0, 1, few, many, or around what a search for the
+    /// fewest selectors takes.
     fn budget(&mut self, r: &Relation) -> u32 {
         let visits = self.search_of(r, LONG + 1).visits;
         let budget = match self.rng.below(12) {
@@ -163,7 +164,8 @@ impl Planner {
         }
     }
 
-    /// A quote of many visits, with the program's budget or a larger one.
+    /// A quote of many visits by selectors, with the program's budget or a larger
+    /// one.
     fn long_quote(&mut self) -> Case {
         loop {
             let (n, m) = (self.rng.of(&[3, 4]), self.rng.of(&[3, 4]));
@@ -344,7 +346,8 @@ impl Planner {
         Case::Search { board: self.board, n, m, budget, sets: drawn }
     }
 
-    /// A search of many visits: to its end, one visit short of it, or neither.
+    /// A search of many visits by selectors: to its end, one visit short of it, or
+    /// neither.
     fn long_search(&mut self) -> Case {
         loop {
             let (n, m, sets) = if self.rng.once_in(3) {
@@ -366,7 +369,7 @@ impl Planner {
         }
     }
 
-    /// A search that is stopped at 10,000 visits.
+    /// A search that, by selectors, is stopped at 10,000 visits.
     fn stopped_search(&mut self) -> Case {
         loop {
             let mut sets = [0; 16];

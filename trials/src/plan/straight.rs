@@ -6,6 +6,7 @@ use super::Planner;
 use crate::board::{Board, BOARDS};
 use crate::case::Case;
 use crate::draw::damage::damage;
+use crate::draw::relations::half_dense;
 use crate::draw::{boards, straight};
 use crate::random::Random;
 use crate::rows::straight::straight_rows;
@@ -17,6 +18,9 @@ const SEARCHES: usize = 300;
 const WRITES: usize = 240;
 const READS: usize = 260;
 const DAMAGED_READS: usize = 40;
+/// Relations that are searched with each of the smallest budgets.
+const SWEPT: usize = 60;
+const BUDGETS: u32 = 12;
 
 pub fn cases(planner: &mut Planner) -> Vec<Case> {
     let mut cases: Vec<Case> = straight_rows().into_iter().map(|(_, case)| case).collect();
@@ -33,6 +37,9 @@ pub fn cases(planner: &mut Planner) -> Vec<Case> {
         many(WRITES, &mut Planner::straight_write);
         many(READS, &mut Planner::straight_read);
         many(DAMAGED_READS, &mut Planner::damaged_straight_read);
+        for _ in 0..SWEPT {
+            cases.extend(planner.swept_searches());
+        }
     }
     planner.board = Board::Tree;
     cases
@@ -91,6 +98,14 @@ impl Planner {
         let (n, m) = sizes(&mut self.rng);
         let sets = straight::sets(&mut self.rng, n, m);
         Case::Search { board: self.board, n, m, budget: self.budget_for(n, m), sets }
+    }
+
+    /// One relation with every small budget: where it takes few visits, one of
+    /// them is just enough and one a visit short, whatever is counted.
+    fn swept_searches(&mut self) -> Vec<Case> {
+        let (n, m) = self.rng.of(&[(2, 3), (3, 2), (3, 3)]);
+        let sets = half_dense(&mut self.rng, n.into(), m.into()).sets;
+        (0..BUDGETS).map(|budget| Case::Search { board: self.board, n, m, budget, sets }).collect()
     }
 
     fn straight_write(&mut self) -> Case {
@@ -275,6 +290,23 @@ mod tests {
             }
         }
         assert!(met.as_flattened().iter().all(|&met| met >= 40), "{met:?}");
+    }
+
+    /// Budgets that are just enough, and a visit short of it.
+    #[test]
+    fn budgets_on_the_edge() {
+        let mut picker = Picker::new();
+        let mut met = [[0; 2]; 2];
+        for (board, budget, r) in drawn().iter().filter_map(searched) {
+            let answer = search(board, &r, budget, &mut picker);
+            let one_more = search(board, &r, budget.saturating_add(1), &mut picker);
+            let enough = answer.visits > 0 && answer.visits == budget && !answer.stopped;
+            let short = answer.stopped && !one_more.stopped;
+            for (met, is) in met[board as usize].iter_mut().zip([enough, short]) {
+                *met += usize::from(is);
+            }
+        }
+        assert!(met.as_flattened().iter().all(|&met| met >= 20), "{met:?}");
     }
 
     /// What is written, by the writer or by a quote, where its length is not told

@@ -185,7 +185,7 @@ mod tests {
         assert_eq!(crate::relation::of_unit(&unit).unwrap().sets[..4], A_SETS);
     }
 
-    /// B's first answer has input 2 and AND, and no stage has two inputs. C's
+    /// B's first answer is input 2 and AND; in no stage are both wires inputs. C's
     /// first answer is input 1 and a constant: nothing is left to be visited.
     #[test]
     fn b_and_c() {

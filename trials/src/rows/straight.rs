@@ -48,6 +48,8 @@ fn trees() -> Vec<(&'static str, Case)> {
 
 fn lists() -> Vec<(&'static str, Case)> {
     let row = |name, entries: &[[u8; 3]], top| (name, read(&one_wire(2, entries, top)).on(Board::Shared));
+    let four =
+        (0..4).flat_map(|j| [&[0x26, j, 253], [[1, 1, 0]; 253].as_flattened(), &[254]].concat()).collect::<Vec<u8>>();
     vec![
         row("list: input 1", &[[1, 0, 1]], 2),
         row("list: input 2", &[[2, 0, 1]], 2),
@@ -61,6 +63,8 @@ fn lists() -> Vec<(&'static str, Case)> {
         row("list: an input inverted again", &[[2, 1, 0], [2, 1, 0], [2, 0, 1]], 3),
         row("list: an entry worth an input", &[[2, 0, 1], [1, 2, 2]], 3),
         row("list: an input below", &[[2, 0, 1], [1, 0, 2]], 3),
+        row("list: as many as there can be", &[[1, 1, 0]; 253], 254),
+        ("list: as many on four wires", read(&[&[0x20, 2, 4], &four[..], &[0x2F]].concat()).on(Board::Shared)),
     ]
 }
 
@@ -136,9 +140,11 @@ mod tests {
             ("an input inverted again", 5, 2),
             ("an entry worth an input", 10, 1),
             ("an input below", 8, 1),
+            ("as many as there can be", 3, 253),
         ] {
             assert_eq!(reply(&format!("list: {name}")), format!("2 1 {table} 0 0 0 cells {cells}\n"), "{name}");
         }
+        assert_eq!(reply("list: as many on four wires"), "2 4 3 3 3 3 cells 1012\n");
     }
 
     #[test]

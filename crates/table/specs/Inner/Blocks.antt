@@ -1,14 +1,12 @@
--- The least tables of two inputs, by what a table counts for, between all pairs of masks: one list with an entry for each pair. Where the cells count, these
--- are the picks.
-use Prim.Native.Nat.{ℕ, suc, _+_, _*_, _/_, _%_, _^_, _<_, _≤_}
+-- The least tables of two inputs, by what a table counts for, between all pairs of masks: one list with an entry for each pair.
+use Prim.Native.Nat.{ℕ, _+_, _*_, _/_, _%_, _^_, _<_, _≤_}
 use mathlib.Core.Path.{_≡_}
 use mathlib.Core.List.{List}
 use mathlib.Core.Option.{Option, none, some}
 use lib.ListN.{getD}
 use Rattle.table.specs.Bits.{bit}
-use Rattle.table.specs.Cells.{cells}
 use Rattle.table.specs.Pick.{leastOf}
-use Rattle.table.specs.Inner.Ranks.{masked}
+use Rattle.table.specs.Inner.Ranks.{masked, pickKey}
 use Rattle.table.specs.Inner.Pairs.{blockSpace, byteBits}
 
 -- a pair of masks of a block is a byte: so many entries
@@ -45,11 +43,7 @@ pub record BestBlocks (count : ℕ → ℕ) (e : List ℕ) : Type 0 where
 abbrev pub bestAt : (ℕ → ℕ) → ℕ → ℕ
 bestAt count at = bestBlock count (at / blockSpace) (at % blockSpace)
 
--- The key by which picks of trees are found: the cells and one more. So the keys of two halves add up to that of both under a selector which is a cell.
-abbrev pub pickKey : ℕ → ℕ → ℕ
-pickKey n t = suc (cells n t)
-
--- the same where that key counts
+-- the same where the key counts by which picks are found
 abbrev pub Blocks : List ℕ → Type 0
 Blocks = BestBlocks (pickKey 2)
 

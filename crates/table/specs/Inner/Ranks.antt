@@ -4,6 +4,7 @@ use mathlib.Core.Bool.{cond}
 use lib.Dec.{eqb}
 use Rattle.sheet.specs.Limits.{maxPatterns}
 use Rattle.table.specs.Bits.{bit}
+use Rattle.table.specs.Cells.{cells}
 use Rattle.table.specs.Pick.{Proj, leastOf, orZero}
 
 -- the projection that two masks tell: 0 may stand on the patterns of zeros, 1 on those of ones
@@ -21,3 +22,7 @@ tableSpace = 2 ^ maxPatterns
 -- a table and its cells, by a count of cells, as one number: the lesser number is the better pick
 unfoldable pub rank : (ℕ → ℕ) → ℕ → ℕ
 rank count t = count t * tableSpace + t
+
+-- The key by which picks of trees are found: one more than the cells. So the keys of two halves add up to that of both under a selector which is a cell.
+abbrev pub pickKey : ℕ → ℕ → ℕ
+pickKey n t = 1 + cells n t

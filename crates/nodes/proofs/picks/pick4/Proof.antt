@@ -15,9 +15,13 @@ use Rattle.nodes.proofs.picks.pick4.Tie as tie
 abbrev turns : ℕ
 turns = 2
 
+-- more than any rank
+abbrev noPick : ℕ
+noPick = 0xFFFFFFFF
+
 -- the masks of the turn that is due, and the least of the turns before it
 Passed : (w masks best u : ℕ) → Type 0
-Passed w masks best zero = (masks ≡ noInverted w) × (0xFFFFFFFF ≤ best)
+Passed w masks best zero = (masks ≡ noInverted w) × (noPick ≤ best)
 Passed w masks best (suc zero) = (masks ≡ w) × (best ≡ wayOf (noInverted w))
 Passed w masks best (suc (suc u)) = best ≡ min (wayOf (noInverted w)) (oneNode + wayOf w)
 

@@ -16,11 +16,11 @@ returns c =
     let h = c .before in
     (h .halves-alike .ensures .0 ∙ sym (repeated-way (h .before .args .pair) (omega arith)), h .halves-alike .ensures .1)
 
-add-line : tie.Need-add-line
-add-line c = search needs
+add-line-rank : tie.Need-add-line-rank
+add-line-rank c = search needs
 
-line-requires : tie.Need-line-requires
-line-requires c κs = search needs
+line-rank-requires : tie.Need-line-rank-requires
+line-rank-requires c κs = search needs
 
 three-alike-requires : tie.Need-three-alike-requires
 three-alike-requires c κs = search needs
@@ -55,8 +55,8 @@ returns-2 c =
     let first = three .before in
     let halves = first .before .before in
     let w = halves .before .args .pair in
-    let straight : first .line .result ≡ firstLine (classIn (quarterBytes w)) (lineIn (quarterBytes w)) = first .line .ensures .0 in
-    let least : x .lesser .result ≡ min (halves .halves-alike .result) (first .line .result) = x .lesser .ensures in
+    let straight : first .line-rank .result ≡ firstLine (classIn (quarterBytes w)) (lineIn (quarterBytes w)) = first .line-rank .ensures .0 in
+    let least : x .lesser .result ≡ min (halves .halves-alike .result) (first .line-rank .result) = x .lesser .ensures in
     let apart : y .lesser2 .result ≡ min (x .lesser .result) (tree .tree-like .result) = y .lesser2 .ensures in
     let shared : z .lesser3 .result ≡ min (three .three-alike .result) (across .across-alike .result) = z .lesser3 .ensures in (
       c .lesser4 .ensures
@@ -71,8 +71,8 @@ way-spec =
     (tie.spec
     halves-alike-requires
     returns
-    add-line
-    line-requires
+    add-line-rank
+    line-rank-requires
     three-alike-requires
     across-alike-requires
     tree-like-requires

@@ -1,7 +1,8 @@
 -- `bits_of` meets its contract: each bit is 0 or 1.
 use Prim.Native.Nat.{_+_, _*_}
-use mathlib.Core.Path.{ap₂}
+use mathlib.Core.Path.{_≡_, ap₂}
 use native.Mathlib.Omega.{arith}
+use Rattle.table.specs.Bits.{isOne}
 use Rattle.table.specs.Inner.Pairs.{upperHalf}
 use Rattle.table.proofs.BitColumns.{isOne-lt-two}
 use borrow.Author.Needs.{needs}
@@ -15,7 +16,9 @@ one-requires-2 : tie.Need-one-requires-2
 one-requires-2 c κs = search needs
 
 mul-result : tie.Need-mul-result
-mul-result c = omega (arith, c .one2 .ensures, isOne-lt-two (c .before .before .args .zeros))
+mul-result c =
+    let a = c .before .before .args in
+    omega (arith, c .one2 .ensures, isOne-lt-two (a .ones), isOne-lt-two (a .zeros))
 
 add-result : tie.Need-add-result
 add-result c =
@@ -25,7 +28,9 @@ add-result c =
 returns : tie.Need-returns
 returns c =
     let a = c .before .before .args in
-    let e = ap₂ (λ x y. x + upperHalf * y) (c .before .one .ensures) (c .one2 .ensures) in
+    let lower : c .before .one .result ≡ isOne (a .ones) = c .before .one .ensures in
+    let upper : c .one2 .result ≡ isOne (a .zeros) = c .one2 .ensures in
+    let e = ap₂ (λ x y. x + upperHalf * y) lower upper in
     (e, omega (arith, e, isOne-lt-two (a .ones), isOne-lt-two (a .zeros)))
 
 pub bits-of-spec : {M : Type 1} → statement M

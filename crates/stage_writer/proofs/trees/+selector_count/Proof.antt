@@ -1,15 +1,14 @@
 -- `selector_count` meets its contract: the halves of a table are equal, or a selector stands over the trees of both.
-use Prim.Native.Nat.{ℕ, _+_, _-_, _^_, _<_, _≤_}
-use mathlib.Core.Path.{sym, _∙_}
+use Prim.Native.Nat.{ℕ, _+_, _-_, _<_, _≤_}
+use mathlib.Core.Path.{_≡_, sym, _∙_}
 use native.Mathlib.Omega.{arith}
 use borrow.Fn.Kinds.{In, Out}
 use borrow.Fn.PlainCycle.{Measures, is, falls, and}
 use lib.Pow.{pow-pos}
-use Rattle.sheet.specs.Limits.{maxPatterns}
+use Rattle.sheet.specs.Limits.{maxInputs, maxPatterns}
 use Rattle.table.specs.Tree.{selectors, reduced}
-use Rattle.stage.proofs.TreeTables.{patterns-most}
+use Rattle.stage.proofs.TreeTables.{patterns-most, reduced-selectors-lt}
 use Rattle.stage_writer.proofs.Halves.{same-selectors, two-selectors}
-use Rattle.stage_writer.proofs.Listing.{halves}
 use Rattle.stage_writer.proofs.common.half_of.Reads as half-of-reads
 use Rattle.stage_writer.proofs.trees.selector_count.Reads as selector-count
 use Rattle.stage_writer.proofs.trees.selector_count.Kinds as kinds
@@ -37,7 +36,7 @@ module _ (t : ℕ) where
 
   returns : Of lts.Need-returns
   unfolding selectors reduced
-  returns c = (λ k. simp (c .if1 .taken), pow-pos _)
+  returns c = λ k. simp (c .if1 .taken)
 
   sub-v : Of lts.Need-sub-v
   sub-v c = omega arith
@@ -51,21 +50,28 @@ module _ (t : ℕ) where
   div-high : Of lts.Need-div-high
   div-high c = rw (c .half-of .ensures) (pow-pos _)
 
-  -- each half has fewer selectors than there are patterns
-  most : (c : Of lts.After-half-of) → 2 ^ (c .before .before .args .w - 1) ≤ maxPatterns
-  most c = patterns-most (c .before .before .args .w - 1) (omega (arith, c .before .before .pre .1))
+  -- a half has fewer selectors than it has patterns, which are no more than there are
+  few : (w t r : ℕ) → w ≤ maxInputs → ((k : ℕ) → r ≡ selectors (reduced (w - 1) k t)) → r < maxPatterns
+  few w t r l e = omega (arith, e 0, reduced-selectors-lt (w - 1) 0 t, patterns-most (w - 1) (omega arith))
 
   selector-count-requires : Of lts.Need-selector-count-requires
   selector-count-requires c κs = omega arith
 
   add-result : Of lts.Need-add-result
-  add-result c = omega (arith, c .selector-count .ensures .1, most (c .before .before))
+  add-result c = let i = c .before .before .before .before in omega (arith, few (i .args .w) _ (c .selector-count .result) (i .pre .1) (c .selector-count .ensures))
 
   selector-count-requires-2 : Of lts.Need-selector-count-requires-2
   selector-count-requires-2 c κs = omega arith
 
   add-result-2 : Of lts.Need-add-result-2
-  add-result-2 c = omega (arith, c .before .selector-count .ensures .1, c .selector-count2 .ensures .1, most (c .before .before .before))
+  add-result-2 c =
+      let z = c .before in
+      let i = z .before .before .before .before in
+      omega (
+        arith,
+        few (i .args .w) _ (z .selector-count .result) (i .pre .1) (z .selector-count .ensures),
+        few (i .args .w) _ (c .selector-count2 .result) (i .pre .1) (c .selector-count2 .ensures),
+      )
 
   returns-2 : Of lts.Need-returns-2
   returns-2 c =
@@ -73,14 +79,11 @@ module _ (t : ℕ) where
       let e = z .before in
       let h = e .before in
       let a = h .before .before .args in
-      let w = h .before .if1 .left in (
-        λ k. omega (
-          arith,
-          z .selector-count .ensures .0 (k + 1),
-          c .selector-count2 .ensures .0 (k + 1),
-          two-selectors (a .w) (a .t) _ w (h .half-of .ensures) k (e .if2 .taken),
-        ),
-        omega (arith, z .selector-count .ensures .1, c .selector-count2 .ensures .1, halves (a .w) w),
+      λ k. omega (
+        arith,
+        z .selector-count .ensures (k + 1),
+        c .selector-count2 .ensures (k + 1),
+        two-selectors (a .w) (a .t) _ (h .before .if1 .left) (h .half-of .ensures) k (e .if2 .taken),
       )
 
   selector-count-requires-3 : Of lts.Need-selector-count-requires-3
@@ -91,10 +94,7 @@ module _ (t : ℕ) where
       let e = c .before in
       let h = e .before in
       let a = h .before .before .args in
-      let w = h .before .if1 .left in (
-        λ k. c .selector-count3 .ensures .0 (k + 1) ∙ sym (same-selectors (a .w) (a .t) _ w (h .half-of .ensures) k (e .if2 .left)),
-        omega (arith, c .selector-count3 .ensures .1, halves (a .w) w),
-      )
+      λ k. c .selector-count3 .ensures (k + 1) ∙ sym (same-selectors (a .w) (a .t) _ (h .before .if1 .left) (h .half-of .ensures) k (e .if2 .left))
 
   pub meets : {M : Type 1} → lts.Closed claims here selector-count.Post M
   meets =

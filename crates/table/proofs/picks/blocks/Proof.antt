@@ -3,8 +3,8 @@ use mathlib.Core.Path.{refl}
 use Rattle.table.specs.Bits.{bit, all}
 use Rattle.table.specs.Cells.{low, high, full, wiredTable, selectorCells, cells}
 use Rattle.table.specs.Pick.{suits, nearer, least, leastOf}
-use Rattle.table.specs.Inner.Ranks.{masked}
-use Rattle.table.specs.Inner.Blocks.{blockEntry, bestBlock, pickKey}
+use Rattle.table.specs.Inner.Ranks.{masked, pickKey}
+use Rattle.table.specs.Inner.Blocks.{blockEntry, bestBlock}
 use Rattle.table.proofs.BestBlocks.{right, tested}
 use Rattle.table.proofs.picks.blocks.Statement.{statement}
 use Rattle.table.proofs.picks.blocks.Tie as tie

@@ -6,8 +6,8 @@ use lib.Bits.{bitAnd, and-le-l}
 use lib.Dec.{eqb}
 use Rattle.table.specs.Cells.{full}
 use Rattle.table.specs.Pick.{leastOf}
-use Rattle.table.specs.Inner.Ranks.{masked}
-use Rattle.table.specs.Inner.Blocks.{entries, threeSpace, noEntry, pickKey, zerosAt, onesAt, HalvesShow}
+use Rattle.table.specs.Inner.Ranks.{masked, pickKey}
+use Rattle.table.specs.Inner.Blocks.{entries, threeSpace, noEntry, zerosAt, onesAt, HalvesShow}
 use Rattle.table.specs.Inner.Lines.{line, needsOfThree, lineBy}
 use Rattle.table.proofs.Entries.{shown-some, twoBlocks, line-choice}
 use Rattle.table.proofs.Places.{three-places}

@@ -7,9 +7,9 @@ use lib.Bits.{bitAnd}
 use lib.Dec.{eqb}
 use Rattle.table.specs.Cells.{full}
 use Rattle.table.specs.Pick.{leastOf}
-use Rattle.table.specs.Inner.Ranks.{masked, tableSpace}
+use Rattle.table.specs.Inner.Ranks.{masked, tableSpace, pickKey}
 use Rattle.table.specs.Inner.Pairs.{zerosIn, onesIn}
-use Rattle.table.specs.Inner.Blocks.{noTable, pickKey, PickShown}
+use Rattle.table.specs.Inner.Blocks.{noTable, PickShown}
 use Rattle.table.specs.Inner.Lines.{line, needsOfFour, lineBy}
 use Rattle.table.proofs.Entries.{shown-some, line-choice, twiceShown, pairShown}
 use Rattle.table.proofs.Places.{four-places}

@@ -4,8 +4,8 @@ use lib.ListN.{length}
 use Rattle.stage.proofs.TreeTables.{patterns-most}
 use Rattle.stage_writer.specs.Inner.Keys.{nodesIn}
 use Rattle.stage_writer.proofs.Keys.{nodes-length}
-use Rattle.stage_writer.proofs.diagrams.node_count.Statement.{statement}
-use Rattle.stage_writer.proofs.diagrams.node_count.Tie as tie
+use Rattle.stage_writer.proofs.diagrams.entry_count.Statement.{statement}
+use Rattle.stage_writer.proofs.diagrams.entry_count.Tie as tie
 
 list-nodes-requires : tie.Need-list-nodes-requires
 list-nodes-requires c κs = (c .before .pre, omega (arith, patterns-most (c .before .args .n) (c .before .pre)), refl)
@@ -17,5 +17,5 @@ returns c =
     let s = c .before .before in
     (sym (nodes-length _ _) ∙ ap length (p .nodes), omega (arith, p .few, patterns-most (s .args .n) (s .pre)))
 
-pub node-count-spec : {M : Type 1} → statement M
-node-count-spec = tie.close (tie.spec list-nodes-requires returns)
+pub entry-count-spec : {M : Type 1} → statement M
+entry-count-spec = tie.close (tie.spec list-nodes-requires returns)

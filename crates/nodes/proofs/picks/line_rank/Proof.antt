@@ -1,4 +1,4 @@
--- `line` meets its contract: one test of both masks.
+-- `line_rank` meets its contract: one test of both masks.
 use Prim.Native.Nat.{_*_, _/_, _%_}
 use mathlib.Core.Path.{sym}
 use native.Mathlib.Omega.{arith}
@@ -7,8 +7,8 @@ use Rattle.base.proofs.Tests.{eqb-yes, eqb-not}
 use Rattle.table.specs.Inner.Pairs.{blockSpace}
 use Rattle.nodes.specs.Inner.Ways.{onesQuarter, noLine, lineAt}
 use borrow.Author.Needs.{needs}
-use Rattle.nodes.proofs.picks.line.Statement.{statement}
-use Rattle.nodes.proofs.picks.line.Tie as tie
+use Rattle.nodes.proofs.picks.line_rank.Statement.{statement}
+use Rattle.nodes.proofs.picks.line_rank.Tie as tie
 
 mul-result : tie.Need-mul-result
 mul-result c = search needs
@@ -25,5 +25,5 @@ returns-2 c =
     let a = c .before .args in
     (sym (eqb-not (bitAnd (a .x / blockSpace) (a .y) % blockSpace) onesQuarter (a .j * onesQuarter) noLine (λ e. omega arith)), omega arith)
 
-pub line-spec : {M : Type 1} → statement M
-line-spec = tie.close (tie.spec mul-result returns returns-2)
+pub line-rank-spec : {M : Type 1} → statement M
+line-rank-spec = tie.close (tie.spec mul-result returns returns-2)
