@@ -10,7 +10,7 @@ use lib.Dec.{T, T-not, eqb}
 use lib.ListN.{length}
 use lib.Pow.{pow-pos}
 use borrow.Author.Tests.{ne-eqb}
-use Rattle.base.proofs.Tests.{cond-has, cond-has₂, cond-has₃, eqb-yes, eqb-not, or-cases, and-false}
+use Rattle.base.proofs.Tests.{cond-has, cond-has₂, cond-has₃, eqb-yes, eqb-not, or-cases}
 use Rattle.sheet.specs.Limits.{maxInputs}
 use Rattle.table.specs.Bits.{bit}
 use Rattle.table.specs.Cells.{low, high, selectorCells}

@@ -8,7 +8,6 @@ use lib.Dec.{eqb}
 use lib.ListN.{getD, drop}
 use lib.Seq.{getD-drop}
 use Rattle.base.specs.declared.Refusal.{Refusal}
-use Rattle.base.proofs.Tests.{and-false}
 use Rattle.sheet.specs.Limits.{maxInputs, maxPatterns}
 use Rattle.table.specs.Cells.{selectorCells}
 use Rattle.table.specs.Tree.{Tree, con, sel, Ordered, isCon, wiredTrees, treeCells}

@@ -7,7 +7,7 @@ use native.Mathlib.Omega.{arith}
 use native.Mathlib.Nat.{zero-mod, zero-div, mod-eq-of-lt, div-eq-of-lt}
 use lib.Dec.{T, T-not, not-T, eqb, eqb→eq}
 use lib.Pow.{pow-pos}
-use Rattle.base.proofs.Tests.{cond-has, cond-has₂, eqb-yes, eqb-not, or-cases, or-right, decide, eq-test}
+use Rattle.base.proofs.Tests.{cond-has, eqb-yes, eqb-not, or-cases, or-right, decide, eq-test}
 use Rattle.table.specs.Cells.{low, high, full, wiredTable, selectorCells, cells}
 use Rattle.table.specs.Inner.CellsWritten.{isConstant, cellsWritten}
 use Rattle.table.proofs.Halves.{join, join-low, join-high, same-halves}

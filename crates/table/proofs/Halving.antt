@@ -8,10 +8,13 @@ use native.Mathlib.Omega.{arith}
 use native.Mathlib.Nat.{le-antisymm}
 use lib.Dec.{T, T-not, eqb, eqb→eq}
 use Rattle.base.proofs.Tests.{cond-has, decide, eq-test, test-yes}
+use Rattle.table.specs.Bits.{bit}
 use Rattle.table.specs.Cells.{low, high, wiredTable, cells}
 use Rattle.table.specs.Pick.{Proj, suits, least, leastOf}
 use Rattle.table.specs.Inner.Ranks.{pickKey}
 use Rattle.table.specs.Inner.Lines.{line}
+use Rattle.table.proofs.Below.{all-at, all-intro}
+use Rattle.table.proofs.Bits.{bit-zero}
 use Rattle.table.proofs.Halves.{low-lt, high-lt, join, join-low, join-high, join-lt, join-halves, join-le}
 use Rattle.table.proofs.Wired.{line-lt, wired-line, not-wired-one, selector-most}
 use Rattle.table.proofs.Cells.{cells-differ, cells-most, cells-halves, counted-twice}
@@ -114,19 +117,19 @@ Beats key none s = ⊥
 Beats key (some t) s = Lex key t s
 
 module _ (key : ℕ → ℕ) where
-  closest-left : (a b : Option ℕ) (s : ℕ) → Beats key a s → Beats key (closest key a b) s
+  pub closest-left : (a b : Option ℕ) (s : ℕ) → Beats key a s → Beats key (closest key a b) s
   unfolding closest
   closest-left none b s h = absurd h
   closest-left (some t) none s h = h
   closest-left (some t) (some u) s h = lex-trans key (closer key t u) t s (closer-left key t u) h
 
-  closest-right : (a b : Option ℕ) (s : ℕ) → Beats key b s → Beats key (closest key a b) s
+  pub closest-right : (a b : Option ℕ) (s : ℕ) → Beats key b s → Beats key (closest key a b) s
   unfolding closest
   closest-right none b s h = h
   closest-right (some t) none s h = absurd h
   closest-right (some t) (some u) s h = lex-trans key (closer key t u) u s (closer-right key t u) h
 
-  closest-candidate : (n : ℕ) (P : Proj) (a b : Option ℕ) → Candidate n P a → Candidate n P b → Candidate n P (closest key a b)
+  pub closest-candidate : (n : ℕ) (P : Proj) (a b : Option ℕ) → Candidate n P a → Candidate n P b → Candidate n P (closest key a b)
   unfolding closest
   closest-candidate n P none b x y = y
   closest-candidate n P (some t) none x y = x
@@ -160,7 +163,7 @@ module _ (key : ℕ → ℕ → ℕ) (step r : ℕ) (laws : KeyHalves key step r
       }
 
   -- two halves against halves that differ and are not the line: the sum of keys is no greater, and of equals the number
-  pub apart-first : (h l h′ l′ : ℕ) → Best (key r) r (upper r P) h → Best (key r) r P l → h′ < 2 ^ (2 ^ r) → l′ < 2 ^ (2 ^ r) → T (suits r (upper r P) h′)
+  apart-first : (h l h′ l′ : ℕ) → Best (key r) r (upper r P) h → Best (key r) r P l → h′ < 2 ^ (2 ^ r) → l′ < 2 ^ (2 ^ r) → T (suits r (upper r P) h′)
       → T (suits r P l′) → (key r l + key r h ≤ key r l′ + key r h′) × (key r l′ + key r h′ ≤ key r l + key r h → join r h l ≤ join r h′ l′)
   apart-first h l h′ l′ bh bl lh ll sh sl =
       let dh = bh .first h′ lh sh in
@@ -185,7 +188,7 @@ module _ (key : ℕ → ℕ → ℕ) (step r : ℕ) (laws : KeyHalves key step r
   line-beats s e ss = rw (e, test-yes (suits (suc r) P (line r)) (rw e at ss)) (lex-refl (key (suc r)) (line r))
 
   -- the candidates suit
-  pub pair-candidate : (h l : Option ℕ) → BestTable (key r) r (upper r P) h → BestTable (key r) r P l → Candidate (suc r) P (joins r h l)
+  pair-candidate : (h l : Option ℕ) → BestTable (key r) r (upper r P) h → BestTable (key r) r P l → Candidate (suc r) P (joins r h l)
   unfolding joins
   pair-candidate none l bh bl = tt
   pair-candidate (some h) none bh bl = tt
@@ -204,7 +207,7 @@ module _ (key : ℕ → ℕ → ℕ) (step r : ℕ) (laws : KeyHalves key step r
   line-candidate = cond-has (Candidate (suc r) P) (suits (suc r) P (line r)) (λ s. (line-lt r, s)) (λ _. tt)
 
   -- every table that suits is of one of three kinds
-  pub by-kinds : (Q : ℕ → Type 0)
+  by-kinds : (Q : ℕ → Type 0)
       → ((h : ℕ) → h < 2 ^ (2 ^ r) → T (suits r (common r P) h) → Q (join r h h))
       → ((h l : ℕ) → h < 2 ^ (2 ^ r) → l < 2 ^ (2 ^ r) → T (suits r (upper r P) h) → T (suits r P l) → (l ≡ h → ⊥) → (join r h l ≡ line r → ⊥) → Q (join r h l))
       → ((s : ℕ) → s ≡ line r → T (suits (suc r) P s) → Q s)
@@ -252,9 +255,39 @@ module _ (key : ℕ → ℕ → ℕ) (step r : ℕ) (laws : KeyHalves key step r
       (step-best (leastOf (key r) r (common r P)) (leastOf (key r) r (upper r P)) (leastOf (key r) r P) (least-best (key r) r (common r P))
       (least-best (key r) r (upper r P)) (least-best (key r) r P))
 
+-- the table b of no input, where it suits
+unfoldable pub single : Proj → ℕ → Option ℕ
+single P b = cond (P 0 b) (some b) none
+
+module _ (key : ℕ → ℕ) (P : Proj) where
+  single-candidate : (b : ℕ) → b < 2 → Candidate 0 P (single P b)
+  unfolding single suits
+  single-candidate b l =
+      cond-has (Candidate 0 P) (P 0 b)
+      (λ t. (l, all-intro (2 ^ 0) (λ p. P p (bit b p)) (λ p lp. subst (λ q. T (P q (bit b q))) (omega arith) (subst (λ v. T (P 0 v)) (sym (bit-zero b l)) t))))
+      (λ _. tt)
+
+  single-beats : (b s : ℕ) → b < 2 → s ≡ b → T (suits 0 P s) → Beats key (single P b) s
+  unfolding single suits
+  single-beats b s l e ss =
+      let t = subst (λ v. T (P 0 v)) (bit-zero b l) (all-at (2 ^ 0) (λ p. P p (bit b p)) (subst (λ u. T (suits 0 P u)) e ss) 0 (omega arith)) in
+      rw (test-yes (P 0 b) t, e) (lex-refl key b)
+
+  single-best : BestTable key 0 P (closest key (single P 0) (single P 1))
+  single-best =
+      let zero-one : (s : ℕ) → s < 2 → (s ≡ 0) ⊎ (s ≡ 1) = λ s l. ⊎-elim (λ e. inl (eqb→eq s 0 e)) (λ n. inr (other s l (λ e. T-not (eqb s 0) n (eq-test e)))) (decide (eqb s 0)) in
+      best-of key 0 P (closest key (single P 0) (single P 1))
+      (closest-candidate key 0 P (single P 0) (single P 1) (single-candidate 0 (omega arith)) (single-candidate 1 (omega arith)))
+      (λ s ls ss.
+      ⊎-elim (λ e. closest-left key (single P 0) (single P 1) s (single-beats 0 s (omega arith) e ss))
+      (λ e. closest-right key (single P 0) (single P 1) s (single-beats 1 s (omega arith) e ss)) (zero-one s ls))
+    where
+      other : (s : ℕ) → s < 2 → (s ≡ 0 → ⊥) → s ≡ 1
+      other s l n = omega arith
+
 -- the pick by halving
 unfoldable pub halved : (ℕ → ℕ → ℕ) → ℕ → Proj → Option ℕ
-halved key zero P = leastOf (key zero) zero P
+halved key zero P = closest (key zero) (single P 0) (single P 1)
 halved key (suc r) P =
     let c = halved key r (common r P) in
     closest (key (suc r)) (closest (key (suc r)) (joins r c c) (fitting r P)) (joins r (halved key r (upper r P)) (halved key r P))
@@ -262,7 +295,8 @@ halved key (suc r) P =
 -- it is the least over all tables, smallest number included, for every width
 pub halved-least : (key : ℕ → ℕ → ℕ) (step n : ℕ) → ((r : ℕ) → r < n → KeyHalves key step r) → (P : Proj) → halved key n P ≡ leastOf (key n) n P
 unfolding halved
-halved-least key step zero laws P = refl
+halved-least key step zero laws P =
+    best-only (key zero) 0 P (closest (key zero) (single P 0) (single P 1)) (leastOf (key zero) 0 P) (single-best (key zero) P) (least-best (key zero) 0 P)
 halved-least key step (suc r) laws P =
     let on : (Q : Proj) → halved key r Q ≡ leastOf (key r) r Q = halved-least key step r (λ q l. laws q (omega arith)) in
     rw (on (common r P), on (upper r P), on P) (sym (least-halves key step r (laws r (omega arith)) P))

@@ -1,7 +1,7 @@
 -- Places in the table of blocks: what two have in common, and the masks of three and of four inputs that several of them tell.
 -- So the code finds what blocks have in common by one operation on two places.
 use Prim.Native.Nat.{ℕ, _+_, _*_, _-_, _/_, _%_, _^_, _<_, _≤_, min}
-use mathlib.Core.Path.{_≡_, refl, sym, ap, ap₂, subst, _∙_}
+use mathlib.Core.Path.{_≡_, refl, sym, ap, ap₂, _∙_}
 use mathlib.Core.Bool.{cond, _&&_}
 use mathlib.Core.List.{List}
 use native.Mathlib.Omega.{arith}
@@ -53,36 +53,46 @@ places-told zeros ones z o low high x ez eo pl ph s =
 byte-and : (x y k : ℕ) → fromByte k (bitAnd x y) % entries ≡ bitAnd (fromByte k x % entries) (fromByte k y % entries)
 byte-and x y k = ap (λ v. v % entries) (and-shr x y (byteBits * k)) ∙ and-mod (fromByte k x) (fromByte k y) byteBits
 
+-- all patterns of a block, and the bits of a place that tell where it can be 0 and where it can be 1
+abbrev fullBlock : ℕ
+fullBlock = blockSpace - 1
+
+abbrev zeroBits : ℕ
+zeroBits = fullBlock * blockSpace
+
+abbrev oneBits : ℕ
+oneBits = fullBlock
+
 -- a place has all zeros of its block, or all ones, exactly where it has each bit of that half
-zeros-all : (b : ℕ) → b < entries → bitAnd b 0xF0 ≡ 0xF0 → b / blockSpace ≡ blockSpace - 1
-zeros-all b l h = omega (arith, and-shr b 0xF0 blockPatterns, and-le-l (b / blockSpace) 15)
+zeros-all : (b : ℕ) → b < entries → bitAnd b zeroBits ≡ zeroBits → b / blockSpace ≡ fullBlock
+zeros-all b l h = omega (arith, and-shr b zeroBits blockPatterns, and-le-l (b / blockSpace) fullBlock)
 
-all-zeros : (b : ℕ) → b / blockSpace ≡ blockSpace - 1 → bitAnd b 0xF0 ≡ 0xF0
-all-zeros b h = omega (arith, and-shr b 0xF0 blockPatterns, ap (λ x. bitAnd x 15) h, and-le-r b 0xF0)
+all-zeros : (b : ℕ) → b / blockSpace ≡ fullBlock → bitAnd b zeroBits ≡ zeroBits
+all-zeros b h = omega (arith, and-shr b zeroBits blockPatterns, ap (λ x. bitAnd x fullBlock) h, and-le-r b zeroBits)
 
-ones-all : (b : ℕ) → bitAnd b 0x0F ≡ 0x0F → b % blockSpace ≡ blockSpace - 1
-ones-all b h = omega (arith, and-mod b 0x0F blockPatterns, and-le-l (b % blockSpace) 15)
+ones-all : (b : ℕ) → bitAnd b oneBits ≡ oneBits → b % blockSpace ≡ fullBlock
+ones-all b h = omega (arith, and-mod b oneBits blockPatterns, and-le-l (b % blockSpace) fullBlock)
 
-all-ones : (b : ℕ) → b % blockSpace ≡ blockSpace - 1 → bitAnd b 0x0F ≡ 0x0F
-all-ones b h = omega (arith, and-mod b 0x0F blockPatterns, ap (λ x. bitAnd x 15) h, and-le-r b 0x0F)
+all-ones : (b : ℕ) → b % blockSpace ≡ fullBlock → bitAnd b oneBits ≡ oneBits
+all-ones b h = omega (arith, and-mod b oneBits blockPatterns, ap (λ x. bitAnd x fullBlock) h, and-le-r b oneBits)
 
 -- what the line of three inputs needs, by the places of the halves
 needs-three : (w : ℕ)
-    → eqb (bitAnd w needsOfThree) needsOfThree ≡ eqb (w % entries / blockSpace) (blockSpace - 1) && eqb (w / entries % entries % blockSpace) (blockSpace - 1)
+    → eqb (bitAnd w needsOfThree) needsOfThree ≡ eqb (w % entries / blockSpace) (fullBlock) && eqb (w / entries % entries % blockSpace) (fullBlock)
 needs-three w =
     let k = w % entries in
     let l = w / entries % entries in
     let x = bitAnd w needsOfThree in
-    let e0 : x % entries ≡ bitAnd k 0xF0 = and-mod w needsOfThree byteBits in
-    let e1 : x / entries % entries ≡ bitAnd l 0x0F = byte-and w needsOfThree 1 in
-    test-ext (eqb x needsOfThree) (eqb (k / blockSpace) (blockSpace - 1) && eqb (l % blockSpace) (blockSpace - 1))
+    let e0 : x % entries ≡ bitAnd k zeroBits = and-mod w needsOfThree byteBits in
+    let e1 : x / entries % entries ≡ bitAnd l oneBits = byte-and w needsOfThree 1 in
+    test-ext (eqb x needsOfThree) (eqb (k / blockSpace) (fullBlock) && eqb (l % blockSpace) (fullBlock))
     (λ t.
     let h = eqb→eq x needsOfThree t in
-    and-intro (eqb (k / blockSpace) (blockSpace - 1)) (eqb (l % blockSpace) (blockSpace - 1))
+    and-intro (eqb (k / blockSpace) (fullBlock)) (eqb (l % blockSpace) (fullBlock))
     (eq-test (zeros-all k (omega arith) (omega (arith, h, e0)))) (eq-test (ones-all l (omega (arith, h, e1)))))
     (λ t.
-    let a = all-zeros k (eqb→eq (k / blockSpace) (blockSpace - 1) (and-left (eqb (k / blockSpace) (blockSpace - 1)) (eqb (l % blockSpace) (blockSpace - 1)) t)) in
-    let b = all-ones l (eqb→eq (l % blockSpace) (blockSpace - 1) (and-right (eqb (k / blockSpace) (blockSpace - 1)) (eqb (l % blockSpace) (blockSpace - 1)) t)) in
+    let a = all-zeros k (eqb→eq (k / blockSpace) (fullBlock) (and-left (eqb (k / blockSpace) (fullBlock)) (eqb (l % blockSpace) (fullBlock)) t)) in
+    let b = all-ones l (eqb→eq (l % blockSpace) (fullBlock) (and-right (eqb (k / blockSpace) (fullBlock)) (eqb (l % blockSpace) (fullBlock)) t)) in
     let d : x ≡ needsOfThree = omega (arith, e0, e1, a, b, and-le-r w needsOfThree) in
     eq-test d)
 
@@ -104,7 +114,7 @@ three-places w a b c ea eb ec =
     (eb ∙ ap₂ blockOf (sym zh) (sym oh))
     (ec ∙ ap₂ blockOf (and-shr low high blockPatterns ∙ sym (ap₂ bitAnd zl zh)) (and-mod low high blockPatterns ∙ sym (ap₂ bitAnd ol oh)))
     (ap (λ t. cond t (threeSpace + line 2) noEntry) (needs-three w)
-    ∙ ap₂ (λ x y. cond (eqb x (blockSpace - 1) && eqb y (blockSpace - 1)) (threeSpace + line 2) noEntry) (sym zl) (sym oh))
+    ∙ ap₂ (λ x y. cond (eqb x (fullBlock) && eqb y (fullBlock)) (threeSpace + line 2) noEntry) (sym zl) (sym oh))
 
 -- the lower half of a mask of four inputs and its upper half, bit by bit together, are what the halves have in common
 common-low : (x : ℕ) → x < tableSpace → bitAnd x (x / threeSpace) % threeSpace ≡ bitAnd (x % threeSpace) (x / threeSpace)
@@ -126,13 +136,13 @@ halves-both w l =
     (and-mod w (fromByte 2 w) byteBits, byte-and w (fromByte 2 w) 1 ∙ ap (bitAnd (fromByte 1 w % entries)) e)
 
 -- a mask of three inputs is full where its blocks are
-blocks-full : (m : ℕ) → m % blockSpace ≡ blockSpace - 1 → m / blockSpace % blockSpace ≡ blockSpace - 1 → m % threeSpace ≡ threeSpace - 1
+blocks-full : (m : ℕ) → m % blockSpace ≡ fullBlock → m / blockSpace % blockSpace ≡ fullBlock → m % threeSpace ≡ threeSpace - 1
 blocks-full m a b = omega (arith, mod-mul m {m = blockSpace} {c = blockSpace} (omega arith) (omega arith))
 
-full-blocks : (m : ℕ) → m % threeSpace ≡ threeSpace - 1 → (m % blockSpace ≡ blockSpace - 1) × (m / blockSpace % blockSpace ≡ blockSpace - 1)
+full-blocks : (m : ℕ) → m % threeSpace ≡ threeSpace - 1 → (m % blockSpace ≡ fullBlock) × (m / blockSpace % blockSpace ≡ fullBlock)
 full-blocks m h = (omega arith, omega arith)
 
-four-bytes : (x : ℕ) → x ≤ needsOfFour → x % entries ≡ 0xF0 → fromByte 1 x % entries ≡ 0xF0 → fromByte 2 x % entries ≡ 0x0F → fromByte 3 x % entries ≡ 0x0F
+four-bytes : (x : ℕ) → x ≤ needsOfFour → x % entries ≡ zeroBits → fromByte 1 x % entries ≡ zeroBits → fromByte 2 x % entries ≡ oneBits → fromByte 3 x % entries ≡ oneBits
     → x ≡ needsOfFour
 four-bytes x l a b c d = omega arith
 
@@ -147,10 +157,10 @@ needs-four w z o lw pk pl z′ o′ pm pn lo =
     let n = fromByte 3 w in
     let x = bitAnd w needsOfFour in
     let nd : n % entries ≡ n = omega arith in
-    let e0 : x % entries ≡ bitAnd k 0xF0 = and-mod w needsOfFour byteBits in
-    let e1 : fromByte 1 x % entries ≡ bitAnd l 0xF0 = byte-and w needsOfFour 1 in
-    let e2 : fromByte 2 x % entries ≡ bitAnd m 0x0F = byte-and w needsOfFour 2 in
-    let e3 : fromByte 3 x % entries ≡ bitAnd n 0x0F = byte-and w needsOfFour 3 ∙ ap (λ y. bitAnd y 0x0F) nd in
+    let e0 : x % entries ≡ bitAnd k zeroBits = and-mod w needsOfFour byteBits in
+    let e1 : fromByte 1 x % entries ≡ bitAnd l zeroBits = byte-and w needsOfFour 1 in
+    let e2 : fromByte 2 x % entries ≡ bitAnd m oneBits = byte-and w needsOfFour 2 in
+    let e3 : fromByte 3 x % entries ≡ bitAnd n oneBits = byte-and w needsOfFour 3 ∙ ap (λ y. bitAnd y oneBits) nd in
     let lower = eqb (z % threeSpace) (threeSpace - 1) in
     let upper = eqb o′ (threeSpace - 1) in
     let small : o′ % threeSpace ≡ o′ = mod-eq-of-lt lo in

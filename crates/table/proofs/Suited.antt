@@ -6,7 +6,7 @@ use mathlib.Core.Bool.{_&&_}
 use native.Mathlib.Omega.{arith}
 use lib.Dec.{T, ltb, ltb→lt, nltb→le}
 use Rattle.base.proofs.Tests.{and-intro, and-left, and-right, decide}
-use Rattle.table.specs.Bits.{bit, all}
+use Rattle.table.specs.Bits.{bit}
 use Rattle.table.specs.Cells.{low, high}
 use Rattle.table.specs.Pick.{Proj, suits}
 use Rattle.table.proofs.Below.{all-at, all-intro}

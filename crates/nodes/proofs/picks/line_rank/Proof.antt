@@ -1,6 +1,6 @@
 -- `line_rank` meets its contract: one test of both masks.
 use Prim.Native.Nat.{_*_, _/_, _%_}
-use mathlib.Core.Path.{sym}
+use mathlib.Core.Path.{_≡_, sym}
 use native.Mathlib.Omega.{arith}
 use lib.Bits.{bitAnd}
 use Rattle.base.proofs.Tests.{eqb-yes, eqb-not}
@@ -17,13 +17,15 @@ returns : tie.Need-returns
 unfolding lineAt
 returns c =
     let a = c .before .args in
-    (sym (eqb-yes (bitAnd (a .x / blockSpace) (a .y) % blockSpace) onesQuarter (a .j * onesQuarter) noLine (omega arith)), omega arith)
+    let full : bitAnd (a .x / blockSpace) (a .y) % blockSpace ≡ onesQuarter = c .if1 .taken in
+    (sym (eqb-yes (bitAnd (a .x / blockSpace) (a .y) % blockSpace) onesQuarter (a .j * onesQuarter) noLine full), omega arith)
 
 returns-2 : tie.Need-returns-2
 unfolding lineAt
 returns-2 c =
     let a = c .before .args in
-    (sym (eqb-not (bitAnd (a .x / blockSpace) (a .y) % blockSpace) onesQuarter (a .j * onesQuarter) noLine (λ e. omega arith)), omega arith)
+    let lacked : bitAnd (a .x / blockSpace) (a .y) % blockSpace ≡ onesQuarter → ⊥ = c .if1 .left in
+    (sym (eqb-not (bitAnd (a .x / blockSpace) (a .y) % blockSpace) onesQuarter (a .j * onesQuarter) noLine lacked), omega arith)
 
 pub line-rank-spec : {M : Type 1} → statement M
 line-rank-spec = tie.close (tie.spec mul-result returns returns-2)

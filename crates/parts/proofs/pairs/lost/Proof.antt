@@ -1,5 +1,5 @@
 -- `lost` meets its contract: of both bits, those that do not occur.
-use mathlib.Core.Path.{ap₂, _∙_}
+use mathlib.Core.Path.{_≡_, ap₂, _∙_}
 use mathlib.Core.Bool.{not}
 use Rattle.parts.specs.Inner.Pairs.{bitsOf, lostOf}
 use borrow.Author.Needs.{needs}
@@ -18,7 +18,8 @@ bits-of-requires c κs = search needs
 returns : tie.Need-returns
 unfolding lostOf
 returns c =
-    (c .bits-of .ensures .0 ∙ ap₂ (λ x y. bitsOf (not x) (not y)) (c .before .before .has .ensures) (c .before .has2 .ensures), c .bits-of .ensures .1)
+    let told : c .bits-of .result ≡ bitsOf (not (c .before .before .has .result)) (not (c .before .has2 .result)) = c .bits-of .ensures .0 in
+    (told ∙ ap₂ (λ x y. bitsOf (not x) (not y)) (c .before .before .has .ensures) (c .before .has2 .ensures), c .bits-of .ensures .1)
 
 pub lost-spec : {M : Type 1} → statement M
 lost-spec = tie.close (tie.spec has-requires has-requires-2 bits-of-requires returns)
