@@ -6,6 +6,7 @@ pub mod Taken
 pub mod Branches
 pub mod Ends
 pub mod Gather
+pub mod Costs
 pub mod Counts
 pub mod Numbering
 pub mod Entries

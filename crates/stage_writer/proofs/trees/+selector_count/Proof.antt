@@ -1,5 +1,5 @@
 -- `selector_count` meets its contract: the halves of a table are equal, or a selector stands over the trees of both.
-use Prim.Native.Nat.{ℕ, _+_, _-_, _<_, _≤_}
+use Prim.Native.Nat.{ℕ, _+_, _-_, _/_, _%_, _<_, _≤_}
 use mathlib.Core.Path.{_≡_, sym, _∙_}
 use native.Mathlib.Omega.{arith}
 use borrow.Fn.Kinds.{In, Out}
@@ -79,12 +79,11 @@ module _ (t : ℕ) where
       let e = z .before in
       let h = e .before in
       let a = h .before .before .args in
-      λ k. omega (
-        arith,
-        z .selector-count .ensures (k + 1),
-        c .selector-count2 .ensures (k + 1),
-        two-selectors (a .w) (a .t) _ (h .before .if1 .left) (h .half-of .ensures) k (e .if2 .taken),
-      )
+      let half = h .half-of .result in
+      λ k.
+      let low : z .selector-count .result ≡ selectors (reduced (a .w - 1) (k + 1) (a .t % half)) = z .selector-count .ensures (k + 1) in
+      let high : c .selector-count2 .result ≡ selectors (reduced (a .w - 1) (k + 1) (a .t / half)) = c .selector-count2 .ensures (k + 1) in
+      omega (arith, low, high, two-selectors (a .w) (a .t) half (h .before .if1 .left) (h .half-of .ensures) k (e .if2 .taken))
 
   selector-count-requires-3 : Of lts.Need-selector-count-requires-3
   selector-count-requires-3 c κs = omega arith
