@@ -1,6 +1,5 @@
 -- The boards: document 01's, which counts the selectors of trees, and document 02's (E2), which counts the nodes of diagrams; inputs that are soldered through
--- (E4) are none on either. Of equal cells
--- the smaller table is picked.
+-- (E4) are none on either. On both, of equal cells the smaller table is picked.
 use Prim.Native.Nat.{ℕ}
 use Rattle.nodes.specs.declared.BoardKind.{BoardKind}
 use Rattle.nodes.specs.Counts.{countOf}

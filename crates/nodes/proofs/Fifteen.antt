@@ -1,6 +1,6 @@
 -- The least over the ways in which four quarters coincide and over the lines: no greater than any of them, and no less than what is below all of them.
 use Prim.Native.Nat.{ℕ, zero, suc, _+_, _*_, _≤_, min}
-use mathlib.Core.Path.{_≡_}
+use mathlib.Core.Path.{_≡_, ap, ap₂, _∙_}
 use mathlib.Core.List.{List, [], _∷_}
 use native.Mathlib.Omega.{arith}
 use lib.Dec.{T}
@@ -102,3 +102,8 @@ module _ (F : List ℕ → ℕ) (L : (zeros ones : List ℕ) → ℕ) (w z : ℕ
       least : (a b c d e f : ℕ) → z ≤ w + a → z ≤ w + b → z ≤ w + c → z ≤ w + (3 * oneNode + d) → z ≤ w + (3 * oneNode + e) → z ≤ w + f
           → z ≤ w + min (min (min a f) b) (min c (3 * oneNode + min d e))
       least a b c d e f ha hb hc hd he hf = omega arith
+
+-- the least of one class, a line, and two classes with a selector, from what is found of each: no greater than the class
+pub least-found : (m : ℕ) {x y q s r x′ y′ q′ : ℕ} → s ≡ min x y → r ≡ min s (oneNode + q) → x ≡ x′ → y ≡ y′ → q ≡ q′ → x ≤ m
+    → (r ≡ min (min x′ y′) (oneNode + q′)) × (r ≤ m)
+least-found m es er ex ey eq l = (er ∙ ap₂ min (es ∙ ap₂ min ex ey) (ap (λ z. oneNode + z) eq), omega (arith, es, er))

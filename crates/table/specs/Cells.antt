@@ -14,7 +14,7 @@ low n t = t % 2 ^ (2 ^ n)
 unfoldable pub high : ℕ → ℕ → ℕ
 high n t = t / 2 ^ (2 ^ n)
 
--- the table of n inputs that is 1 on every pattern
+-- the table of n inputs that is 1 on every pattern, for any n: no word cuts it off
 unfoldable pub full : ℕ → ℕ
 full n = 2 ^ (2 ^ n) - 1
 

@@ -1,5 +1,5 @@
 // Cells of a table: the selectors of the reduced ordered decision tree of its function, but for those that are soldered through (document 02, E4).
-// For callers of the library: the search has its cells from the picks, and the writer counts selectors.
+// No other function calls these now: the search has its cells from the picks, and the writer counts selectors. They stand in the form that document 01 names.
 use crate::picks::THREE_SPACE;
 ghost use mathlib.Core.Path.{_≡_};
 ghost use Prim.Native.Nat.{_<_, _≤_, _^_};
@@ -285,7 +285,7 @@ pub fn count8(t: u8) -> u8
 }
 
 // The cells of a table of one to four inputs, and no more. Four inputs take two look-ups, one for each half, and none where the table is input 1, whose line
-// is soldered through; a smaller table is repeated up to three inputs, which adds no cell.
+// is soldered through; a smaller table is repeated up to three inputs, which adds no cell. An inner function: who calls it has tested the size and the table.
 pub fn count(n: u8, t: u16) -> u8
     requires { ⌜ (1 ≤ n) × (n ≤ maxInputs) × (t < 2 ^ (2 ^ n)) ⌝ }
     ensures { λ r. ⌜ r ≡ cells n t ⌝ }

@@ -1,7 +1,8 @@
 // The pick between two masks by halving: the best table that is 0 only on patterns of the mask `zeros` and 1 only on patterns of the mask `ones`.
 // Both masks come in one number, the pair: a byte for each four patterns, `zeros` in its upper half and `ones` in its lower.
-// A result is one number: a key, which is one more than the cells, then the table; `pick` makes it the rank, cells and table. Blocks of two inputs are looked up in a table that the caller lends, since a constant is
-// copied by every function that names it. Each byte of the pair is the place of a block in that table, so no place has to be made.
+// A result is one number: a key, which is one more than the cells, then the table; `pick` makes it the rank, cells and table. Blocks of two inputs are looked
+// up in a table that the caller lends, since a constant is copied by every function that names it. Each byte of the pair is the place of a block in that
+// table, so no place has to be made.
 use crate::cell_counts::INPUT_ONE;
 use sheet::Sheet;
 ghost use mathlib.Core.Path.{_≡_};

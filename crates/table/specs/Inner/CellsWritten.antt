@@ -1,4 +1,5 @@
--- Document 01, "Cells", and document 02, E4, with their rules for constants and for a soldered line written apart: the same count (`table/proofs/Cells`, `cells-written`).
+-- Document 01, "Cells", and document 02, E4, with their rules for constants and for a soldered line written apart: the same count (`table/proofs/Cells`,
+-- `cells-written`).
 use Prim.Native.Nat.{ℕ, zero, suc, _+_}
 use mathlib.Core.Bool.{Bool, cond, _||_}
 use lib.Dec.{eqb}
