@@ -1,6 +1,8 @@
 //! The library's calls through the C boundary, as `include/dagmetzi.h` declares them.
 
 use trials::board::Board;
+use trials::cells::Tables;
+use trials::relation::Sets;
 
 /// The calls as C sees them: a slice is a pointer and a length.
 mod c {
@@ -8,8 +10,8 @@ mod c {
     pub type Quote = unsafe extern "C" fn(*const u8, usize, u32, *mut u8, usize, *mut u64) -> u32;
     /// A sheet and its length, a stage and its length, the reply.
     pub type Audit = unsafe extern "C" fn(*const u8, usize, *const u8, usize, *mut u64) -> u32;
-    /// n, m, the sets, the budget, the tables, the reply.
-    pub type Search = unsafe extern "C" fn(u8, u8, *const u16, u32, *mut u16, *mut u64) -> u32;
+    /// n, m, the 64 sets, the budget, the four tables, the reply.
+    pub type Search = unsafe extern "C" fn(u8, u8, *const u16, u32, *mut u64, *mut u64) -> u32;
 
     extern "C" {
         pub fn dagmetzi_quote(
@@ -37,7 +39,7 @@ mod c {
             reply: *mut u64,
         ) -> u32;
 
-        pub fn dagmetzi_search(n: u8, m: u8, sets: *const u16, budget: u32, tables: *mut u16, reply: *mut u64) -> u32;
+        pub fn dagmetzi_search(n: u8, m: u8, sets: *const u16, budget: u32, tables: *mut u64, reply: *mut u64) -> u32;
 
         pub fn dagmetzi_quote_shared(
             sheet: *const u8,
@@ -61,7 +63,7 @@ mod c {
             m: u8,
             sets: *const u16,
             budget: u32,
-            tables: *mut u16,
+            tables: *mut u64,
             reply: *mut u64,
         ) -> u32;
     }
@@ -80,7 +82,7 @@ pub const STAGE_REFUSED: u64 = 3;
 const FILL: u64 = 0xEEEE_EEEE_EEEE_EEEE;
 
 /// What tables are filled with before a search, so that a refusal that writes is seen.
-pub const LENT_TABLE: u16 = 0xEEEE;
+pub const LENT_TABLE: u64 = 0xEEEE_EEEE_EEEE_EEEE;
 
 /// What a call returns, and the six numbers of its reply.
 #[derive(Clone, Copy, PartialEq, Eq, Debug)]
@@ -132,14 +134,14 @@ pub fn clean(sheet: &[u8], buffer: &mut [u8]) -> Told {
     told(refusal, reply)
 }
 
-pub fn search(board: Board, n: u8, m: u8, sets: &[u16; 16], budget: u32) -> (Told, [u16; 4]) {
+pub fn search(board: Board, n: u8, m: u8, sets: &Sets, budget: u32) -> (Told, Tables) {
     let call: c::Search = match board {
         Board::Tree => c::dagmetzi_search,
         Board::Shared => c::dagmetzi_search_shared,
     };
     let mut reply = [FILL; 6];
     let mut tables = [LENT_TABLE; 4];
-    // SAFETY: as above; there are 16 sets and 4 tables.
+    // SAFETY: as above; there are 64 sets and 4 tables.
     let refusal = unsafe { call(n, m, sets.as_ptr(), budget, tables.as_mut_ptr(), reply.as_mut_ptr()) };
     (told(refusal, reply), tables)
 }

@@ -6,13 +6,17 @@ mod inputs;
 mod rows;
 mod timing;
 
-use inputs::{full_sheet, sheet, FAMILIES, FULL};
+use inputs::{full_sheet, sheet, FAMILIES};
 use rows::{copies, quotes, shared_quotes, Relations, Searches, Sheets, BUDGET};
 use trials::board::{Board, BOARDS};
 use trials::random::Random;
 use trials::sheet::{MOST_GATES, MOST_OUTPUTS};
 
+/// Of both boards, and of the tree board alone: the other has four input lines.
 const SIZES: [(u8, u8); 4] = [(2, 2), (3, 3), (4, 3), (4, 4)];
+const WIDE: [(u8, u8); 2] = [(5, 4), (6, 4)];
+/// Of full sheets.
+const FULL: [(u8, u8); 2] = [(4, 4), (6, 4)];
 
 /// How many relations or sheets a row has.
 const COUNT: usize = 100;
@@ -49,7 +53,7 @@ fn print_sheets<const ROOM: usize>(what: &str, rust: &str, sheets: &[Sheets<ROOM
 }
 
 fn print_relations(formed: &[Relations]) {
-    print!("\nRelations formed of the units' sheets and, in the last row, of sheets with {MOST_GATES} gates and ");
+    print!("\nRelations formed of the units' sheets and, in the last two rows, of sheets with {MOST_GATES} gates and ");
     println!("{MOST_OUTPUTS} outputs.");
     println!("The library is asked for an audit with no bytes for a stage: it reads the sheet, forms its relation");
     println!("and refuses the stage. On Rust's side stand the reader of the trials, which is not tuned, and the");
@@ -64,6 +68,11 @@ fn print_relations(formed: &[Relations]) {
     }
 }
 
+/// So many of a kind.
+fn drawn<T>(draw: impl FnMut() -> T) -> Vec<T> {
+    std::iter::repeat_with(draw).take(COUNT).collect()
+}
+
 /// A round goes through all rows. So the rounds of a row are spread over the run, and where something else slows the
 /// machine for a while, the row has others.
 fn main() {
@@ -72,20 +81,29 @@ fn main() {
     let (mut quoted, mut shared, mut copied, mut formed) = (Vec::new(), Vec::new(), Vec::new(), Vec::new());
     for (n, m) in SIZES {
         for (name, draw) in FAMILIES {
-            let drawn: Vec<_> = (0..COUNT).map(|_| draw(&mut rng, n, m)).collect();
+            let relations = drawn(|| draw(&mut rng, n, m));
             for board in BOARDS {
-                searched[board as usize].push(Searches::new(board, name, (n, m), drawn.clone()));
+                searched[board as usize].push(Searches::new(board, name, (n, m), relations.clone()));
             }
         }
-        let sheets: Vec<_> = (0..COUNT).map(|_| sheet(&mut rng, n, m)).collect();
+        let sheets = drawn(|| sheet(&mut rng, n, m));
         quoted.push(quotes((n, m), sheets.clone()));
         shared.push(shared_quotes((n, m), sheets.clone()));
         copied.push(copies((n, m), sheets.clone()));
         formed.push(Relations::new((n, m), sheets));
     }
-    // Drawn last, so that all the other rows keep what was drawn for them.
-    let full = (0..COUNT).map(|_| full_sheet(&mut rng)).collect();
-    formed.push(Relations::new(FULL, full));
+    // Full sheets after all that, and then what is wide, so that the rows that were there keep what was drawn for them.
+    formed.push(Relations::new(FULL[0], drawn(|| full_sheet(&mut rng, FULL[0]))));
+    for (n, m) in WIDE {
+        for (name, draw) in FAMILIES {
+            let relations = drawn(|| draw(&mut rng, n, m));
+            searched[Board::Tree as usize].push(Searches::new(Board::Tree, name, (n, m), relations));
+        }
+        let sheets = drawn(|| sheet(&mut rng, n, m));
+        quoted.push(quotes((n, m), sheets.clone()));
+        copied.push(copies((n, m), sheets));
+    }
+    formed.push(Relations::new(FULL[1], drawn(|| full_sheet(&mut rng, FULL[1]))));
     for _ in 0..ROUNDS {
         searched.iter_mut().flatten().for_each(Searches::round);
         quoted.iter_mut().for_each(Sheets::round);

@@ -6,10 +6,11 @@ use std::hint::black_box;
 use trials::board::Board;
 use trials::clean::{self, LONGEST_COPY};
 use trials::diagram::LONGEST_SHARED;
+use trials::fast;
 use trials::refusal::CUT_SHORT;
+use trials::relation::{self, Sets};
 use trials::sheet::Unit;
 use trials::stage::LONGEST_STAGE;
-use trials::{fast, relation};
 
 /// The budget of the program.
 pub const BUDGET: u32 = 10_000;
@@ -22,14 +23,14 @@ pub struct Searches {
     name: &'static str,
     n: u8,
     m: u8,
-    drawn: Vec<[u16; 16]>,
+    drawn: Vec<Sets>,
     visits: u64,
     whole: Timing,
     start: Timing,
 }
 
 impl Searches {
-    pub fn new(board: Board, name: &'static str, (n, m): (u8, u8), drawn: Vec<[u16; 16]>) -> Searches {
+    pub fn new(board: Board, name: &'static str, (n, m): (u8, u8), drawn: Vec<Sets>) -> Searches {
         let visits = drawn.iter().map(|sets| compared_search(board, n, m, sets)).sum();
         Searches { board, name, n, m, drawn, visits, whole: Timing::new(), start: Timing::new() }
     }
@@ -55,7 +56,7 @@ impl Searches {
 }
 
 /// The visits of a search by both.
-fn compared_search(board: Board, n: u8, m: u8, sets: &[u16; 16]) -> u64 {
+fn compared_search(board: Board, n: u8, m: u8, sets: &Sets) -> u64 {
     let (told, tables) = bench::search(board, n, m, sets, BUDGET);
     let a = fast::search(board, n.into(), sets, BUDGET);
     let same = (told.refusal, told.cells, told.floor, told.visits, told.outcome)

@@ -3,22 +3,24 @@
 //! Records follow each other with nothing between. Each begins with a kind
 //! byte; numbers of more than one byte come low byte first.
 //!
-//! * `Q` quote: budget (4 bytes), buffer length (1), sheet length (2), sheet.
+//! * `Q` quote: budget (4 bytes), buffer length (2), sheet length (2), sheet.
 //! * `A` audit: sheet length (2), stage length (2), sheet, stage.
-//! * `S` search: n (1), m (1), budget (4), sixteen sets (2 each).
-//! * `W` write a stage: n (1), m (1), buffer length (1), four tables (2 each).
+//! * `S` search: n (1), m (1), budget (4), 64 sets (2 each).
+//! * `W` write a stage: n (1), m (1), buffer length (2), four tables (8 each).
 //! * `R` read a stage: length (2), stage.
-//! * `C` clean a sheet: buffer length (2, at most 320), sheet length (2), sheet.
+//! * `C` clean a sheet: buffer length (2), sheet length (2), sheet.
 //! * `q`, `a`, `s`, `w`, `r`: the same for the board that shares selectors, with
 //!   stages in its form (at most 3,056 bytes, or 3,057 to be refused).
+//!
+//! No buffer is longer than 800 bytes (`MOST_ROOM`), and no sheet than 700.
 //!
 //! Replies, a line each (a quote that is not refused has two):
 //!
 //! * `Q`: "cells C floor F visits V best" (or "stopped") and the stage as hex
 //!   pairs, " +"; or "refused N at P +".
 //! * `A`: "fits C", "differs C", "sheet refused N at P", "stage refused N at P".
-//! * `S`: "T0 T1 T2 T3 cells C floor F visits V best" (or "stopped"); or
-//!   "refused N at P".
+//! * `S`: "T0 T1 T2 T3 cells C floor F visits V best" (or "stopped"), the tables
+//!   as decimal numbers of up to 20 digits; or "refused N at P".
 //! * `W`, `C`: "LENGTH PAIRS +"; or "refused N at P +".
 //! * `R`: "N M T0 T1 T2 T3 cells C"; or "refused N at P".
 //! * A small letter: as its capital.
@@ -28,22 +30,27 @@
 
 use crate::audit::{audit, Audit};
 use crate::board::Board;
+use crate::cells::Tables;
 use crate::clean::clean;
 use crate::pick::Picker;
 use crate::quote::quote;
 use crate::refusal::Refusal;
-use crate::relation::{handed, Relation};
+use crate::relation::{handed, Relation, Sets};
 use crate::search::{search, Answer};
+use crate::sheet::MOST_PATTERNS;
 
 /// What lent buffers are filled with at the start.
 const FILL: u8 = 0xEE;
 
+/// No buffer of a case is longer: above every stage and every copy.
+pub const MOST_ROOM: usize = 800;
+
 #[derive(Clone, PartialEq, Eq, Debug)]
 pub enum Case {
-    Quote { board: Board, budget: u32, room: u8, sheet: Vec<u8> },
+    Quote { board: Board, budget: u32, room: u16, sheet: Vec<u8> },
     Audit { board: Board, sheet: Vec<u8>, stage: Vec<u8> },
-    Search { board: Board, n: u8, m: u8, budget: u32, sets: [u16; 16] },
-    Write { board: Board, n: u8, m: u8, room: u8, tables: [u16; 4] },
+    Search { board: Board, n: u8, m: u8, budget: u32, sets: Sets },
+    Write { board: Board, n: u8, m: u8, room: u16, tables: Tables },
     Read { board: Board, stage: Vec<u8> },
     Clean { room: u16, sheet: Vec<u8> },
 }
@@ -100,7 +107,7 @@ impl Case {
         match self {
             Case::Quote { budget, room, sheet, .. } => {
                 out.extend(budget.to_le_bytes());
-                out.push(*room);
+                out.extend(room.to_le_bytes());
                 out.extend(length(sheet));
                 out.extend(sheet);
             }
@@ -116,7 +123,8 @@ impl Case {
                 out.extend(sets.iter().flat_map(|s| s.to_le_bytes()));
             }
             Case::Write { n, m, room, tables, .. } => {
-                out.extend([*n, *m, *room]);
+                out.extend([*n, *m]);
+                out.extend(room.to_le_bytes());
                 out.extend(tables.iter().flat_map(|t| t.to_le_bytes()));
             }
             Case::Read { stage, .. } => {
@@ -136,7 +144,9 @@ impl Case {
         match self {
             Case::Quote { board, budget, room, sheet } => quote_reply(*board, sheet, *budget, *room, picker),
             Case::Audit { board, sheet, stage } => audit_reply(*board, sheet, stage),
-            Case::Search { board, n, m, budget, sets } => search_reply(*board, handed(*n, *m, sets), *budget, picker),
+            Case::Search { board, n, m, budget, sets } => {
+                search_reply(*board, handed(*board, *n, *m, sets), *budget, picker)
+            }
             Case::Write { board, n, m, room, tables } => {
                 write_reply((*room).into(), |b| board.write(*n, *m, tables, b))
             }
@@ -152,8 +162,8 @@ fn take<'a>(bytes: &mut &'a [u8], count: usize) -> &'a [u8] {
     taken
 }
 
-fn number(bytes: &mut &[u8], count: usize) -> u32 {
-    take(bytes, count).iter().rev().fold(0, |n, &b| n << 8 | u32::from(b))
+fn number(bytes: &mut &[u8], count: usize) -> u64 {
+    take(bytes, count).iter().rev().fold(0, |n, &b| n << 8 | u64::from(b))
 }
 
 /// The cases of a sequence of records. Panics on anything else.
@@ -170,7 +180,7 @@ fn read_record(it: &mut &[u8]) -> Case {
     let board = if kind.is_ascii_lowercase() { Board::Shared } else { Board::Tree };
     match kind.to_ascii_uppercase() {
         b'Q' => {
-            let (budget, room, length) = (number(it, 4), number(it, 1) as u8, number(it, 2) as usize);
+            let (budget, room, length) = (number(it, 4) as u32, number(it, 2) as u16, number(it, 2) as usize);
             Case::Quote { board, budget, room, sheet: take(it, length).to_vec() }
         }
         b'A' => {
@@ -178,12 +188,12 @@ fn read_record(it: &mut &[u8]) -> Case {
             Case::Audit { board, sheet: take(it, sheet).to_vec(), stage: take(it, stage).to_vec() }
         }
         b'S' => {
-            let (n, m, budget) = (number(it, 1) as u8, number(it, 1) as u8, number(it, 4));
-            Case::Search { board, n, m, budget, sets: [0; 16].map(|_: u16| number(it, 2) as u16) }
+            let (n, m, budget) = (number(it, 1) as u8, number(it, 1) as u8, number(it, 4) as u32);
+            Case::Search { board, n, m, budget, sets: [0; MOST_PATTERNS].map(|_: u16| number(it, 2) as u16) }
         }
         b'W' => {
-            let (n, m, room) = (number(it, 1) as u8, number(it, 1) as u8, number(it, 1) as u8);
-            Case::Write { board, n, m, room, tables: [0; 4].map(|_: u16| number(it, 2) as u16) }
+            let (n, m, room) = (number(it, 1) as u8, number(it, 1) as u8, number(it, 2) as u16);
+            Case::Write { board, n, m, room, tables: [0; 4].map(|_: u64| number(it, 8)) }
         }
         b'R' => {
             let length = number(it, 2) as usize;
@@ -225,7 +235,7 @@ pub fn found(a: &Answer) -> String {
     format!("cells {} floor {} visits {} {mark}", a.cells, a.floor, a.visits)
 }
 
-fn numbers(tables: &[u16; 4]) -> String {
+fn numbers(tables: &Tables) -> String {
     let [a, b, c, d] = tables;
     format!("{a} {b} {c} {d}")
 }
@@ -241,7 +251,7 @@ fn unwritten(buffer: &[u8], r: Refusal) -> Reply {
     Reply { text: format!("{} {}\n", refused(&r), untouched(buffer)), outcome: Outcome::Refused(r) }
 }
 
-fn quote_reply(board: Board, sheet: &[u8], budget: u32, room: u8, picker: &mut Picker) -> Reply {
+fn quote_reply(board: Board, sheet: &[u8], budget: u32, room: u16, picker: &mut Picker) -> Reply {
     let mut buffer = vec![FILL; room.into()];
     match quote(board, sheet, budget, &mut buffer, picker) {
         Ok(q) => {

@@ -2,25 +2,29 @@
 //! E4, an input that is soldered through has none. A written stage still has a
 //! selector for it, so those are counted beside the cells.
 
+/// One table for each wire: bit p is the wire on pattern p; 0 past wire m-1.
+/// Document 02, E5: six inputs have tables of 64 bits.
+pub type Tables = [u64; 4];
+
 /// The table of n inputs that is 1 everywhere.
-pub fn full(n: u32) -> u16 {
-    ((1u32 << (1u32 << n)) - 1) as u16
+pub fn full(n: u32) -> u64 {
+    u64::MAX >> (64 - (1u32 << n))
 }
 
 /// The two halves by the first input: where it is 0 (low bits), where it is 1.
-pub fn halves(n: u32, table: u16) -> (u16, u16) {
+pub fn halves(n: u32, table: u64) -> (u64, u64) {
     let width = 1u32 << (n - 1);
     (table & full(n - 1), table >> width)
 }
 
 /// Whether a table is the first of its n inputs itself: 0 where that input is
 /// 0, and 1 where it is 1.
-pub fn is_straight(n: u32, table: u16) -> bool {
+pub fn is_straight(n: u32, table: u64) -> bool {
     halves(n, table) == (0, full(n - 1))
 }
 
 /// The cells of a table of n inputs.
-pub fn cells(n: u32, table: u16) -> u32 {
+pub fn cells(n: u32, table: u64) -> u32 {
     if table == 0 || table == full(n) || is_straight(n, table) {
         return 0;
     }
@@ -33,7 +37,7 @@ pub fn cells(n: u32, table: u16) -> u32 {
 }
 
 /// The selectors of its reduced tree, the straight ones among them.
-pub fn selectors(n: u32, table: u16) -> u32 {
+pub fn selectors(n: u32, table: u64) -> u32 {
     if table == 0 || table == full(n) {
         return 0;
     }
@@ -73,6 +77,16 @@ mod tests {
             // Input 2 where input 1 is 0, else 1: the 1 branch alone is constant.
             (3, 0xFC, (1, 2)),
             (4, 0x6996, (11, 15)),
+            // Six inputs: the first and the last, inverted; the parity.
+            (6, 0xFFFF_FFFF_0000_0000, (0, 1)),
+            (6, 0xAAAA_AAAA_AAAA_AAAA, (0, 1)),
+            (6, 0x0000_0000_FFFF_FFFF, (1, 1)),
+            (6, 0x5555_5555_5555_5555, (1, 1)),
+            (5, 0x9669_6996, (23, 31)),
+            (6, 0x6996_9669_9669_6996, (47, 63)),
+            // One pattern alone: all six inputs, the last of them straight.
+            (6, 1 << 63, (5, 6)),
+            (6, 1, (6, 6)),
         ] {
             assert_eq!((cells(n, table), selectors(n, table)), expected, "{table:x}");
         }

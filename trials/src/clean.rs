@@ -2,11 +2,11 @@
 
 use crate::buffer::put;
 use crate::refusal::Refusal;
-use crate::sheet::{self, all_values, Row, Unit};
+use crate::sheet::{self, all_values, Row, Unit, MOST_GATES, MOST_OUTPUTS, MOST_PATTERNS};
 
-/// No copy is longer: four inputs with a value and a limit for each pattern,
+/// No copy is longer: six inputs with a value and a limit for each pattern,
 /// and as many gates and outputs as there may be.
-pub const LONGEST_COPY: usize = 260;
+pub const LONGEST_COPY: usize = 3 + MOST_PATTERNS * (3 + 4) + 4 * MOST_GATES + 2 * MOST_OUTPUTS + 1;
 
 /// The one order of what was gathered: sizes, rows, limits, gates, outputs, end.
 pub fn copy(unit: &Unit) -> Vec<u8> {
@@ -56,7 +56,7 @@ pub fn clean(sheet: &[u8], buffer: &mut [u8]) -> Result<usize, Refusal> {
 mod tests {
     use super::*;
     use crate::board::Board;
-    use crate::draw::sheets::{draft, longest_draft};
+    use crate::draw::sheets::{draft, longest_draft_of};
     use crate::pick::Picker;
     use crate::quote::quote;
     use crate::random::Random;
@@ -134,8 +134,10 @@ mod tests {
     fn the_longest_copy() {
         let mut rng = Random::new(102);
         for _ in 0..20 {
-            assert_eq!(cleaned(&longest_draft(&mut rng).sheet(&mut rng)).len(), LONGEST_COPY);
+            assert_eq!(cleaned(&longest_draft_of(&mut rng, 6).sheet(&mut rng)).len(), LONGEST_COPY);
+            assert_eq!(cleaned(&longest_draft_of(&mut rng, 4).sheet(&mut rng)).len(), 260);
         }
+        assert_eq!(LONGEST_COPY, 596);
         for _ in 0..1_000 {
             assert!(cleaned(&draft(&mut rng).sheet(&mut rng)).len() <= LONGEST_COPY);
         }

@@ -2,6 +2,7 @@
 //! where one is due, the sizes and the end.
 
 use crate::refusal::*;
+use crate::sheet::MOST_WIRES;
 
 /// What may come at a place of a stage sheet.
 #[derive(Clone, Copy, PartialEq, Eq, Debug)]
@@ -64,10 +65,11 @@ impl<'a> Reader<'a> {
         Ok(Command { place, first, operands: &command[1..] })
     }
 
-    pub fn sizes(&mut self) -> Result<(u32, u32), Refusal> {
+    /// 20 n m, on a board of so many lines.
+    pub fn sizes(&mut self, most_inputs: u8) -> Result<(u32, u32), Refusal> {
         let command = self.next(Due::Sizes)?;
         let (n, m) = (command.operands[0], command.operands[1]);
-        if !(1..=4).contains(&n) || !(1..=4).contains(&m) {
+        if !(1..=most_inputs).contains(&n) || !(1..=MOST_WIRES).contains(&m) {
             return refuse(OUT_OF_RANGE, command.place);
         }
         Ok((n.into(), m.into()))

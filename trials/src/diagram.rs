@@ -3,8 +3,8 @@
 //! count, the list, and the writer and the reader of stage sheets. With E4 a
 //! node that is an input itself counts nothing.
 
-use crate::board::Stage;
-use crate::cells::{full, halves, is_straight};
+use crate::board::{Board, Stage};
+use crate::cells::{full, halves, is_straight, Tables};
 use crate::commands::{Due, Reader};
 use crate::refusal::*;
 
@@ -22,11 +22,11 @@ pub const FIRST: u8 = 2;
 /// The different parts of a table that need a selector, that is, whose halves
 /// differ, each with how many inputs it has left. A part is what is left of the
 /// table where the inputs before it are fixed.
-fn parts(n: u32, table: u16) -> Vec<(u32, u16)> {
+fn parts(n: u32, table: u64) -> Vec<(u32, u64)> {
     let mut level = vec![table];
     let mut needed = Vec::new();
     for left in (1..=n).rev() {
-        let split: Vec<(u16, u16)> = level.iter().map(|&part| halves(left, part)).collect();
+        let split: Vec<(u64, u64)> = level.iter().map(|&part| halves(left, part)).collect();
         needed.extend(level.iter().zip(&split).filter(|(_, (zero, one))| zero != one).map(|(&part, _)| (left, part)));
         level = split.into_iter().flat_map(|(zero, one)| [zero, one]).collect();
         level.sort_unstable();
@@ -36,12 +36,12 @@ fn parts(n: u32, table: u16) -> Vec<(u32, u16)> {
 }
 
 /// The selectors of a table's list.
-pub fn selectors(n: u32, table: u16) -> u32 {
+pub fn selectors(n: u32, table: u64) -> u32 {
     parts(n, table).len() as u32
 }
 
 /// The cells of a table: its selectors but for the inputs soldered through.
-pub fn count(n: u32, table: u16) -> u32 {
+pub fn count(n: u32, table: u64) -> u32 {
     parts(n, table).iter().filter(|&&(left, part)| !is_straight(left, part)).count() as u32
 }
 
@@ -100,7 +100,7 @@ impl Diagram {
 
 /// Lists a table: each part that needs a selector once, behind all that its
 /// branches need, those for 0 before those for 1.
-pub fn list(n: u32, table: u16) -> Diagram {
+pub fn list(n: u32, table: u64) -> Diagram {
     let mut lister = Lister { n, met: Vec::new(), list: Diagram { entries: Vec::new(), top: 0 } };
     lister.list.top = lister.visit(n, table);
     lister.list
@@ -109,13 +109,13 @@ pub fn list(n: u32, table: u16) -> Diagram {
 struct Lister {
     n: u32,
     /// The parts listed so far: how many inputs each has left, and its table.
-    met: Vec<(u32, u16)>,
+    met: Vec<(u32, u64)>,
     list: Diagram,
 }
 
 impl Lister {
     /// The name of a part.
-    fn visit(&mut self, left: u32, part: u16) -> u8 {
+    fn visit(&mut self, left: u32, part: u64) -> u8 {
         if part == 0 || part == full(left) {
             return u8::from(part != 0);
         }
@@ -135,7 +135,7 @@ impl Lister {
 }
 
 /// The bytes of a stage in range.
-pub fn bytes_of(n: u32, m: u32, tables: &[u16; 4]) -> Vec<u8> {
+pub fn bytes_of(n: u32, m: u32, tables: &Tables) -> Vec<u8> {
     let diagrams: Vec<Diagram> = (0..m as usize).map(|j| list(n, tables[j])).collect();
     bytes_of_lists(n as u8, &diagrams)
 }
@@ -205,7 +205,7 @@ fn top(reader: &mut Reader, list: &Diagram) -> Result<u8, Refusal> {
 /// The stage reader: any lists that are in order.
 pub fn read(bytes: &[u8]) -> Result<Stage, Refusal> {
     let mut reader = Reader::new(bytes, known);
-    let (n, m) = reader.sizes()?;
+    let (n, m) = reader.sizes(Board::Shared.most_inputs())?;
     let mut stage = Stage::without_wires(n, m);
     for j in 0..m {
         let c = wire(&mut reader, m, j)?;
@@ -252,6 +252,12 @@ mod tests {
         assert_eq!(refusal(&[0x26]), (5, 0));
         assert_eq!(refusal(&[0x2F]), (5, 0));
         assert_eq!(refusal(&[0x20, 0, 1]), (3, 0));
+        // Its boards stay at four lines.
+        for n in 5..8 {
+            assert_eq!(refusal(&[0x20, n]), (1, 0));
+            assert_eq!(refusal(&[0x20, n, 1]), (3, 0));
+        }
+        assert_eq!(refusal(&[0x20, 4, 1]), (1, 3));
         assert_eq!(refusal(&[0x20, 1, 5]), (3, 0));
         assert_eq!(refusal_after_sizes(&[]), (1, 3));
         assert_eq!(refusal_after_sizes(&[0x26]), (1, 3));
@@ -309,8 +315,8 @@ mod tests {
         assert_eq!(list(4, 0xFFFF), Diagram { entries: vec![], top: 1 });
     }
 
-    fn table_of(n: u32, list: &Diagram) -> u16 {
-        (0..1 << n).fold(0, |table, p| table | u16::from(list.follow(n, p)) << p)
+    fn table_of(n: u32, list: &Diagram) -> u64 {
+        (0..1 << n).fold(0, |table, p| table | u64::from(list.follow(n, p)) << p)
     }
 
     /// The list has an entry for each selector, as many cells as are counted,

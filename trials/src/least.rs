@@ -2,7 +2,9 @@
 //! relation, found by trying every function, with no splitting, no picks and
 //! no first answer. Three ways, the slower ones to check the faster:
 //!
-//! * `plain`: every function of the whole relation, one after another.
+//! * `plain`: every function of the whole relation, one after another. For any
+//!   number of inputs, where there are few functions; the others are for up to
+//!   four inputs, and `products` is for more.
 //! * `by_halves`: every function on the lower half of the patterns and every
 //!   function on the upper half, joined exactly. For trees alone: what halves
 //!   cost together, selectors shared, is not told by what each costs.
@@ -13,9 +15,13 @@
 //! `None`.
 
 use crate::board::Board;
-use crate::cells::{cells, full};
+use crate::cells::{cells, full, Tables};
+use crate::relation::{Sets, ONE};
 use std::borrow::Cow;
 use std::collections::HashMap;
+
+/// The sets of up to four inputs.
+type Narrow = [u16; 16];
 
 /// One table (or part of one) for each wire.
 type Tuple = [u8; 4];
@@ -24,21 +30,14 @@ fn members(set: u16) -> impl Iterator<Item = usize> {
     (0..16).filter(move |v| set >> v & 1 == 1)
 }
 
-/// How many functions the sets allow.
+/// How many functions the sets allow, or more than can be told.
 pub fn functions(sets: &[u16]) -> u64 {
-    sets.iter().map(|s| u64::from(s.count_ones())).product()
+    sets.iter().fold(1, |all, s| all.saturating_mul(s.count_ones().into()))
 }
 
 /// Every function of the whole relation, one after another. For few of them.
-pub fn plain(board: Board, n: u32, m: u32, sets: &[u16; 16]) -> Option<u32> {
-    fn go(
-        board: Board,
-        (n, m): (u32, u32),
-        sets: &[u16; 16],
-        p: usize,
-        tables: &mut [u16; 4],
-        least: &mut Option<u32>,
-    ) {
+pub fn plain(board: Board, n: u32, m: u32, sets: &Sets) -> Option<u32> {
+    fn go(board: Board, (n, m): (u32, u32), sets: &Sets, p: usize, tables: &mut Tables, least: &mut Option<u32>) {
         if p == 1 << n {
             let price = board.stage_cells(n, m, tables);
             *least = Some(least.map_or(price, |l| l.min(price)));
@@ -46,7 +45,7 @@ pub fn plain(board: Board, n: u32, m: u32, sets: &[u16; 16]) -> Option<u32> {
         }
         for v in members(sets[p]) {
             for j in 0..m as usize {
-                tables[j] = tables[j] & !(1 << p) | ((v >> j & 1) as u16) << p;
+                tables[j] = tables[j] & !(1 << p) | ((v >> j & 1) as u64) << p;
             }
             go(board, (n, m), sets, p + 1, tables, least);
         }
@@ -136,12 +135,12 @@ fn every_choice(wires: usize) -> Vec<Vec<Halves>> {
 /// are to go together: the cheapest lower half and the cheapest upper half that
 /// do so. (A wire whose halves are called apart and happen to be equal or
 /// straight is only priced too high here, and right where they are called so.)
-pub fn by_halves(n: u32, m: u32, sets: &[u16; 16]) -> Option<u32> {
+pub fn by_halves(n: u32, m: u32, sets: &Narrow) -> Option<u32> {
     let width = 1usize << (n - 1);
     let wires = m as usize;
     let lower = every_function(wires, &sets[..width]);
     let upper = every_function(wires, &sets[width..2 * width]);
-    let price: Vec<u16> = (0..1u32 << width).map(|t| cells(n - 1, t as u16) as u16).collect();
+    let price: Vec<u16> = (0..1u64 << width).map(|t| cells(n - 1, t) as u16).collect();
 
     let mut least: Option<u16> = None;
     for choice in every_choice(wires) {
@@ -149,7 +148,7 @@ pub fn by_halves(n: u32, m: u32, sets: &[u16; 16]) -> Option<u32> {
         let (equal, apart, straight) = (with(Halves::Equal), with(Halves::Apart), with(Halves::Straight));
         let cost = |tuple: &Tuple, some: &[usize]| -> u16 { some.iter().map(|&j| price[usize::from(tuple[j])]).sum() };
         let key = |tuple: &Tuple| equal.iter().fold(0u32, |key, &j| key << width | u32::from(tuple[j]));
-        let suits = |tuple: &&Tuple, half: u16| straight.iter().all(|&j| u16::from(tuple[j]) == half);
+        let suits = |tuple: &&Tuple, half: u64| straight.iter().all(|&j| u64::from(tuple[j]) == half);
 
         let mut ledger = Ledger::new(width * equal.len());
         for tuple in lower.iter().filter(|tuple| suits(tuple, 0)) {
@@ -203,14 +202,11 @@ struct ByTables<'a> {
 
 /// Every table for each wire in turn; gives up after so many steps, each a look
 /// at a table, or at the few that a wire can have.
-pub fn by_tables(prices: &Prices, n: u32, m: u32, sets: &[u16; 16], steps: u64) -> Result<Option<u32>, GaveUp> {
+pub fn by_tables(prices: &Prices, n: u32, m: u32, sets: &Narrow, steps: u64) -> Result<Option<u32>, GaveUp> {
     let mut it = ByTables { n, m, prices, least: None, steps };
     it.wire(0, sets, 0)?;
     Ok(it.least)
 }
-
-/// The values where a wire is 1.
-const ONE: [u16; 4] = [0xAAAA, 0xCCCC, 0xF0F0, 0xFF00];
 
 /// A wire's patterns: those that must be 1, those that may be either; the rest
 /// must be 0.
@@ -234,7 +230,7 @@ impl Bits {
 
 impl<'a> ByTables<'a> {
     /// What the sets leave to a wire; `None` if one of them is empty.
-    fn bits(&self, sets: &[u16; 16], wire: u32) -> Option<Bits> {
+    fn bits(&self, sets: &Narrow, wire: u32) -> Option<Bits> {
         let mut bits = Bits { must: 0, free: 0 };
         for p in 0..1usize << self.n {
             let (zero, one) = (sets[p] & !ONE[wire as usize] != 0, sets[p] & ONE[wire as usize] != 0);
@@ -295,7 +291,7 @@ impl<'a> ByTables<'a> {
     }
 
     /// The sets left when the wire follows the table.
-    fn left(&self, sets: &[u16; 16], wire: u32, table: u16) -> [u16; 16] {
+    fn left(&self, sets: &Narrow, wire: u32, table: u16) -> Narrow {
         let mut left = *sets;
         for p in 0..1usize << self.n {
             left[p] &= if table >> p & 1 == 1 { ONE[wire as usize] } else { !ONE[wire as usize] };
@@ -303,7 +299,7 @@ impl<'a> ByTables<'a> {
         left
     }
 
-    fn wire(&mut self, wire: u32, sets: &[u16; 16], spent: u32) -> Result<(), GaveUp> {
+    fn wire(&mut self, wire: u32, sets: &Narrow, spent: u32) -> Result<(), GaveUp> {
         if wire == self.m {
             self.least = Some(self.least.map_or(spent, |l| l.min(spent)));
             return Ok(());
@@ -330,9 +326,10 @@ impl<'a> ByTables<'a> {
     }
 }
 
-/// The least cells by whichever way is short enough: trees by halves always up
-/// to three inputs and for few functions, else by tables until it gives up.
-pub fn least(prices: &Prices, n: u32, m: u32, sets: &[u16; 16]) -> Result<Option<u32>, GaveUp> {
+/// The least cells of up to four inputs by whichever way is short enough: trees
+/// by halves always up to three inputs and for few functions, else by tables until
+/// it gives up.
+pub fn least(prices: &Prices, n: u32, m: u32, sets: &Narrow) -> Result<Option<u32>, GaveUp> {
     const FEW: u64 = 10_000;
     const STEPS: u64 = 200_000;
     let width = 1usize << (n - 1);
@@ -349,10 +346,11 @@ mod tests {
     use super::*;
     use crate::board::BOARDS;
     use crate::random::Random;
+    use crate::sheet::MOST_PATTERNS;
 
     /// Sets of few values, now and then an empty one.
-    fn few(rng: &mut Random, n: u32, m: u32, most: usize) -> [u16; 16] {
-        let mut sets = [0; 16];
+    fn few(rng: &mut Random, n: u32, m: u32, most: usize) -> Sets {
+        let mut sets = [0; MOST_PATTERNS];
         for set in sets.iter_mut().take(1 << n) {
             for _ in 0..rng.within(1, most) {
                 *set |= 1 << rng.below(1 << m);
@@ -365,11 +363,12 @@ mod tests {
     }
 
     /// All sizes, many times over.
-    fn drawn(mut each: impl FnMut(u32, u32, [u16; 16])) {
+    fn drawn(mut each: impl FnMut(u32, u32, &Sets, &Narrow)) {
         let mut rng = Random::new(77);
         for (n, m) in (1..=4).flat_map(|n| (1..=4).map(move |m| (n, m))) {
             for _ in 0..60 {
-                each(n, m, few(&mut rng, n, m, if n == 4 { 2 } else { 4 }));
+                let sets = few(&mut rng, n, m, if n == 4 { 2 } else { 4 });
+                each(n, m, &sets, sets.first_chunk().expect("enough"));
             }
         }
     }
@@ -379,10 +378,10 @@ mod tests {
         for board in BOARDS {
             let prices = Prices::new(board);
             let mut held = 0;
-            drawn(|n, m, sets| {
-                let by_tables = by_tables(&prices, n, m, &sets, 300_000);
+            drawn(|n, m, sets, narrow| {
+                let by_tables = by_tables(&prices, n, m, narrow, 300_000);
                 if functions(&sets[..1 << n]) <= 20_000 && by_tables.is_ok() {
-                    assert_eq!(by_tables, Ok(plain(board, n, m, &sets)));
+                    assert_eq!(by_tables, Ok(plain(board, n, m, sets)));
                     held += 1;
                 }
             });
@@ -393,12 +392,12 @@ mod tests {
     #[test]
     fn trees_by_halves_agree() {
         let prices = Prices::new(Board::Tree);
-        drawn(|n, m, sets| {
-            let halves = by_halves(n, m, &sets);
+        drawn(|n, m, sets, narrow| {
+            let halves = by_halves(n, m, narrow);
             if functions(&sets[..1 << n]) <= 20_000 {
-                assert_eq!(plain(Board::Tree, n, m, &sets), halves);
+                assert_eq!(plain(Board::Tree, n, m, sets), halves);
             }
-            if let Ok(least) = by_tables(&prices, n, m, &sets, 300_000) {
+            if let Ok(least) = by_tables(&prices, n, m, narrow, 300_000) {
                 assert_eq!(least, halves);
             }
         });
@@ -406,12 +405,13 @@ mod tests {
 
     #[test]
     fn no_function_where_a_set_is_empty() {
-        let mut sets = [1; 16];
+        let mut sets = [1; MOST_PATTERNS];
         sets[3] = 0;
-        assert_eq!(by_halves(2, 2, &sets), None);
+        let narrow = sets.first_chunk().expect("enough");
+        assert_eq!(by_halves(2, 2, narrow), None);
         for board in BOARDS {
             assert_eq!(plain(board, 2, 2, &sets), None);
-            assert_eq!(by_tables(&Prices::new(board), 2, 2, &sets, 1), Ok(None));
+            assert_eq!(by_tables(&Prices::new(board), 2, 2, narrow, 1), Ok(None));
         }
     }
 }

@@ -8,7 +8,11 @@
 //!   to all calls; `commands`: what their stage sheets have in common.
 //! * Document 02, E4, is where cells are counted: of tables in `cells` and
 //!   `diagram`, of what is read in `stage` and `diagram`.
-//! * `least`: a second solver that tries every function, free of the search.
+//! * Document 02, E5: `halving`, the pick where there are too many tables to try
+//!   each; the sizes, 64 patterns and tables of 64 bits are everywhere.
+//! * `least`: a second solver that tries every function, free of the search;
+//!   `cubes` and `products`: the same for five and six inputs, where there are too
+//!   many functions to try each.
 //! * `arrange`: a second way to the clean copy, by sorting the sheet's commands.
 //! * `fast`: the same search as `search` and the same sets as `relation`, tuned
 //!   for speed, for the benchmark.
@@ -28,12 +32,15 @@ pub mod cells;
 pub mod check;
 pub mod clean;
 pub mod commands;
+pub mod cubes;
 pub mod diagram;
 pub mod draw;
 pub mod fast;
+pub mod halving;
 pub mod least;
 pub mod pick;
 pub mod plan;
+pub mod products;
 pub mod program;
 pub mod quote;
 pub mod random;

@@ -5,7 +5,7 @@
 use std::path::Path;
 use std::process::ExitCode;
 use trials::board::Board;
-use trials::check::{Checked, Checker};
+use trials::check::{Checked, Checker, Wide};
 use trials::pick::Picker;
 use trials::plan::cases;
 use trials::program::Outcomes;
@@ -52,12 +52,15 @@ fn write(directory: &Path) -> ExitCode {
 }
 
 fn count() -> ExitCode {
-    let (tally, Checked { held, left, copies, stages, written }) = tallied();
+    let (tally, Checked { held, left, wide, copies, stages, written }) = tallied();
     print!("{}", tally.report());
     for (name, board) in NAMES {
         let (held, left) = (held[board as usize], left[board as usize]);
-        println!("{name}: searches held against the second solver: {held}, too long for it: {left}");
+        println!("{name}, up to 4 inputs: searches held against the second solver: {held}, too long for it: {left}");
     }
+    let Wide { sums, parts, stopped_left, best_left, every_function } = wide;
+    println!("trees, 5 and 6 inputs: held against sums over wires: {sums}, against parts told apart: {parts},");
+    println!("  too long: {stopped_left} stopped, {best_left} best; of all, against every function: {every_function}");
     println!("clean copies held against their sheets: {copies}");
     println!("stages held against their tables' count: {stages} read, {written} written");
     ExitCode::SUCCESS

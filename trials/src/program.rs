@@ -17,7 +17,8 @@ use crate::check::Checker;
 use crate::clean::{clean, LONGEST_COPY};
 use crate::diagram::{LONGEST_LISTS, MOST_ENTRIES};
 use crate::draw::diagrams::largest_stage;
-use crate::draw::sheets::longest_draft;
+use crate::draw::sheets::longest_draft_of;
+use crate::draw::six::parity;
 use crate::pick::Picker;
 use crate::plan::cases;
 use crate::quote::quote;
@@ -43,6 +44,8 @@ const LONGEST_SHEET: usize = 4_096;
 const ONE_QUOTE_IN: [usize; 2] = [24, 5];
 const ONE_AUDIT_IN: [usize; 2] = [11, 4];
 const ONE_COPY_IN: usize = 9;
+/// Of those with a sheet that says it has five inputs or six.
+const ONE_WIDE_IN: usize = 4;
 
 /// What was run, for each board where it has one, and what did not come out as
 /// expected.
@@ -93,21 +96,27 @@ impl Bench {
 
     /// A part of the drawn cases of `plan`.
     fn drawn(&mut self) -> Result<()> {
-        let (mut quotes, mut audits, mut copies) = ([0; 2], [0; 2], 0);
+        // Counted apart: whether they are wide.
+        let (mut quotes, mut audits, mut copies) = ([[0; 2]; 2], [[0; 2]; 2], [0; 2]);
         for case in cases() {
             match case {
                 Case::Quote { board, sheet, .. } => {
-                    if is_one_in(ONE_QUOTE_IN[board as usize], &mut quotes[board as usize]) {
+                    let wide = is_wide(&sheet);
+                    let many = if wide { ONE_WIDE_IN } else { ONE_QUOTE_IN[board as usize] };
+                    if is_one_in(many, &mut quotes[board as usize][usize::from(wide)]) {
                         self.quote(board, &sheet)?;
                     }
                 }
                 Case::Audit { board, sheet, stage } => {
-                    if is_one_in(ONE_AUDIT_IN[board as usize], &mut audits[board as usize]) {
+                    let wide = is_wide(&sheet);
+                    let many = if wide { ONE_WIDE_IN } else { ONE_AUDIT_IN[board as usize] };
+                    if is_one_in(many, &mut audits[board as usize][usize::from(wide)]) {
                         self.audit(board, &sheet, &stage)?;
                     }
                 }
                 Case::Clean { sheet, .. } => {
-                    if is_one_in(ONE_COPY_IN, &mut copies) {
+                    let wide = is_wide(&sheet);
+                    if is_one_in(if wide { ONE_WIDE_IN } else { ONE_COPY_IN }, &mut copies[usize::from(wide)]) {
                         self.clean(&sheet)?;
                     }
                 }
@@ -119,8 +128,8 @@ impl Bench {
 
     /// Sheets and stages around the longest, and far longer ones.
     fn lengths(&mut self) -> Result<()> {
-        let full = longest_draft(&mut self.rng).sheet(&mut self.rng);
-        let mut sheets = vec![vec![], A.to_vec(), long_sheet(), full];
+        let [narrow, full] = [4, 6].map(|n| longest_draft_of(&mut self.rng, n).sheet(&mut self.rng));
+        let mut sheets = vec![vec![], A.to_vec(), long_sheet(), narrow, full];
         for length in [LONGEST_SHEET - 1, LONGEST_SHEET, LONGEST_SHEET + 1, 5_000, 70_000] {
             sheets.extend([self.grown(&long_sheet(), length), self.grown(&A, length), self.grown(&[], length)]);
         }
@@ -132,12 +141,11 @@ impl Bench {
                 self.audit(board, sheet, &self.grown_by_one(stage_of_a(board)))?;
             }
         }
-        let wide =
-            [0x01, 0x04, 0x04].into_iter().chain((0..16).flat_map(|p| [0x03, p])).chain([0x00]).collect::<Vec<u8>>();
         for board in BOARDS {
             for stage in self.stages_of_all_lengths(board) {
                 self.audit(board, &A, &stage)?;
-                self.audit(board, &wide, &stage)?;
+                self.audit(board, &nothing_asked(4), &stage)?;
+                self.audit(board, &nothing_asked(6), &stage)?;
                 self.audit(board, &long_sheet(), &stage)?;
             }
         }
@@ -152,14 +160,14 @@ impl Bench {
             Board::Shared => largest_stage(&mut self.rng, 4, 4),
         };
         let (start, again): (&[u8], &[u8]) = match board {
-            Board::Tree => (&[0x20, 0x04, 0x04, 0x21, 0x00], &[0x22, 0x04]),
+            Board::Tree => (&[0x20, 0x06, 0x04, 0x21, 0x00], &[0x22, 0x06]),
             Board::Shared => (&[0x20, 0x04, 0x04, 0x26, 0x00, MOST_ENTRIES], &[0x04, 0x00, 0x01]),
         };
         let of_a = stage_of_a(board);
         let mut stages = vec![vec![], of_a.to_vec(), longest.clone()];
         for length in [LONGEST_STAGE, LONGEST_LISTS]
             .into_iter()
-            .flat_map(|longest| [longest, longest + 1])
+            .flat_map(|longest| [longest - 1, longest, longest + 1])
             .chain([4_095, 4_096, 4_097, 5_000, 70_000])
         {
             stages.extend([self.grown(&longest, length), self.grown(of_a, length), self.grown(&[], length)]);
@@ -372,7 +380,7 @@ impl Bench {
             Ok(q) => (Outcome::Found(q.answer), format!("{}\n{}\n", found(&q.answer), pairs(&stage[..q.length]))),
             Err(r) => (Outcome::Refused(r), format!("{}\n", refused(&r))),
         };
-        let room = board.longest() as u8;
+        let room = board.longest() as u16;
         self.checker.check(&Case::Quote { board, budget: BUDGET, room, sheet: sheet.to_vec() }, &outcome);
         lines
     }
@@ -411,6 +419,11 @@ impl Bench {
     fn grown_by_one(&self, bytes: &[u8]) -> Vec<u8> {
         bytes.iter().copied().chain([0x2F]).collect()
     }
+}
+
+/// Whether a sheet says that it has five inputs or six.
+fn is_wide(sheet: &[u8]) -> bool {
+    matches!(sheet, [0x01, 5 | 6, ..])
 }
 
 /// Whether this one is run, of so many each; counts them.
@@ -459,6 +472,12 @@ fn audit_line(board: Board, sheet: &[u8], stage: &[u8]) -> String {
     }
 }
 
+/// Every pattern of n inputs is impossible, so that any four wires fit.
+fn nothing_asked(n: u8) -> Vec<u8> {
+    let rows = (0..1u8 << n).flat_map(|p| [0x03, p]);
+    [0x01, n, 0x04].into_iter().chain(rows).chain([0x00]).collect()
+}
+
 /// Sheet A with limits that change nothing before its end, 4,096 bytes long.
 fn long_sheet() -> Vec<u8> {
     let (end, start) = A.split_last().expect("not empty");
@@ -466,9 +485,9 @@ fn long_sheet() -> Vec<u8> {
     start.iter().copied().chain(limits).chain([*end]).collect()
 }
 
-/// Four parities of four inputs: no tree has more selectors.
+/// Four parities of six inputs: no tree has more selectors.
 fn longest_trees() -> Vec<u8> {
-    Board::Tree.bytes_of(4, 4, &[0x6996, 0x9669, 0x6996, 0x9669])
+    Board::Tree.bytes_of(6, 4, &[parity(6), !parity(6), parity(6), !parity(6)])
 }
 
 #[cfg(test)]
@@ -491,7 +510,9 @@ mod tests {
             assert_eq!(audit_line(board, &[0; LONGEST_SHEET + 1], &[]), "sheet refused 14 at 4096\n");
         }
         assert_eq!(audit_line(Board::Tree, &A, &longest_trees()), "stage refused 13 at 0\n");
-        assert_eq!(audit_line(Board::Shared, &A, &longest_trees()), "stage refused 2 at 3\n");
+        assert_eq!(audit_line(Board::Shared, &A, &longest_trees()), "stage refused 3 at 0\n");
+        assert_eq!(audit_line(Board::Tree, &nothing_asked(6), &longest_trees()), "fits cells 188\n");
+        assert_eq!(audit_line(Board::Shared, &nothing_asked(6), &A_LISTS), "stage refused 13 at 0\n");
         assert_eq!(clean_line(&A), format!("{}\n", pairs(&A)));
         assert_eq!(clean_line(&long_sheet()), clean_line(&A));
         assert_eq!(clean_line(&[]), "refused 1 at 0\n");

@@ -1,4 +1,5 @@
-//! Document 01, "Refusals": a number and a place.
+//! Document 01, "Refusals", and those that document 02 adds: a number and a
+//! place.
 
 #[derive(Clone, Copy, PartialEq, Eq, Debug)]
 pub struct Refusal {
@@ -20,6 +21,8 @@ pub const NOT_ASCENDING: u8 = 11;
 pub const SHORT_BUFFER: u8 = 12;
 pub const SIZES_DIFFER: u8 = 13;
 pub const TOO_LONG: u8 = 14;
+/// Document 02, E5.
+pub const TOO_WIDE: u8 = 15;
 
 /// Ends a reading with a refusal.
 pub fn refuse<T>(number: u8, place: usize) -> Result<T, Refusal> {

@@ -2,13 +2,14 @@
 //! is handed down to where a table's cells are counted.
 
 use crate::board::Board;
+use crate::cells::Tables;
 use crate::pick::Picker;
 use crate::relation::Relation;
 
 /// The search's reply.
 #[derive(Clone, Copy, PartialEq, Eq, Debug)]
 pub struct Answer {
-    pub tables: [u16; 4],
+    pub tables: Tables,
     pub cells: u32,
     pub floor: u32,
     pub visits: u32,
@@ -18,7 +19,7 @@ pub struct Answer {
 struct Search<'a> {
     board: Board,
     picker: &'a mut Picker,
-    best: [u16; 4],
+    best: Tables,
     best_cells: u32,
     visits: u32,
     budget: u32,
@@ -42,7 +43,7 @@ pub fn search(board: Board, r: &Relation, budget: u32, picker: &mut Picker) -> A
 
 /// The first answer: each wire, the lowest first, is given its pick, and only
 /// the values that have it so are kept for the next wire.
-pub fn first_answer(board: Board, r: &Relation, picker: &mut Picker) -> [u16; 4] {
+pub fn first_answer(board: Board, r: &Relation, picker: &mut Picker) -> Tables {
     let mut left = *r;
     let mut tables = [0; 4];
     for j in 0..r.m {
@@ -61,9 +62,9 @@ pub fn floor(board: Board, r: &Relation, picker: &mut Picker) -> u32 {
 }
 
 /// The relation with that wire at that bit on that pattern.
-fn with_wire(r: &Relation, p: usize, wire: u32, bit: u16) -> Relation {
+fn with_wire(r: &Relation, p: usize, wire: u32, bit: u64) -> Relation {
     let mut part = *r;
-    for v in 0..1u16 << r.m {
+    for v in 0..1u64 << r.m {
         if v >> wire & 1 != bit {
             part.sets[p] &= !(1 << v);
         }
@@ -78,12 +79,12 @@ fn has_both(r: &Relation, p: usize, wire: u32) -> bool {
 }
 
 /// The value the tables give on a pattern.
-pub fn value_at(m: u32, tables: &[u16; 4], p: usize) -> u16 {
-    (0..m as usize).map(|j| (tables[j] >> p & 1) << j).sum()
+pub fn value_at(m: u32, tables: &Tables, p: usize) -> u16 {
+    (0..m as usize).map(|j| ((tables[j] >> p & 1) as u16) << j).sum()
 }
 
 /// The lowest pattern where the tables' value is not in the part.
-fn lowest_conflict(r: &Relation, tables: &[u16; 4]) -> Option<usize> {
+fn lowest_conflict(r: &Relation, tables: &Tables) -> Option<usize> {
     (0..r.patterns()).find(|&p| r.sets[p] >> value_at(r.m, tables, p) & 1 == 0)
 }
 

@@ -1,10 +1,15 @@
-//! Document 01, "Unit sheet": the reader, refusals 1 to 9.
+//! Document 01, "Unit sheet": the reader, refusals 1 to 9; with up to six inputs
+//! (document 02, E5), whichever board it is read for.
 //!
 //! For one command the tests come in the order 2, 5, 1, 3, 6, 7, 8; at the
 //! end 4, then 9.
 
 use crate::refusal::*;
 
+pub const MOST_INPUTS: u8 = 6;
+pub const MOST_WIRES: u8 = 4;
+/// The patterns of six inputs.
+pub const MOST_PATTERNS: usize = 1 << MOST_INPUTS;
 pub const MOST_GATES: usize = 32;
 pub const MOST_OUTPUTS: usize = 8;
 
@@ -29,16 +34,23 @@ pub struct Gate {
 pub struct Unit {
     pub n: u32,
     pub m: u32,
-    pub rows: [Row; 16],
+    pub rows: [Row; MOST_PATTERNS],
     /// The intersection of the 06 sets of each pattern; all values without one.
-    pub permitted: [u16; 16],
+    pub permitted: [u16; MOST_PATTERNS],
     pub gates: Vec<Gate>,
     pub outputs: Vec<u8>,
 }
 
 impl Unit {
     pub fn fresh(n: u32, m: u32) -> Unit {
-        Unit { n, m, rows: [Row::Unsaid; 16], permitted: [all_values(m); 16], gates: Vec::new(), outputs: Vec::new() }
+        Unit {
+            n,
+            m,
+            rows: [Row::Unsaid; MOST_PATTERNS],
+            permitted: [all_values(m); MOST_PATTERNS],
+            gates: Vec::new(),
+            outputs: Vec::new(),
+        }
     }
 
     pub fn patterns(&self) -> usize {
@@ -112,7 +124,7 @@ pub fn read(bytes: &[u8]) -> Result<Unit, Refusal> {
 /// 01 n m.
 fn sizes(operands: &[u8]) -> Result<Unit, u8> {
     let (n, m) = (operands[0], operands[1]);
-    if !(1..=4).contains(&n) || !(1..=4).contains(&m) {
+    if !(1..=MOST_INPUTS).contains(&n) || !(1..=MOST_WIRES).contains(&m) {
         return Err(OUT_OF_RANGE);
     }
     Ok(Unit::fresh(n.into(), m.into()))
@@ -216,6 +228,11 @@ mod tests {
         assert_eq!(refusal(&[7]), (2, 0));
         assert_eq!(refusal(&[1, 1, 1, 0x20]), (2, 3));
         assert_eq!(refusal(&[1, 0, 1]), (3, 0));
+        assert_eq!(refusal(&[1, 7, 1]), (3, 0));
+        assert_eq!(refusal(&[1, 6, 0]), (3, 0));
+        assert_eq!(refusal(&[1, 6, 5]), (3, 0));
+        assert_eq!(refusal(&[1, 5, 4]), (1, 3));
+        assert_eq!(refusal(&[1, 6, 4]), (1, 3));
         assert_eq!(refusal(&[1, 1, 5]), (3, 0));
         assert_eq!(refusal(&[1, 1, 1, 2, 2, 0]), (3, 3));
         assert_eq!(refusal(&[1, 1, 1, 2, 0, 2]), (3, 3));
@@ -234,6 +251,21 @@ mod tests {
         assert_eq!(refusal(&[1, 1, 1, 2, 1, 0, 3, 1]), (7, 6));
         assert_eq!(refusal(&[1, 1, 1, 0]), (9, 0));
         assert_eq!(refusal(&[1, 1, 1, 3, 0, 0]), (9, 1));
+    }
+
+    /// The last pattern of five inputs and of six, and the first past it.
+    #[test]
+    fn patterns_of_wide_sheets() {
+        for (n, last) in [(5, 31), (6, 63)] {
+            for command in [vec![2, last, 0], vec![3, last], vec![6, last, 1, 0]] {
+                let past = [&[command[0], last + 1], &command[2..]].concat();
+                let length = 3 + command.len();
+                assert_eq!(refusal(&[vec![1, n, 1], command].concat()), (1, length));
+                assert_eq!(refusal(&[vec![1, n, 1], past].concat()), (3, 3));
+            }
+            let rows = (0..last).flat_map(|p| [3, p]).collect::<Vec<u8>>();
+            assert_eq!(refusal(&[vec![1, n, 1], rows, vec![0]].concat()), (9, last.into()));
+        }
     }
 
     #[test]

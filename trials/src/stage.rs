@@ -1,13 +1,14 @@
 //! Document 01, "Stage sheet": the tree board's writer and reader. A stage's
 //! cells are those of document 02, E4.
 
-use crate::board::Stage;
-use crate::cells::{full, halves};
+use crate::board::{Board, Stage};
+use crate::cells::{full, halves, Tables};
 use crate::commands::{Due, Reader};
 use crate::refusal::*;
 
-/// No stage of trees has more bytes.
-pub const LONGEST_STAGE: usize = 196;
+/// No stage of trees has more bytes: four wires of six inputs, with 63 selectors
+/// each.
+pub const LONGEST_STAGE: usize = 4 + 4 * (3 + 3 * 63);
 
 /// One tree: a constant, or a selector on an input with its trees for 0 and 1.
 #[derive(Clone, PartialEq, Eq, Debug)]
@@ -45,7 +46,7 @@ impl Tree {
 }
 
 /// The reduced tree of a table whose first input still to be tested is k.
-fn write_tree(n: u32, table: u16, k: u8, out: &mut Vec<u8>) {
+fn write_tree(n: u32, table: u64, k: u8, out: &mut Vec<u8>) {
     if table == 0 {
         out.push(0x23);
     } else if table == full(n) {
@@ -63,7 +64,7 @@ fn write_tree(n: u32, table: u16, k: u8, out: &mut Vec<u8>) {
 }
 
 /// The bytes of a stage in range.
-pub fn bytes_of(n: u32, m: u32, tables: &[u16; 4]) -> Vec<u8> {
+pub fn bytes_of(n: u32, m: u32, tables: &Tables) -> Vec<u8> {
     let mut out = vec![0x20, n as u8, m as u8];
     for j in 0..m as u8 {
         out.extend([0x21, j]);
@@ -119,7 +120,7 @@ fn tree(reader: &mut Reader, n: u32, parent: u32) -> Result<Tree, Refusal> {
 /// The stage reader: any ordered tree.
 pub fn read(bytes: &[u8]) -> Result<Stage, Refusal> {
     let mut reader = Reader::new(bytes, known);
-    let (n, m) = reader.sizes()?;
+    let (n, m) = reader.sizes(Board::Tree.most_inputs())?;
     let mut stage = Stage::without_wires(n, m);
     for j in 0..m {
         wire(&mut reader, m, j)?;
@@ -153,6 +154,12 @@ mod tests {
         assert_eq!(refusal(&[1]), (2, 0));
         assert_eq!(refusal(&[0x20, 1, 1, 0x25]), (2, 3));
         assert_eq!(refusal(&[0x20, 0, 1]), (3, 0));
+        assert_eq!(refusal(&[0x20, 7, 1]), (3, 0));
+        assert_eq!(refusal(&[0x20, 6, 1]), (1, 3));
+        assert_eq!(refusal(&[0x20, 6, 1, 0x21, 0, 0x22, 7]), (3, 5));
+        assert_eq!(refusal(&[0x20, 5, 1, 0x21, 0, 0x22, 6]), (3, 5));
+        assert_eq!(refusal(&[0x20, 6, 1, 0x21, 0, 0x22, 6, 0x22, 6]), (11, 7));
+        assert_eq!(refusal(&[0x20, 6, 1, 0x21, 0, 0x22, 6, 0x22, 5]), (11, 7));
         assert_eq!(refusal(&[0x20, 1, 5]), (3, 0));
         assert_eq!(refusal(&[0x20, 1, 1, 0x21, 1]), (3, 3));
         assert_eq!(refusal(&[0x20, 1, 1, 0x21, 0, 0x22, 0]), (3, 5));
@@ -222,7 +229,7 @@ mod tests {
                 let table = (0..1 << n).fold(0, |table, p| table | usize::from(tree.follow(n, p)) << p);
                 least[table] = least[table].min(tree.cells());
             }
-            assert!((0..=full(n)).all(|table| least[usize::from(table)] == cells(n, table)));
+            assert!((0..=full(n)).all(|table| least[table as usize] == cells(n, table)));
         }
     }
 }

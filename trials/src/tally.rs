@@ -4,9 +4,12 @@ use crate::case::{Case, Outcome};
 use crate::check::{Checked, Checker};
 use crate::pick::Picker;
 use crate::plan::cases;
+use crate::refusal::TOO_LONG;
 use std::fmt::Write;
 
 const KINDS: &[u8; 11] = b"QASWRCqaswr";
+/// One past the highest number of a refusal. 14 is the program's alone.
+pub const NUMBERS: usize = 16;
 
 /// The row of a kind.
 fn row(kind: u8) -> usize {
@@ -16,7 +19,7 @@ fn row(kind: u8) -> usize {
 #[derive(Default)]
 pub struct Tally {
     /// By kind, by refusal number; 0: accepted.
-    refused: [[usize; 14]; KINDS.len()],
+    refused: [[usize; NUMBERS]; KINDS.len()],
     best: usize,
     stopped: usize,
     fits: usize,
@@ -24,7 +27,7 @@ pub struct Tally {
     visits: u64,
     most_visits: u32,
     /// Searches by (n, m).
-    sizes: [[usize; 5]; 5],
+    sizes: [[usize; 5]; 7],
 }
 
 /// All cases, each of them checked.
@@ -85,7 +88,7 @@ impl Tally {
         line(format!("{} cases", self.cases()));
         let kinds: String = KINDS.iter().map(|&kind| format!("{:>7}", char::from(kind))).collect();
         line(format!("{:>9}{kinds}{:>7}", "", "all"));
-        for number in 0..14 {
+        for number in (0..NUMBERS).filter(|&number| number != TOO_LONG.into()) {
             let name = if number == 0 { "accepted".to_string() } else { format!("refused {number}") };
             let by_kind: String = self.refused.iter().map(|row| format!("{:>7}", row[number])).collect();
             line(format!("{name:<10}{}{:>7}", &by_kind[1..], self.refusals(number)));
@@ -95,7 +98,7 @@ impl Tally {
         line(format!("audits: fits {} differs {}", self.fits, self.differs));
         line(format!("searches: best {} stopped {}", self.best, self.stopped));
         line(format!("visits: all {} most {}", self.visits, self.most_visits));
-        for n in 1..=4 {
+        for n in 1..=6 {
             line(format!("searches with n = {n} and m = 1 to 4: {:?}", &self.sizes[n][1..]));
         }
         out

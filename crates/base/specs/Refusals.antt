@@ -60,3 +60,7 @@ sizesDiffer = 13
 -- too much input for the program
 abbrev pub tooLong : ℕ
 tooLong = 14
+
+-- more inputs than a board that shares selectors has lines (document 02, E5)
+abbrev pub tooWide : ℕ
+tooWide = 15

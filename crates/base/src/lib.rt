@@ -38,6 +38,8 @@ impl Refusal {
 
     pub const TOO_LONG: u8 = 14;
 
+    pub const TOO_WIDE: u8 = 15;
+
     pub fn at(number: u8, place: usize) -> Self
         ensures { λ r. ⌜ r ≡ refusalAt number place ⌝ }
     {

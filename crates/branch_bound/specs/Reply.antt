@@ -10,6 +10,7 @@ use Rattle.relation.specs.Source.{Rel}
 use Rattle.relation.specs.Handed.{relationOf, checkOf}
 use Rattle.branch_bound.specs.declared.State.{State}
 use Rattle.nodes.specs.declared.BoardKind.{BoardKind}
+use Rattle.nodes.specs.Counts.{mostInputs}
 use Rattle.branch_bound.specs.Search.{Board, floor, run}
 use Rattle.branch_bound.specs.Boards.{boardOf}
 
@@ -55,6 +56,6 @@ searchTested kind r budget c =
     let found = answerOf board (relationOf r) (run board budget (relationOf r)) in
     cond (isRefused c) (refusedWith c) found
 
--- the reply to any relation and budget, on either board: the relation's test comes first
+-- the reply to any relation and budget, on either board: the relation's test, with at most the inputs of the board, comes first
 unfoldable pub searchOf : BoardKind → Relation → ℕ → SearchReply
-searchOf kind r budget = searchTested kind r budget (checkOf r)
+searchOf kind r budget = searchTested kind r budget (checkOf (mostInputs kind) r)

@@ -3,7 +3,7 @@ use sheet::Sheet;
 
 // The best so far (incumbent), the visits charged (nodes expanded), and whether a part was left.
 pub struct State {
-    pub tables: [u16; Sheet::WIRES],
+    pub tables: [u64; Sheet::WIRES],
     pub cells: u32,
     pub visits: u32,
     pub stopped: bool,

@@ -12,6 +12,7 @@ use search::search_on;
 use sheet::Sheet;
 ghost use mathlib.Core.Path.{_≡_};
 ghost use lib.ListN.{length};
+ghost use Rattle.nodes.specs.Counts.{mostInputs};
 ghost use Rattle.diagram.specs.Forms.{drawingOf};
 ghost use Rattle.quote.specs.Quote.{quotedOf, bufferQuoted};
 ghost use Rattle.quote.specs.Promised.{Promised};
@@ -25,7 +26,7 @@ pub fn search_numbers(
     m: u8,
     sets: &[u16; Sheet::MAX_PATTERNS],
     budget: u32,
-    tables: &mut [u16; Sheet::WIRES],
+    tables: &mut [u64; Sheet::WIRES],
     reply: &mut [u64; REPLY_NUMBERS],
 ) -> u32
     ensures refusal { λ r. ⌜ r ≡ searchHanded kind n m (now (sets .entry)) budget .mark .number ⌝ }
@@ -42,9 +43,9 @@ pub fn search_numbers(
     }
     *reply = [
         told.outcome,
-        answer.cells as u64,
-        answer.floor as u64,
-        answer.visits as u64,
+        answer.cells,
+        answer.floor,
+        answer.visits,
         0,
         told.place,
     ];
@@ -62,7 +63,7 @@ pub fn quote_numbers(
     ensures refusal { λ r. ⌜ r ≡ quotedOf kind (now (sheet .entry)) budget (length (now (buffer .entry))) .mark .number ⌝ }
     ensures numbers { λ _. ⌜ now (reply .exit) ≡ quoteNumbers (quotedOf kind (now (sheet .entry)) budget (length (now (buffer .entry)))) ⌝ }
     ensures bytes { λ _. ⌜ now (buffer .exit) ≡ bufferQuoted kind (now (sheet .entry)) budget (now (buffer .entry)) ⌝ }
-    ensures promise { λ _. ⌜ Promised (drawingOf kind) (now (sheet .entry)) budget (quotedOf kind (now (sheet .entry)) budget (length (now (buffer .entry))))
+    ensures promise { λ _. ⌜ Promised (drawingOf kind) (mostInputs kind) (now (sheet .entry)) budget (quotedOf kind (now (sheet .entry)) budget (length (now (buffer .entry))))
         (now (buffer .exit)) ⌝ }
 {
     let quoted = quote_on(kind, sheet, budget, buffer);
@@ -70,9 +71,9 @@ pub fn quote_numbers(
     let told = mark_told(mark);
     *reply = [
         told.outcome,
-        quoted.cells as u64,
-        quoted.floor as u64,
-        quoted.visits as u64,
+        quoted.cells,
+        quoted.floor,
+        quoted.visits,
         quoted.length as u64,
         told.place,
     ];

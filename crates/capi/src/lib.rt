@@ -7,6 +7,7 @@ use told::written_length;
 use told::written_told;
 ghost use mathlib.Core.Path.{_≡_};
 ghost use lib.ListN.{length};
+ghost use Rattle.sheet.specs.Limits.{maxInputs, maxSharedInputs};
 ghost use Rattle.nodes.specs.declared.BoardKind.the-variants.{Tree, Sharing};
 ghost use Rattle.stage.specs.Trees.{treeDrawing};
 ghost use Rattle.diagram.specs.Diagrams.{diagramDrawing};
@@ -30,7 +31,7 @@ pub extern "C" fn dagmetzi_search(
     m: u8,
     sets: &[u16; Sheet::MAX_PATTERNS],
     budget: u32,
-    tables: &mut [u16; Sheet::WIRES],
+    tables: &mut [u64; Sheet::WIRES],
     reply: &mut [u64; REPLY_NUMBERS],
 ) -> u32
     ensures refusal { λ r. ⌜ r ≡ searchHanded Tree n m (now (sets .entry)) budget .mark .number ⌝ }
@@ -47,7 +48,7 @@ pub extern "C" fn dagmetzi_search_shared(
     m: u8,
     sets: &[u16; Sheet::MAX_PATTERNS],
     budget: u32,
-    tables: &mut [u16; Sheet::WIRES],
+    tables: &mut [u64; Sheet::WIRES],
     reply: &mut [u64; REPLY_NUMBERS],
 ) -> u32
     ensures refusal { λ r. ⌜ r ≡ searchHanded Sharing n m (now (sets .entry)) budget .mark .number ⌝ }
@@ -68,7 +69,7 @@ pub extern "C" fn dagmetzi_quote(
     ensures refusal { λ r. ⌜ r ≡ quotedOf Tree (now (sheet .entry)) budget (length (now (buffer .entry))) .mark .number ⌝ }
     ensures numbers { λ _. ⌜ now (reply .exit) ≡ quoteNumbers (quotedOf Tree (now (sheet .entry)) budget (length (now (buffer .entry)))) ⌝ }
     ensures bytes { λ _. ⌜ now (buffer .exit) ≡ bufferQuoted Tree (now (sheet .entry)) budget (now (buffer .entry)) ⌝ }
-    ensures promise { λ _. ⌜ Promised treeDrawing (now (sheet .entry)) budget (quotedOf Tree (now (sheet .entry)) budget (length (now (buffer .entry))))
+    ensures promise { λ _. ⌜ Promised treeDrawing maxInputs (now (sheet .entry)) budget (quotedOf Tree (now (sheet .entry)) budget (length (now (buffer .entry))))
         (now (buffer .exit)) ⌝ }
 {
     boards::quote_numbers(BoardKind::Tree, sheet, budget, buffer, reply)
@@ -85,7 +86,7 @@ pub extern "C" fn dagmetzi_quote_shared(
     ensures refusal { λ r. ⌜ r ≡ quotedOf Sharing (now (sheet .entry)) budget (length (now (buffer .entry))) .mark .number ⌝ }
     ensures numbers { λ _. ⌜ now (reply .exit) ≡ quoteNumbers (quotedOf Sharing (now (sheet .entry)) budget (length (now (buffer .entry)))) ⌝ }
     ensures bytes { λ _. ⌜ now (buffer .exit) ≡ bufferQuoted Sharing (now (sheet .entry)) budget (now (buffer .entry)) ⌝ }
-    ensures promise { λ _. ⌜ Promised diagramDrawing (now (sheet .entry)) budget (quotedOf Sharing (now (sheet .entry)) budget (length (now (buffer .entry))))
+    ensures promise { λ _. ⌜ Promised diagramDrawing maxSharedInputs (now (sheet .entry)) budget (quotedOf Sharing (now (sheet .entry)) budget (length (now (buffer .entry))))
         (now (buffer .exit)) ⌝ }
 {
     boards::quote_numbers(BoardKind::Sharing, sheet, budget, buffer, reply)

@@ -12,7 +12,7 @@ use Rattle.sheet.specs.declared.Command.{Command}
 use Rattle.sheet.specs.declared.Command.the-variants.{Sizes, Row, DontCare, Gate, Output, Limit}
 use Rattle.sheet.specs.declared.Sheet.{Sheet}
 use Rattle.sheet.specs.Commands.{isEmpty, collect, rowIn, dontCareIn, rowsOn, dontCaresOn, gatesOf, outputsOf, isMarked}
-use Rattle.sheet.specs.Limits.{maxGates, maxOutputs, sizesOut}
+use Rattle.sheet.specs.Limits.{maxInputs, maxGates, maxOutputs, sizesOut}
 use Rattle.reader.specs.Reader.{lastKind}
 use Rattle.reader.proofs.ReadBack.{AllInOrder, none-yet, next-in-order}
 use Rattle.reader.proofs.Placed.{gateOf, Placed}
@@ -33,7 +33,7 @@ both-fail {a} {b} e f = rw (e, f)
 
 -- what a sheet's entries need to be
 pub record InPlace (h : Sheet) : Type 0 where
-  pub sizes : sizesOut (h .n) (h .m) ≡ false
+  pub sizes : sizesOut maxInputs (h .n) (h .m) ≡ false
   pub values : (p : ℕ) → p < 2 ^ h .n → getD (h .values) p 0 < 2 ^ h .m
   pub limits : (p : ℕ) → p < 2 ^ h .n → getD (h .limits) p 0 < 2 ^ (2 ^ h .m)
   pub wiring : Placed h

@@ -18,7 +18,7 @@ use Rattle.sheet.specs.SaySame.{SaySame}
 use Rattle.sheet.specs.Commands.{collect, rowIn, dontCareIn, limitIn, gateIn, outputIn, inputsOf, wiresOf, rowsOn, dontCaresOn, limitsOn, gatesOf, outputsOf}
 use Rattle.sheet.specs.Commands.{isMarked, noGate}
 use Rattle.sheet.specs.Gathered.{gathered, meet, limitOn, gateAt, outputAt}
-use Rattle.sheet.specs.Limits.{maxPatterns, maxWires, allOnes}
+use Rattle.sheet.specs.Limits.{maxInputs, maxPatterns, maxWires, allOnes}
 use Rattle.sheet.specs.Judged.{holds}
 use Rattle.sheet.proofs.SayingSame.{say-same-gathered}
 use Rattle.sheet.proofs.Fields.{wires-field, value-field, limit-field, output-field, pattern-room, present-mark, present-value, impossible-mark}
@@ -52,7 +52,7 @@ module _ (cs : List Command) (s : Sound cs) where
   unfolding gathered
   in-place =
       record {
-        sizes = sizes-fit (inputsOf cs) (wiresOf cs) (s .sizes);
+        sizes = sizes-fit maxInputs (inputsOf cs) (wiresOf cs) (s .sizes);
         values = λ p l. value-below p l (s .each-pattern p l);
         limits = λ p l. subst (λ w. w < 2 ^ (2 ^ wiresOf cs)) (sym (limit-field cs p (room p l))) (limit-below p cs (s .sizes .m-most));
         wiring = placed-all cs s;

@@ -1,5 +1,5 @@
 -- Document 01, "Bench sheets": the starred rows, proved together over the written meanings, with the figures that follow from document 02's E4.
-use Prim.Native.Nat.{ℕ}
+use Prim.Native.Nat.{ℕ, _-_}
 use mathlib.Core.Path.{_≡_, refl}
 use mathlib.Core.List.{List, [], _∷_}
 use Rattle.base.specs.Cases.{accepting, acceptedCase}
@@ -9,6 +9,7 @@ use Rattle.table.specs.Bits.{bit, all, any, sum, ofBits, tabulate, isOne}
 use Rattle.table.specs.Cells.{low, high, full, wiredTable, selectorCells, cells, total}
 use Rattle.table.specs.Tree.{reduced}
 use Rattle.table.specs.Pick.{suits, nearer, least, orZero, leastOf}
+use Rattle.sheet.specs.Limits.{maxPatterns}
 use Rattle.relation.specs.declared.Relation.{Relation}
 use Rattle.relation.specs.Source.{value}
 use Rattle.relation.specs.Tests.{ofSets, keep, agree, occurs, isOpen, openWire, compatible, conflict, emptyPattern, openPairs}
@@ -77,12 +78,16 @@ linesA =
     ∷ 0x32 ∷ 0x31 ∷ 0x20 ∷ 0x30 ∷ 0x31 ∷ 0x20 ∷ 0x32 ∷ 0x32 ∷ 0x20 ∷ 0x30 ∷ 0x32 ∷ 0x20 ∷ 0x32 ∷ 0x33 ∷ 0x20 ∷ 0x32 ∷ 0x34 ∷ 0x20
     ∷ 0x32 ∷ 0x46 ∷ newline ∷ []
 
+-- empty sets from pattern p on
+abbrev noneFrom : ℕ → List ℕ
+noneFrom p = tabulate (maxPatterns - p) (λ _. 0)
+
 -- B of source document 001, section 5, and C: bit v of a set is value v
 abbrev relationB : Relation
-relationB = record { n = 2; m = 2; sets = 1 ∷ 2 ∷ 9 ∷ 12 ∷ 0 ∷ 0 ∷ 0 ∷ 0 ∷ 0 ∷ 0 ∷ 0 ∷ 0 ∷ 0 ∷ 0 ∷ 0 ∷ 0 ∷ [] }
+relationB = record { n = 2; m = 2; sets = 1 ∷ 2 ∷ 9 ∷ 12 ∷ noneFrom 4 }
 
 abbrev relationC : Relation
-relationC = record { n = 1; m = 2; sets = 3 ∷ 6 ∷ 0 ∷ 0 ∷ 0 ∷ 0 ∷ 0 ∷ 0 ∷ 0 ∷ 0 ∷ 0 ∷ 0 ∷ 0 ∷ 0 ∷ 0 ∷ 0 ∷ [] }
+relationC = record { n = 1; m = 2; sets = 3 ∷ 6 ∷ noneFrom 2 }
 
 -- what a row says of a search that refuses nothing: cells, floor, visits and mark
 pub record Says (a : SearchReply) (c f v mark : ℕ) : Type 0 where
@@ -94,7 +99,7 @@ pub record Says (a : SearchReply) (c f v mark : ℕ) : Type 0 where
 pub record Starred : Type 0 where
   -- A: the relation formed from its bytes, {1}, {0,3}, {0,3}, {2}
   pub a-relation : formedOf sheetA
-      ≡ record { relation = record { n = 2; m = 2; sets = 2 ∷ 9 ∷ 9 ∷ 4 ∷ 0 ∷ 0 ∷ 0 ∷ 0 ∷ 0 ∷ 0 ∷ 0 ∷ 0 ∷ 0 ∷ 0 ∷ 0 ∷ 0 ∷ [] }; answer = acceptedCase }
+      ≡ record { relation = record { n = 2; m = 2; sets = 2 ∷ 9 ∷ 9 ∷ 4 ∷ noneFrom 4 }; answer = acceptedCase }
   -- what the program prints for its bytes, to the last one
   pub a-printed : printedOf Tree sheetA ≡ linesA
   -- the cells of the present stage, by the tables that its own 02 commands tell

@@ -3,6 +3,7 @@
 use Prim.Native.Nat.{ℕ}
 use mathlib.Core.Path.{_≡_, refl}
 use mathlib.Core.List.{List, [], _∷_}
+use Rattle.base.specs.Cases.{refusedCase}
 use Rattle.base.specs.Refusals.{refusalAt, cutShort, unknown, outOfRange, trailing, outOfTurn, noSignal, notAscending}
 use Rattle.table.specs.Bits.{bit, sum, ofBits}
 use Rattle.table.specs.Cells.{low, high, selectorCells}
@@ -11,7 +12,7 @@ use Rattle.nodes.specs.Nodes.{same, has, listing}
 use Rattle.stage.specs.Steps.{andThen, misplaced, dueNumber, due, operand}
 use Rattle.stage.specs.Bytes.{wiresBytes, stageBytes}
 use Rattle.stage.specs.Read.{wiresAt, nothingAfter, endAt, closed, readSheet}
-use Rattle.stage.specs.Written.{stageDrawn, stageOf}
+use Rattle.stage.specs.Written.{stageDrawn, stageOf, writtenOf}
 use Rattle.diagram.specs.Diagram.{entry, Diagram, diagram, inputAt, followEntry, wiredEntry, entryPrice, entriesCells, diagramCells}
 use Rattle.diagram.specs.Bytes.{entriesBytes, diagramWireBytes}
 use Rattle.diagram.specs.Read.{entryRefusal, entryAt, entriesAt, topAt, diagramWireAt}
@@ -71,6 +72,19 @@ straight-free = refl
 pub larger-counted : diagramCells (diagram (entry 1 2 1 ∷ entry 2 0 0 ∷ []) 3) ≡ 2
 unfolding drawing
 larger-counted = refl
+
+-- document 02, E5: a sharing stage stays at four lines, reading and writing
+pub five-refused : readDiagrams (0x20 ∷ 5 ∷ 1 ∷ 0x26 ∷ 0 ∷ 0 ∷ 0 ∷ 0x2F ∷ []) ≡ noStage (refusalAt outOfRange 0)
+unfolding reading
+five-refused = refl
+
+pub five-unwritten : writtenOf diagramForm 5 1 (0 ∷ 0 ∷ 0 ∷ 0 ∷ []) 8 ≡ refusedCase (refusalAt outOfRange 0)
+unfolding writing writtenOf
+five-unwritten = refl
+
+pub four-read : readDiagrams (0x20 ∷ 4 ∷ 1 ∷ 0x26 ∷ 0 ∷ 0 ∷ 0 ∷ 0x2F ∷ []) ≡ got 4 1 (diagram [] 0 ∷ [])
+unfolding reading
+four-read = refl
 
 -- the refusals of a wire: its place is its first byte. Trees' commands are unknown here, and an end is known but not due
 pub tree-unknown : readDiagrams (0x20 ∷ 1 ∷ 1 ∷ 0x21 ∷ 0 ∷ 0x23 ∷ 0x2F ∷ []) ≡ noStage (refusalAt unknown 3)

@@ -1,10 +1,10 @@
 -- Diagrams are a form: their wires are read as they are written, and nodes are fair to them. Their stages' lengths.
-use Prim.Native.Nat.{ℕ, _+_, _*_, _^_, _-_, _<_, _≤_}
+use Prim.Native.Nat.{ℕ, _+_, _*_, _^_, _<_, _≤_}
 use mathlib.Core.Path.{_≡_, refl, sym}
 use mathlib.Core.List.{List, []}
 use native.Mathlib.Omega.{arith}
 use lib.ListN.{length, take}
-use Rattle.sheet.specs.Limits.{maxInputs, maxWires, maxPatterns}
+use Rattle.sheet.specs.Limits.{maxInputs, maxSharedInputs, maxWires}
 use Rattle.table.specs.Cells.{wires, total}
 use Rattle.table.specs.Drawing.{got, drawnTable}
 use Rattle.table.specs.Inner.Drawing.{FairCount}
@@ -14,18 +14,17 @@ use Rattle.stage.specs.Bytes.{sheetFrame, selectorBytes}
 use Rattle.stage.specs.Written.{stageOf}
 use Rattle.stage.specs.Inner.Laws.{FormLaws}
 use Rattle.stage.proofs.Lengths.{sheet-length, sheet-length-most}
-use Rattle.stage.proofs.TreeTables.{patterns-most}
 use Rattle.stage.proofs.Prefix.{none-longer as sheet-none-longer, front-tells as sheet-front}
 use Rattle.diagram.specs.Diagram.{Diagram, mostEntries, followDiagram}
-use Rattle.diagram.specs.Bytes.{diagramFrame, longestShared}
+use Rattle.diagram.specs.Bytes.{diagramFrame, mostNodes, longestShared}
 use Rattle.diagram.specs.Written.{reducedDiagram}
 use Rattle.diagram.specs.Diagrams.{diagramForm, diagramDrawing, readDiagrams}
 use Rattle.diagram.proofs.Entries.{diagram-drives}
 use Rattle.diagram.proofs.Least.{least-diagram}
-use Rattle.diagram.proofs.Reduced.{listing-short, reduced-formed, reduced-means, reduced-cells, entries-length}
+use Rattle.diagram.proofs.Reduced.{listing-few, reduced-formed, reduced-means, reduced-cells, entries-length}
 use Rattle.diagram.proofs.Reading.{wire-length, wire-told, wire-back, wire-more}
 
--- nodes are fair to diagrams: none of a function has fewer cells, and the one that is written has as many
+-- nodes are fair to diagrams, also of more inputs than a sheet of theirs has: none of a function has fewer cells, and the one that is written has as many
 unfoldable pub diagram-counts : (n : ℕ) → n ≤ maxInputs → FairCount diagramDrawing n (nodes n)
 unfolding drawnTable
 diagram-counts n small =
@@ -48,12 +47,12 @@ diagram-laws =
       frame = diagramFrame;
       selectors = λ d. length (d .entries);
       wire-length = wire-length;
-      most = mostEntries;
+      wireMost = mostEntries;
       few = λ n d _ w. w .few;
       told = wire-told;
       back = wire-back;
       more = λ n m j at bytes q _ l. wire-more n m j at bytes q (omega arith);
-      fair = diagram-counts;
+      fair = λ n s. diagram-counts n (omega arith);
       reduces = λ n _. refl;
     }
 
@@ -76,12 +75,12 @@ pub stage-length : (n m : ℕ) (tables : List ℕ) → m ≤ length tables
 unfolding diagram-laws reducedDiagram
 stage-length n m tables h = sheet-length diagramForm diagram-laws n (λ t. length (listing n t [])) (λ t. entries-length n (listing n t [])) m tables h
 
-pub stage-length-most : (n m : ℕ) (tables : List ℕ) → m ≤ length tables → n ≤ maxInputs → m ≤ maxWires
+pub stage-length-most : (n m : ℕ) (tables : List ℕ) → m ≤ length tables → n ≤ maxSharedInputs → m ≤ maxWires
     → length (stageOf diagramForm n m tables) ≤ longestShared
 unfolding diagram-laws reducedDiagram
 stage-length-most n m tables h a b =
     omega (
       arith,
-      sheet-length-most diagramForm diagram-laws n (λ t. length (listing n t [])) (λ t. entries-length n (listing n t [])) m tables h (maxPatterns - 1)
-          (λ t. omega (arith, listing-short n t, patterns-most n a)),
+      sheet-length-most diagramForm diagram-laws n (λ t. length (listing n t [])) (λ t. entries-length n (listing n t [])) m tables h mostNodes
+          (λ t. listing-few n t a),
     )

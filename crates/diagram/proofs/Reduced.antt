@@ -8,10 +8,10 @@ use native.Mathlib.Omega.{arith}
 use native.Mathlib.Nat.{mod-eq-of-lt, zero-add}
 use lib.Dec.{T, T-not, eqb}
 use lib.ListN.{length}
-use lib.Pow.{pow-pos}
+use lib.Pow.{pow-pos, pow-mono}
 use borrow.Author.Tests.{ne-eqb}
 use Rattle.base.proofs.Tests.{cond-has, cond-has₂, cond-has₃, eqb-yes, eqb-not, or-cases}
-use Rattle.sheet.specs.Limits.{maxInputs}
+use Rattle.sheet.specs.Limits.{maxInputs, maxSharedInputs}
 use Rattle.table.specs.Bits.{bit}
 use Rattle.table.specs.Cells.{low, high, selectorCells}
 use Rattle.table.specs.Tree.{Tree, con, sel, follow, isCon, wiredTrees, reduced}
@@ -22,6 +22,7 @@ use Rattle.nodes.proofs.Lists.{same-eq, has-head}
 use Rattle.nodes.proofs.Listing.{visits, listing-grown}
 use Rattle.stage.proofs.TreeTables.{patterns-most}
 use Rattle.diagram.specs.Diagram.{inputAt, EntriesFit, followDiagram, WellFormed, wiredEntry, entryPrice, entriesCells, diagramCells}
+use Rattle.diagram.specs.Bytes.{mostNodes}
 use Rattle.diagram.specs.Written.{nodeNumber, numberOf, entryOf, entriesOf, reducedDiagram}
 use Rattle.diagram.proofs.Entries.{treeOf, follow-tree, constant-tree, input-above}
 
@@ -189,6 +190,9 @@ listing-short n t = omega (arith, longer n t [])
         (λ r t s o e p. omega arith)
         (λ r t s d y. omega (arith, pow-pos (suc r)))
         (λ r t s m o d y p q. omega arith)
+
+pub listing-few : (n t : ℕ) → n ≤ maxSharedInputs → length (listing n t []) ≤ mostNodes
+listing-few n t s = omega (arith, listing-short n t, pow-mono {i = n} {j = maxSharedInputs} s)
 
 module _ (n t : ℕ) (lt : t < 2 ^ (2 ^ n)) where
   pub reduced-formed : n ≤ maxInputs → WellFormed n (reducedDiagram n t)

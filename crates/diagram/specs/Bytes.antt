@@ -1,9 +1,10 @@
 -- Document 02, E2: a wire that is a decision diagram, as bytes.
-use Prim.Native.Nat.{ℕ, _+_, _*_}
+use Prim.Native.Nat.{ℕ, _+_, _*_, _-_, _^_}
 use mathlib.Core.List.{List, [], _∷_, _++_}
 use lib.ListN.{length}
-use Rattle.sheet.specs.Limits.{maxWires}
-use Rattle.stage.specs.Bytes.{sheetFrame, selectorBytes, mostSelectors}
+use Rattle.sheet.specs.Limits.{maxSharedInputs, maxWires}
+use Rattle.stage.specs.Bytes.{sheetFrame, selectorBytes}
+use Rattle.stage.specs.TreeBytes.{longestStage}
 use Rattle.diagram.specs.Diagram.{Entry, Diagram}
 
 abbrev pub entryBytes : Entry → List ℕ
@@ -22,6 +23,14 @@ diagramWireBytes j d = 0x26 ∷ j ∷ length (d .entries) ∷ entriesBytes (d .e
 abbrev pub diagramFrame : ℕ
 diagramFrame = 4
 
--- no stage that is written is longer: a table has fewer nodes than there are patterns
+-- a table has fewer nodes than patterns, and this board has tables of four inputs at most
+abbrev pub mostNodes : ℕ
+mostNodes = 2 ^ maxSharedInputs - 1
+
+-- no stage of diagrams that is written is longer
 abbrev pub longestShared : ℕ
-longestShared = sheetFrame + diagramFrame * maxWires + selectorBytes * mostSelectors
+longestShared = sheetFrame + diagramFrame * maxWires + selectorBytes * maxWires * mostNodes
+
+-- no stage that is written is longer, on either board: trees are of more inputs
+abbrev pub longestWritten : ℕ
+longestWritten = longestStage

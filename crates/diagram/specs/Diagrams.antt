@@ -1,6 +1,8 @@
--- The stages of the board that shares selectors (document 02, E2): decision diagrams, with the cells of E4, in stage sheets of their own.
+-- The stages of the board that shares selectors (document 02, E2): decision diagrams, with the cells of E4, in stage sheets of their own. It stays at four
+-- lines (E5).
 use mathlib.Core.List.{List}
 use Prim.Native.Nat.{ℕ}
+use Rattle.sheet.specs.Limits.{maxSharedInputs}
 use Rattle.table.specs.Drawing.{Drawing, StageSheet}
 use Rattle.nodes.specs.Nodes.{nodes}
 use Rattle.stage.specs.Form.{StageForm}
@@ -13,6 +15,7 @@ use Rattle.diagram.specs.Written.{reducedDiagram}
 abbrev pub diagramForm : StageForm
 diagramForm =
     record {
+      most = maxSharedInputs;
       Shape = Diagram;
       WellFormed = WellFormed;
       follow = followDiagram;

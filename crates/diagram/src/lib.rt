@@ -1,7 +1,7 @@
 // Stage sheets of the board that shares selectors: a decision diagram for each wire as bytes. The meanings and laws are here; `stage_reader` and
 // `stage_writer` have the code.
 use sheet::Sheet;
-use stage::MOST_SELECTORS;
+use stage::LONGEST_STAGE;
 use stage::SELECTOR_BYTES;
 use stage::SHEET_FRAME;
 
@@ -14,10 +14,16 @@ pub const MOST_ENTRIES: usize = 253;
 // What a diagram takes besides its entries: 26, the wire's number, how many entries it has, and the top.
 pub const DIAGRAM_FRAME: usize = 4;
 
-// No sharing stage that is written has more bytes: a table has fewer nodes than there are patterns.
+// A table has fewer nodes than patterns, and this board has tables of four inputs at most.
+pub const MOST_NODES: usize = (1 << Sheet::MAX_SHARED_INPUTS) - 1;
+
+// No sharing stage that is written has more bytes.
 pub const LONGEST_SHARED: usize = SHEET_FRAME
     + DIAGRAM_FRAME * Sheet::WIRES
-    + SELECTOR_BYTES * MOST_SELECTORS;
+    + SELECTOR_BYTES * Sheet::WIRES * MOST_NODES;
+
+// No stage that is written has more bytes, on either board: trees are of more inputs.
+pub const LONGEST_WRITTEN: usize = LONGEST_STAGE;
 
 // No sharing stage sheet that is accepted has more bytes, whoever wrote it.
 pub const LONGEST_DIAGRAMS: usize = SHEET_FRAME

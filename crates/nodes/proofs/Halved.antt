@@ -1,14 +1,15 @@
 -- The nodes of a table by its halves.
-use Prim.Native.Nat.{ℕ, zero, suc, _+_, _^_, _≤_}
+use Prim.Native.Nat.{ℕ, zero, suc, _+_, _^_, _<_, _≤_}
 use mathlib.Core.Path.{_≡_, refl, sym, ap, _∙_}
 use mathlib.Core.Logic.{⊎-elim}
 use mathlib.Core.List.{List, [], _∷_}
 use native.Mathlib.Omega.{arith}
 use native.Mathlib.Nat.{le-refl, zero-mod, zero-div}
+use lib.Pow.{pow-pos}
 use Rattle.base.proofs.Tests.{decide, eqb-yes, eqb-not}
 use Rattle.table.specs.Cells.{low, high, wiredTable, selectorCells}
 use Rattle.table.proofs.Halves.{same-halves}
-use Rattle.table.proofs.Wired.{wired-halves, not-wired-one}
+use Rattle.table.proofs.Wired.{wired-halves, not-wired-one, selector-most}
 use Rattle.table.proofs.Cells.{ByHalves}
 use Rattle.nodes.specs.Nodes.{Node, node, has, listing, price, weight, nodes}
 use Rattle.nodes.proofs.Listing.{visits}
@@ -54,3 +55,15 @@ nodes-zero zero = refl
 nodes-zero (suc n) =
     let z : low n 0 ≡ 0 = zero-mod (2 ^ (2 ^ n)) in
     nodes-same n 0 (z ∙ sym (zero-div (2 ^ (2 ^ n)))) ∙ ap (nodes n) z ∙ nodes-zero n
+
+-- a table of n inputs has fewer than it has patterns
+listing-bound : (r t : ℕ) (s : List Node) → weight price (listing r t s) + 1 ≤ weight price s + 2 ^ r
+unfolding weight price
+listing-bound =
+    visits (λ r t s o. weight price o + 1 ≤ weight price s + 2 ^ r) (λ t s. omega arith) (λ r t s o e p. omega (arith, p, pow-pos r))
+    (λ r t s d y. omega (arith, pow-pos r))
+    (λ r t s m o d y p q. omega (arith, p, q, selector-most (wiredTable r t)))
+
+pub nodes-lt : (n t : ℕ) → nodes n t < 2 ^ n
+unfolding nodes weight
+nodes-lt n t = omega (arith, listing-bound n t [])

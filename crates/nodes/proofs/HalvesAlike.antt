@@ -12,7 +12,7 @@ use Rattle.base.proofs.Tests.{cond-has, cond-has₂, and-intro, and-left, and-r
 use Rattle.table.specs.Cells.{low, high}
 use Rattle.table.specs.Pick.{least}
 use Rattle.table.specs.Inner.Pairs.{blockSpace, zerosIn, onesIn}
-use Rattle.table.specs.Inner.Ranks.{masked, tableSpace}
+use Rattle.table.specs.Inner.Ranks.{masked, narrowSpace}
 use Rattle.table.specs.Inner.Blocks.{entries}
 use Rattle.table.proofs.Least.{Least, least-is}
 use Rattle.nodes.specs.Inner.Tops.{topPrice}
@@ -213,23 +213,23 @@ module _ (fit : ℕ → ℕ → Bool) (third : (x : ℕ) → fit 2 x ≡ fit 0 x
       least a f b c d x y z w = omega arith
 
 -- the bytes of a number whose halves are equal
-third-first : (w : ℕ) → w % tableSpace ≡ w / tableSpace → w / tableSpace % entries ≡ w % entries
+third-first : (w : ℕ) → w % narrowSpace ≡ w / narrowSpace → w / narrowSpace % entries ≡ w % entries
 third-first w e = sym (ap (λ y. y % entries) e) ∙ omega (arith, mod-mul w {m = entries} {c = entries} (omega arith) (omega arith))
 
-fourth-second : (w : ℕ) → w % tableSpace ≡ w / tableSpace → w / (tableSpace * entries) % entries ≡ w / entries % entries
+fourth-second : (w : ℕ) → w % narrowSpace ≡ w / narrowSpace → w / (narrowSpace * entries) % entries ≡ w / entries % entries
 fourth-second w e =
-    let d : w / (tableSpace * entries) ≡ w / tableSpace / entries = omega arith in
+    let d : w / (narrowSpace * entries) ≡ w / narrowSpace / entries = omega arith in
     ap (λ y. y % entries) (d ∙ sym (ap (λ y. y / entries) e)) ∙ inner
   where
     digit : (y q r : ℕ) → y ≡ q * entries + r → q < entries → r < entries → y / entries % entries ≡ q
     digit y q r e l m = let d : y / entries ≡ q = omega arith in rw d (mod-eq-of-lt l)
 
-    inner : w % tableSpace / entries % entries ≡ w / entries % entries
+    inner : w % narrowSpace / entries % entries ≡ w / entries % entries
     inner =
-        digit (w % tableSpace) (w / entries % entries) (w % entries) (mod-mul w {m = entries} {c = entries} (omega arith) (omega arith)) (omega arith)
+        digit (w % narrowSpace) (w / entries % entries) (w % entries) (mod-mul w {m = entries} {c = entries} (omega arith) (omega arith)) (omega arith)
         (omega arith)
 
-pub repeated-way : (w : ℕ) → w % tableSpace ≡ w / tableSpace → wayOf w ≡ halvesAlike (classIn (quarterBytes w)) (lineIn (quarterBytes w))
+pub repeated-way : (w : ℕ) → w % narrowSpace ≡ w / narrowSpace → wayOf w ≡ halvesAlike (classIn (quarterBytes w)) (lineIn (quarterBytes w))
 repeated-way w e =
     all-linked w
     ∙ halves-best (fitIn (masked (zerosIn w) (onesIn w))) (λ x. bytes-alike w 2 0 x (omega arith) (omega arith) (third-first w e))

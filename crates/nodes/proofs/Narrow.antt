@@ -7,7 +7,7 @@ use lib.Arith.{digits-div, digits-mod}
 use lib.Pow.{shr-shr, split}
 use Rattle.table.specs.Inner.Blocks.{entries, Covered}
 use Rattle.table.specs.Inner.Pairs.{blockSpace, pairBits, zerosIn, onesIn}
-use Rattle.table.specs.Inner.Ranks.{pickOf, rank, tableSpace}
+use Rattle.table.specs.Inner.Ranks.{pickOf, rank, narrowSpace}
 use Rattle.table.proofs.Halves.{join, join-lt}
 use Rattle.table.proofs.Cells.{counted-twice}
 use Rattle.table.proofs.Masks.{pickOf-least}
@@ -18,7 +18,7 @@ use Rattle.nodes.specs.Nodes.{nodes}
 use Rattle.nodes.proofs.Halved.{nodes-halves}
 
 -- a mask by its blocks
-blocks : (z a b c d : ℕ) → z < tableSpace → z % 16 ≡ a → z / 16 % 16 ≡ b → z / 256 % 16 ≡ c → z / 4096 % 16 ≡ d
+blocks : (z a b c d : ℕ) → z < narrowSpace → z % 16 ≡ a → z / 16 % 16 ≡ b → z / 256 % 16 ≡ c → z / 4096 % 16 ≡ d
     → z ≡ a + b * 16 + c * 256 + d * 4096
 blocks z a b c d l ea eb ec ed =
     let g : z / 4096 < 16 = omega arith in
@@ -124,11 +124,11 @@ two-four u s w k l h =
 pub record Widened (s w v m : ℕ) : Type 0 where
   pub inside : v < 2 ^ pairBits
   pub covered : Covered 4 (zerosIn v) (onesIn v)
-  pub ranks : (x : ℕ) → x ≡ rank (nodes 4) (pick 4 v) → x / tableSpace * tableSpace + x % m ≡ rank (nodes s) (pick s w)
+  pub ranks : (x : ℕ) → x ≡ rank (nodes 4) (pick 4 v) → x / narrowSpace * narrowSpace + x % m ≡ rank (nodes s) (pick s w)
 
 -- the rank of a table repeated k times is the rank of the table, where the digits to the base m below the count are cut to one
-widened : (s w v k m : ℕ) (z : ℕ → ℕ → ℕ) → Repeats 4 v s w k → v < 2 ^ pairBits → pick s w < m → pick s w * k < tableSpace
-    → ((c t : ℕ) → c * tableSpace + t * k ≡ z c t * m + t) → Widened s w v m
+widened : (s w v k m : ℕ) (z : ℕ → ℕ → ℕ) → Repeats 4 v s w k → v < 2 ^ pairBits → pick s w < m → pick s w * k < narrowSpace
+    → ((c t : ℕ) → c * narrowSpace + t * k ≡ z c t * m + t) → Widened s w v m
 unfolding rank
 widened s w v k m z r l b y d =
     record {
@@ -137,8 +137,8 @@ widened s w v k m z r l b y d =
       ranks = λ x e.
           let c = nodes s (pick s w) in
           let t = pick s w in
-          let h : x ≡ c * tableSpace + t * k = omega (arith, e, r .picks, r .counts) in
-          rw (ap (λ v. v / tableSpace) h ∙ digits-div c y, ap (λ v. v % m) (h ∙ d c t) ∙ digits-mod (z c t) b);
+          let h : x ≡ c * narrowSpace + t * k = omega (arith, e, r .picks, r .counts) in
+          rw (ap (λ v. v / narrowSpace) h ∙ digits-div c y, ap (λ v. v % m) (h ∙ d c t) ∙ digits-mod (z c t) b);
     }
 
 module _ (w : ℕ) (l : w < 2 ^ pairBits) where

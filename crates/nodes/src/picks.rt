@@ -6,18 +6,18 @@
 // they are, with that selector, and without it restricted so that no best quarter has the inverse. The least of all is the pick.
 // Inner functions: the parts of a search meet what they require.
 use table::picks::BLOCK_SPACE;
-use table::picks::ENTRIES;
 use table::picks::FOURTH_BYTE;
+use table::picks::LENT;
+use table::picks::NARROW_SPACE;
 use table::picks::NO_TABLE;
 use table::picks::ONE_SPACE;
 use table::picks::PLACES;
-use table::picks::TABLE_SPACE;
 use table::picks::THIRD_BYTE;
 use table::picks::THREE_SPACE;
 use table::picks::lesser;
 ghost use mathlib.Core.Path.{_≡_};
 ghost use Prim.Native.Nat.{_<_, _≤_, _+_, _*_, _^_};
-ghost use Rattle.sheet.specs.Limits.{maxInputs};
+ghost use Rattle.sheet.specs.Limits.{maxSharedInputs};
 ghost use Rattle.table.specs.Inner.Ranks.{pickOf, rank};
 ghost use Rattle.table.specs.Inner.Blocks.{noEntry, Covered};
 ghost use Rattle.table.specs.Inner.Pairs.{zerosIn, onesIn};
@@ -26,128 +26,129 @@ ghost use Rattle.nodes.specs.Inner.Tops.{Tops};
 ghost use Rattle.nodes.specs.Inner.Ways.{quarterEntryAt, classAt, lineAt, mostClass, noLine, allPlaces, apartAt, halfAt, classIn, lineIn, four, halvesAlike, treeLike, threeAlike, crossedAlike, besideAlike, acrossAlike, wayOf, noInverted};
 
 // The best quarter of each pair of masks, at zeros * BLOCK_SPACE + ones: THREE_SPACE where it needs a selector that counts, and the quarter twice side by side.
-// Where some pattern is in no mask there is none: 64 selectors. What stands below a quarter is not counted.
-const TOPS: [u16; ENTRIES] = [
-    0x4000,
-    0x4000,
-    0x4000,
-    0x4000,
-    0x4000,
-    0x4000,
-    0x4000,
-    0x4000,
-    0x4000,
-    0x4000,
-    0x4000,
-    0x4000,
-    0x4000,
-    0x4000,
-    0x4000,
+// Where some pattern is in no mask there is none: NO_TABLE selectors. What stands below a quarter is not counted. The place past the entries is
+// the search's.
+const TOPS: [u16; LENT] = [
+    0x8000,
+    0x8000,
+    0x8000,
+    0x8000,
+    0x8000,
+    0x8000,
+    0x8000,
+    0x8000,
+    0x8000,
+    0x8000,
+    0x8000,
+    0x8000,
+    0x8000,
+    0x8000,
+    0x8000,
     0x00ff,
-    0x4000,
-    0x4000,
-    0x4000,
-    0x4000,
-    0x4000,
-    0x4000,
-    0x4000,
-    0x4000,
-    0x4000,
-    0x4000,
-    0x4000,
-    0x4000,
-    0x4000,
-    0x4000,
+    0x8000,
+    0x8000,
+    0x8000,
+    0x8000,
+    0x8000,
+    0x8000,
+    0x8000,
+    0x8000,
+    0x8000,
+    0x8000,
+    0x8000,
+    0x8000,
+    0x8000,
+    0x8000,
     0x01ee,
     0x00ff,
-    0x4000,
-    0x4000,
-    0x4000,
-    0x4000,
-    0x4000,
-    0x4000,
-    0x4000,
-    0x4000,
-    0x4000,
-    0x4000,
-    0x4000,
-    0x4000,
-    0x4000,
+    0x8000,
+    0x8000,
+    0x8000,
+    0x8000,
+    0x8000,
+    0x8000,
+    0x8000,
+    0x8000,
+    0x8000,
+    0x8000,
+    0x8000,
+    0x8000,
+    0x8000,
     0x01dd,
-    0x4000,
+    0x8000,
     0x00ff,
-    0x4000,
-    0x4000,
-    0x4000,
-    0x4000,
-    0x4000,
-    0x4000,
-    0x4000,
-    0x4000,
-    0x4000,
-    0x4000,
-    0x4000,
-    0x4000,
+    0x8000,
+    0x8000,
+    0x8000,
+    0x8000,
+    0x8000,
+    0x8000,
+    0x8000,
+    0x8000,
+    0x8000,
+    0x8000,
+    0x8000,
+    0x8000,
     0x00cc,
     0x00cc,
     0x00cc,
     0x00cc,
-    0x4000,
-    0x4000,
-    0x4000,
-    0x4000,
-    0x4000,
-    0x4000,
-    0x4000,
-    0x4000,
-    0x4000,
-    0x4000,
-    0x4000,
+    0x8000,
+    0x8000,
+    0x8000,
+    0x8000,
+    0x8000,
+    0x8000,
+    0x8000,
+    0x8000,
+    0x8000,
+    0x8000,
+    0x8000,
     0x01bb,
-    0x4000,
-    0x4000,
-    0x4000,
+    0x8000,
+    0x8000,
+    0x8000,
     0x00ff,
-    0x4000,
-    0x4000,
-    0x4000,
-    0x4000,
-    0x4000,
-    0x4000,
-    0x4000,
-    0x4000,
-    0x4000,
-    0x4000,
+    0x8000,
+    0x8000,
+    0x8000,
+    0x8000,
+    0x8000,
+    0x8000,
+    0x8000,
+    0x8000,
+    0x8000,
+    0x8000,
     0x00aa,
     0x00aa,
-    0x4000,
-    0x4000,
+    0x8000,
+    0x8000,
     0x00aa,
     0x00aa,
-    0x4000,
-    0x4000,
-    0x4000,
-    0x4000,
-    0x4000,
-    0x4000,
-    0x4000,
-    0x4000,
-    0x4000,
+    0x8000,
+    0x8000,
+    0x8000,
+    0x8000,
+    0x8000,
+    0x8000,
+    0x8000,
+    0x8000,
+    0x8000,
     0x0199,
-    0x4000,
+    0x8000,
     0x0199,
-    0x4000,
+    0x8000,
     0x0199,
-    0x4000,
+    0x8000,
     0x00ff,
-    0x4000,
-    0x4000,
-    0x4000,
-    0x4000,
-    0x4000,
-    0x4000,
-    0x4000,
-    0x4000,
+    0x8000,
+    0x8000,
+    0x8000,
+    0x8000,
+    0x8000,
+    0x8000,
+    0x8000,
+    0x8000,
     0x0188,
     0x0188,
     0x00aa,
@@ -156,117 +157,117 @@ const TOPS: [u16; ENTRIES] = [
     0x00cc,
     0x00aa,
     0x00aa,
-    0x4000,
-    0x4000,
-    0x4000,
-    0x4000,
-    0x4000,
-    0x4000,
-    0x4000,
+    0x8000,
+    0x8000,
+    0x8000,
+    0x8000,
+    0x8000,
+    0x8000,
+    0x8000,
     0x0177,
-    0x4000,
-    0x4000,
-    0x4000,
-    0x4000,
-    0x4000,
-    0x4000,
-    0x4000,
+    0x8000,
+    0x8000,
+    0x8000,
+    0x8000,
+    0x8000,
+    0x8000,
+    0x8000,
     0x00ff,
-    0x4000,
-    0x4000,
-    0x4000,
-    0x4000,
-    0x4000,
-    0x4000,
+    0x8000,
+    0x8000,
+    0x8000,
+    0x8000,
+    0x8000,
+    0x8000,
     0x0166,
     0x0166,
-    0x4000,
-    0x4000,
-    0x4000,
-    0x4000,
-    0x4000,
-    0x4000,
+    0x8000,
+    0x8000,
+    0x8000,
+    0x8000,
+    0x8000,
+    0x8000,
     0x0166,
     0x00ff,
-    0x4000,
-    0x4000,
-    0x4000,
-    0x4000,
-    0x4000,
+    0x8000,
+    0x8000,
+    0x8000,
+    0x8000,
+    0x8000,
     0x0055,
-    0x4000,
+    0x8000,
     0x0055,
-    0x4000,
-    0x4000,
-    0x4000,
-    0x4000,
-    0x4000,
+    0x8000,
+    0x8000,
+    0x8000,
+    0x8000,
+    0x8000,
     0x0055,
-    0x4000,
+    0x8000,
     0x0055,
-    0x4000,
-    0x4000,
-    0x4000,
-    0x4000,
+    0x8000,
+    0x8000,
+    0x8000,
+    0x8000,
     0x0144,
     0x0055,
     0x0144,
     0x0055,
-    0x4000,
-    0x4000,
-    0x4000,
-    0x4000,
+    0x8000,
+    0x8000,
+    0x8000,
+    0x8000,
     0x00cc,
     0x0055,
     0x00cc,
     0x0055,
-    0x4000,
-    0x4000,
-    0x4000,
+    0x8000,
+    0x8000,
+    0x8000,
     0x0133,
-    0x4000,
-    0x4000,
-    0x4000,
+    0x8000,
+    0x8000,
+    0x8000,
     0x0133,
-    0x4000,
-    0x4000,
-    0x4000,
+    0x8000,
+    0x8000,
+    0x8000,
     0x0133,
-    0x4000,
-    0x4000,
-    0x4000,
+    0x8000,
+    0x8000,
+    0x8000,
     0x00ff,
-    0x4000,
-    0x4000,
+    0x8000,
+    0x8000,
     0x0122,
     0x0122,
-    0x4000,
-    0x4000,
+    0x8000,
+    0x8000,
     0x0122,
     0x0122,
-    0x4000,
-    0x4000,
+    0x8000,
+    0x8000,
     0x00aa,
     0x00aa,
-    0x4000,
-    0x4000,
+    0x8000,
+    0x8000,
     0x00aa,
     0x00aa,
-    0x4000,
+    0x8000,
     0x0111,
-    0x4000,
+    0x8000,
     0x0111,
-    0x4000,
+    0x8000,
     0x0055,
-    0x4000,
+    0x8000,
     0x0055,
-    0x4000,
+    0x8000,
     0x0111,
-    0x4000,
+    0x8000,
     0x0111,
-    0x4000,
+    0x8000,
     0x0055,
-    0x4000,
+    0x8000,
     0x0055,
     0x0000,
     0x0000,
@@ -284,10 +285,12 @@ const TOPS: [u16; ENTRIES] = [
     0x0000,
     0x0000,
     0x0000,
+    0,
+    0,
 ];
 
 // A selector, in a rank.
-const NODE: u32 = TABLE_SPACE;
+const NODE: u32 = NARROW_SPACE;
 
 // The quarters' places in a table: digits to the base BLOCK_SPACE.
 const A: u32 = 1;
@@ -323,14 +326,14 @@ const FOUR_TIMES: u32 = TWICE + PLACES * TWICE;
 const EIGHT_TIMES: u32 = (1 + ONE_SPACE) * FOUR_TIMES;
 
 // The table of the best quarters, to be lent to the functions below.
-pub fn tops() -> [u16; ENTRIES]
+pub fn tops() -> [u16; LENT]
     ensures { λ r. ⌜ Tops r ⌝ }
 {
     TOPS
 }
 
 // The best quarter between the masks in the lowest byte of `at`: an entry of the table.
-fn quarter_entry(e: &[u16; ENTRIES], at: u32) -> u32
+fn quarter_entry(e: &[u16; LENT], at: u32) -> u32
     requires { ⌜ Tops (now e) ⌝ }
     ensures { λ r. ⌜ (r ≡ quarterEntryAt at) × (r ≤ noEntry) ⌝ }
 {
@@ -338,7 +341,7 @@ fn quarter_entry(e: &[u16; ENTRIES], at: u32) -> u32
 }
 
 // The same for the quarters of a class, at their places: twice the entry has the quarter four times, and the places are cut out.
-fn class(e: &[u16; ENTRIES], at: u32, places: u32) -> u32
+fn class(e: &[u16; LENT], at: u32, places: u32) -> u32
     requires { ⌜ Tops (now e) × (places ≤ allPlaces) ⌝ }
     ensures { λ r. ⌜ (r ≡ classAt at places) × (r ≤ mostClass) ⌝ }
 {
@@ -347,7 +350,7 @@ fn class(e: &[u16; ENTRIES], at: u32, places: u32) -> u32
 }
 
 // Two classes, of masks x and y at the places i and j.
-fn apart(e: &[u16; ENTRIES], x: u32, y: u32, i: u32, j: u32) -> u32
+fn apart(e: &[u16; LENT], x: u32, y: u32, i: u32, j: u32) -> u32
     requires { ⌜ Tops (now e) × (i ≤ allPlaces) × (j ≤ allPlaces) ⌝ }
     ensures { λ r. ⌜ (r ≡ apartAt x y i j) × (r ≤ 2 * mostClass) ⌝ }
 {
@@ -368,7 +371,7 @@ fn line_rank(x: u32, y: u32, j: u32) -> u32
 }
 
 // The two quarters of a half, of masks x and y at the places i and j: one class, a line, or two classes and a selector.
-fn half(e: &[u16; ENTRIES], x: u32, y: u32, i: u32, j: u32) -> u32
+fn half(e: &[u16; LENT], x: u32, y: u32, i: u32, j: u32) -> u32
     requires { ⌜ Tops (now e) × (i + j ≤ allPlaces) ⌝ }
     ensures { λ r. ⌜ (r ≡ halfAt x y i j) × (r ≤ mostClass) ⌝ }
 {
@@ -379,7 +382,7 @@ fn half(e: &[u16; ENTRIES], x: u32, y: u32, i: u32, j: u32) -> u32
 }
 
 // Equal halves: one class, a line, or two classes and a selector for both halves.
-fn halves_alike(e: &[u16; ENTRIES], a: u32, b: u32, c: u32, d: u32) -> u32
+fn halves_alike(e: &[u16; LENT], a: u32, b: u32, c: u32, d: u32) -> u32
     requires { ⌜ Tops (now e) ⌝ }
     ensures { λ r. ⌜ (r ≡ halvesAlike (classIn (four a b c d)) (lineIn (four a b c d))) × (r ≤ mostClass) ⌝ }
 {
@@ -393,7 +396,7 @@ fn halves_alike(e: &[u16; ENTRIES], a: u32, b: u32, c: u32, d: u32) -> u32
 }
 
 // Halves that share no quarter.
-fn tree_like(e: &[u16; ENTRIES], a: u32, b: u32, c: u32, d: u32) -> u32
+fn tree_like(e: &[u16; LENT], a: u32, b: u32, c: u32, d: u32) -> u32
     requires { ⌜ Tops (now e) ⌝ }
     ensures { λ r. ⌜ r ≡ treeLike (classIn (four a b c d)) (lineIn (four a b c d)) ⌝ }
 {
@@ -401,7 +404,7 @@ fn tree_like(e: &[u16; ENTRIES], a: u32, b: u32, c: u32, d: u32) -> u32
 }
 
 // Three quarters alike: a selector for the half that has the fourth.
-fn three_alike(e: &[u16; ENTRIES], a: u32, b: u32, c: u32, d: u32) -> u32
+fn three_alike(e: &[u16; LENT], a: u32, b: u32, c: u32, d: u32) -> u32
     requires { ⌜ Tops (now e) ⌝ }
     ensures { λ r. ⌜ r ≡ threeAlike (classIn (four a b c d)) ⌝ }
 {
@@ -417,7 +420,7 @@ fn three_alike(e: &[u16; ENTRIES], a: u32, b: u32, c: u32, d: u32) -> u32
 }
 
 // The first quarter of one half is the second of the other.
-fn crossed(e: &[u16; ENTRIES], a: u32, b: u32, c: u32, d: u32) -> u32
+fn crossed(e: &[u16; LENT], a: u32, b: u32, c: u32, d: u32) -> u32
     requires { ⌜ Tops (now e) ⌝ }
     ensures { λ r. ⌜ (r ≡ crossedAlike (classIn (four a b c d))) × (r ≤ 3 * mostClass) ⌝ }
 {
@@ -430,7 +433,7 @@ fn crossed(e: &[u16; ENTRIES], a: u32, b: u32, c: u32, d: u32) -> u32
 }
 
 // The halves have their first quarter in common, or their second.
-fn beside(e: &[u16; ENTRIES], a: u32, b: u32, c: u32, d: u32) -> u32
+fn beside(e: &[u16; LENT], a: u32, b: u32, c: u32, d: u32) -> u32
     requires { ⌜ Tops (now e) ⌝ }
     ensures { λ r. ⌜ (r ≡ besideAlike (classIn (four a b c d))) × (r ≤ 3 * mostClass) ⌝ }
 {
@@ -441,7 +444,7 @@ fn beside(e: &[u16; ENTRIES], a: u32, b: u32, c: u32, d: u32) -> u32
 }
 
 // A quarter of one half is a quarter of the other, and both halves need a selector.
-fn across_alike(e: &[u16; ENTRIES], a: u32, b: u32, c: u32, d: u32) -> u32
+fn across_alike(e: &[u16; LENT], a: u32, b: u32, c: u32, d: u32) -> u32
     requires { ⌜ Tops (now e) ⌝ }
     ensures { λ r. ⌜ r ≡ acrossAlike (classIn (four a b c d)) ⌝ }
 {
@@ -450,7 +453,7 @@ fn across_alike(e: &[u16; ENTRIES], a: u32, b: u32, c: u32, d: u32) -> u32
 
 // The least over the fifteen ways in which the quarters of a pair coincide and over the lines, with no selectors on input 4 counted. Where both halves have
 // the same masks, equal halves are the best: so it is with every pair of fewer than four inputs, repeated.
-fn way(e: &[u16; ENTRIES], pair: u32) -> u32
+fn way(e: &[u16; LENT], pair: u32) -> u32
     requires { ⌜ Tops (now e) ⌝ }
     ensures { λ r. ⌜ (r ≡ wayOf pair) × (r ≤ mostClass) ⌝ }
 {
@@ -479,7 +482,7 @@ fn no_inverted(pair: u32) -> u32
 
 // Four inputs: the least without the inverse of input 4 and with it, which is a selector. What counts for none is less than anything with that selector, so the
 // second turn is for others alone. The two turns stand in a loop, so that the compiled pick stays a function of its own.
-fn pick4(e: &[u16; ENTRIES], pair: u32) -> u32
+fn pick4(e: &[u16; LENT], pair: u32) -> u32
     requires { ⌜ Tops (now e) × Covered 4 (zerosIn pair) (onesIn pair) ⌝ }
     ensures { λ r. ⌜ r ≡ rank (nodes 4) (pickOf (nodes 4) 4 (zerosIn pair) (onesIn pair)) ⌝ }
 {
@@ -498,23 +501,23 @@ fn pick4(e: &[u16; ENTRIES], pair: u32) -> u32
 
 // The rank of the pick between the two masks of a pair, among the tables of n inputs. Fewer than four inputs are looked up as four: the masks of a pair
 // repeated have the pick repeated.
-pub fn pick_shared(e: &[u16; ENTRIES], n: u8, pair: u32) -> u32
-    requires { ⌜ Tops (now e) × (1 ≤ n) × (n ≤ maxInputs) × (zerosIn pair < 2 ^ (2 ^ n)) × (onesIn pair < 2 ^ (2 ^ n))
+pub fn pick_shared(e: &[u16; LENT], n: u8, pair: u32) -> u32
+    requires { ⌜ Tops (now e) × (1 ≤ n) × (n ≤ maxSharedInputs) × (zerosIn pair < 2 ^ (2 ^ n)) × (onesIn pair < 2 ^ (2 ^ n))
         × Covered n (zerosIn pair) (onesIn pair) ⌝ }
     ensures { λ r. ⌜ r ≡ rank (nodes n) (pickOf (nodes n) n (zerosIn pair) (onesIn pair)) ⌝ }
 {
     match n {
         1 => {
             let x = pick4(e, pair * EIGHT_TIMES);
-            x / TABLE_SPACE * TABLE_SPACE + x % ONE_SPACE
+            x / NARROW_SPACE * NARROW_SPACE + x % ONE_SPACE
         }
         2 => {
             let x = pick4(e, pair * FOUR_TIMES);
-            x / TABLE_SPACE * TABLE_SPACE + x % BLOCK_SPACE
+            x / NARROW_SPACE * NARROW_SPACE + x % BLOCK_SPACE
         }
         3 => {
             let x = pick4(e, pair * TWICE);
-            x / TABLE_SPACE * TABLE_SPACE + x % THREE_SPACE
+            x / NARROW_SPACE * NARROW_SPACE + x % THREE_SPACE
         }
         _ => pick4(e, pair),
     }

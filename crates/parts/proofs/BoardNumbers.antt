@@ -1,72 +1,129 @@
 -- Laws of the number of a board.
-use Prim.Native.Nat.{ℕ, _-_, _*_, _^_, _<_, _≤_}
-use mathlib.Core.Path.{_≡_, subst, sym}
+use Prim.Native.Nat.{ℕ, _+_, _*_, _<_, _≤_}
+use mathlib.Core.Path.{_≡_, refl, sym, ap, ap₂, subst, _∙_}
+use mathlib.Core.Logic.{_⊎_, inl, inr, ⊎-elim}
 use mathlib.Core.List.{List}
 use native.Mathlib.Omega.{arith}
-use borrow.Author.Tests.{lt-ltb, le-ltb}
-use Rattle.sheet.specs.Limits.{maxInputs}
+use lib.Dec.{leb, leb→le, nleb→lt}
+use lib.ListN.{length, set, length-set}
+use lib.Seq.{getD-set-same, getD-set-other}
+use borrow.Author.Tests.{lt-ltb, le-ltb, le-leb, lt-leb}
+use Rattle.base.proofs.Tests.{decide}
 use Rattle.nodes.specs.declared.BoardKind.{BoardKind}
 use Rattle.nodes.specs.declared.BoardKind.the-variants.{Tree, Sharing}
-use Rattle.table.specs.Inner.Blocks.{Blocks, Covered}
-use Rattle.table.specs.Inner.Pairs.{zerosIn, onesIn}
-use Rattle.nodes.specs.Inner.Tops.{Tops}
-use Rattle.parts.specs.Inner.Pairs.{Covers}
-use Rattle.parts.specs.Inner.Boards.{sharingMark, boardNumber, kindIn, boardInputs, LentFor, Lent}
+use Rattle.nodes.specs.Counts.{mostInputs}
+use Rattle.table.specs.Inner.Pairs.{blockSpace, narrowInputs}
+use Rattle.table.specs.Inner.Blocks.{entries, BestBlocks}
+use Rattle.parts.specs.Inner.Boards.{sharingMark, wideMark, boardNumber, kindIn, boardInputs, boardIn, lentKind, lentInputs, lentWires, LentFor, Lent}
 
--- below the mark, the number is the inputs of the board of trees
-module _ (board : ℕ) (low : board < sharingMark) where
-  pub tree-kind : kindIn board ≡ Tree
-  unfolding kindIn
-  tree-kind = rw (lt-ltb board sharingMark low)
+-- the kind by the marks
+below-kind : (board : ℕ) → board < sharingMark → kindIn board ≡ Tree
+unfolding kindIn
+below-kind board l = rw (lt-ltb board sharingMark l)
 
-  pub tree-inputs : boardInputs board ≡ board
-  unfolding boardInputs
-  tree-inputs = omega arith
+between-kind : (board : ℕ) → sharingMark ≤ board → board < wideMark → kindIn board ≡ Sharing
+unfolding kindIn
+between-kind board l h = rw (le-ltb board sharingMark l, lt-ltb board wideMark h)
 
--- from the mark on, the other board's
-module _ (board : ℕ) (high : sharingMark ≤ board) where
-  pub sharing-kind : kindIn board ≡ Sharing
-  unfolding kindIn
-  sharing-kind = rw (le-ltb board sharingMark high)
+above-kind : (board : ℕ) → wideMark ≤ board → kindIn board ≡ Tree
+unfolding kindIn
+above-kind board l = rw (le-ltb board sharingMark (omega arith), le-ltb board wideMark l)
 
-  pub sharing-inputs : board < 2 * sharingMark → boardInputs board ≡ board - sharingMark
-  unfolding boardInputs
-  sharing-inputs h = omega arith
+-- the number of a board of trees, by its inputs
+pub narrow-number : (n : ℕ) → n ≤ narrowInputs → boardNumber Tree n ≡ n
+unfolding boardNumber
+narrow-number n l = rw (le-leb n narrowInputs l)
+
+pub wide-number : (n : ℕ) → narrowInputs < n → boardNumber Tree n ≡ wideMark + n
+unfolding boardNumber
+wide-number n l = rw (lt-leb n narrowInputs l)
+
+narrow-or-wide : (n : ℕ) → (n ≤ narrowInputs) ⊎ (narrowInputs < n)
+narrow-or-wide n = ⊎-elim (λ t. inl (leb→le n narrowInputs t)) (λ t. inr (nleb→lt n narrowInputs t)) (decide (leb n narrowInputs))
 
 -- a number tells its board and inputs
-pub number-kind : (kind : BoardKind) (n : ℕ) → n ≤ maxInputs → kindIn (boardNumber kind n) ≡ kind
+pub number-kind : (kind : BoardKind) (n : ℕ) → n ≤ mostInputs kind → kindIn (boardNumber kind n) ≡ kind
 unfolding boardNumber
-number-kind Tree n h = tree-kind n (omega arith)
-number-kind Sharing n h = sharing-kind (boardNumber Sharing n) (omega arith)
+number-kind Tree n h =
+    ⊎-elim
+    (λ l. ap kindIn (narrow-number n l) ∙ below-kind n (omega arith))
+    (λ l. ap kindIn (wide-number n l) ∙ above-kind (wideMark + n) (omega arith))
+    (narrow-or-wide n)
+number-kind Sharing n h = between-kind (boardNumber Sharing n) (omega arith) (omega arith)
 
-pub number-inputs : (kind : BoardKind) (n : ℕ) → n ≤ maxInputs → boardInputs (boardNumber kind n) ≡ n
+pub number-inputs : (kind : BoardKind) (n : ℕ) → n ≤ mostInputs kind → boardInputs (boardNumber kind n) ≡ n
 unfolding boardNumber boardInputs
-number-inputs Tree n h = omega arith
+number-inputs Tree n h =
+    ⊎-elim (λ l. omega (arith, narrow-number n l)) (λ l. omega (arith, wide-number n l)) (narrow-or-wide n)
 number-inputs Sharing n h = omega arith
 
-number-inside : (kind : BoardKind) (n : ℕ) → n ≤ maxInputs → boardNumber kind n < 2 * sharingMark
+-- the numbers that are marked wide are those of trees with more inputs than are narrow, and only they; below stand the other board's, and the other trees'
+pub number-wide : (kind : BoardKind) (n board : ℕ) → board ≡ boardNumber kind n → n ≤ mostInputs kind → wideMark ≤ board
+    → (kind ≡ Tree) × (board ≡ wideMark + n) × (narrowInputs < n)
 unfolding boardNumber
-number-inside Tree n h = omega arith
-number-inside Sharing n h = omega arith
+number-wide Tree n board e h l =
+    ⊎-elim (λ g. absurd (omega (arith, e, narrow-number n g))) (λ g. (refl, e ∙ wide-number n g, g)) (narrow-or-wide n)
+number-wide Sharing n board e h l = absurd (omega arith)
 
-pub number-lent : (kind : BoardKind) (n : ℕ) (e : List ℕ) → n ≤ maxInputs → LentFor kind e → Lent (boardNumber kind n) e
-number-lent kind n e h t = record { inside = number-inside kind n h; table = subst (λ k. LentFor k e) (sym (number-kind kind n h)) t }
+pub number-shares : (kind : BoardKind) (n board : ℕ) → board ≡ boardNumber kind n → n ≤ mostInputs kind → sharingMark ≤ board → board < wideMark
+    → (kind ≡ Sharing) × (board ≡ sharingMark + n)
+unfolding boardNumber
+number-shares Tree n board e h l u =
+    ⊎-elim (λ g. absurd (omega (arith, e, narrow-number n g))) (λ g. absurd (omega (arith, e, wide-number n g))) (narrow-or-wide n)
+number-shares Sharing n board e h l u = (refl, e)
 
--- what a board's own pick asks
-abbrev Asked : (board : ℕ) (e : List ℕ) (pair : ℕ) → Type 0
-Asked board e pair = Lent board e × (1 ≤ boardInputs board) × (boardInputs board ≤ maxInputs) × Covers (boardInputs board) pair
+pub number-narrow : (kind : BoardKind) (n board : ℕ) → board ≡ boardNumber kind n → n ≤ mostInputs kind → board < sharingMark
+    → (kind ≡ Tree) × (board ≡ n) × (n ≤ narrowInputs)
+unfolding boardNumber
+number-narrow Tree n board e h l =
+    ⊎-elim (λ g. (refl, e ∙ narrow-number n g, g)) (λ g. absurd (omega (arith, e, wide-number n g))) (narrow-or-wide n)
+number-narrow Sharing n board e h l = absurd (omega arith)
 
-abbrev Given : (table : Type 0) (n pair : ℕ) → Type 0
-Given table n pair = table × (1 ≤ n) × (n ≤ maxInputs) × (zerosIn pair < 2 ^ (2 ^ n)) × (onesIn pair < 2 ^ (2 ^ n)) × Covered n (zerosIn pair) (onesIn pair)
+-- every number is a byte
+pub number-small : (kind : BoardKind) (n : ℕ) → n ≤ mostInputs kind → boardNumber kind n < 2 * wideMark
+unfolding boardNumber
+number-small Tree n h = ⊎-elim (λ l. omega (arith, narrow-number n l)) (λ l. omega (arith, wide-number n l)) (narrow-or-wide n)
+number-small Sharing n h = omega arith
 
-given : (e : List ℕ) (kind : BoardKind) (n board pair : ℕ) → kindIn board ≡ kind → boardInputs board ≡ n → Asked board e pair → Given (LentFor kind e) n pair
-given e kind n board pair ek en a =
-    let h : Given (LentFor (kindIn board) e) (boardInputs board) pair = (a .0 .table, a .1, a .2, a .3 .zeros-fit, a .3 .ones-fit, a .3 .covered) in
-    subst (λ m. Given (LentFor kind e) m pair) en (subst (λ k. Given (LentFor k e) (boardInputs board) pair) ek h)
+-- a table that has a board's number is lent for that board
+module _ (kind : BoardKind) (n : ℕ) (most : n ≤ mostInputs kind) (e : List ℕ) (at : boardIn e ≡ boardNumber kind n) where
+  pub lent-kind : lentKind e ≡ kind
+  lent-kind = ap kindIn at ∙ number-kind kind n most
 
-pub tree-asked : (board : ℕ) (e : List ℕ) (pair : ℕ) → board < sharingMark → Asked board e pair → Given (Blocks e) board pair
-tree-asked board e pair l a = given e Tree board board pair (tree-kind board l) (tree-inputs board l) a
+  pub lent-inputs : lentInputs e ≡ n
+  lent-inputs = ap boardInputs at ∙ number-inputs kind n most
 
-pub sharing-asked : (board : ℕ) (e : List ℕ) (pair : ℕ) → sharingMark ≤ board → Asked board e pair → Given (Tops e) (board - sharingMark) pair
-sharing-asked board e pair l a =
-    given e Sharing (board - sharingMark) board pair (sharing-kind board l) (sharing-inputs board l (a .0 .inside)) a
+  pub lent : 1 ≤ n → LentFor kind e → Lent e
+  lent least t =
+      record {
+        number = at ∙ sym (ap₂ boardNumber lent-kind lent-inputs);
+        least = rw lent-inputs least;
+        most = rw (lent-kind, lent-inputs) most;
+        table = subst (λ k. LentFor k e) (sym lent-kind) t;
+      }
+
+-- the number of the board and that of the wires are put behind the entries, and these stay
+module _ (e : List ℕ) (board wires : ℕ) where
+  abbrev pub marked : List ℕ
+  marked = set (set e entries board) (entries + 1) wires
+
+  pub marked-board : entries < length e → boardIn marked ≡ board
+  unfolding boardIn
+  marked-board l = getD-set-other (set e entries board) (entries + 1) entries wires 0 (λ d. omega arith) ∙ getD-set-same e entries board 0 l
+
+  pub marked-wires : entries + 1 < length e → lentWires marked ≡ wires
+  unfolding lentWires
+  marked-wires l = getD-set-same (set e entries board) (entries + 1) wires 0 (rw (length-set e entries board) l)
+
+  marked-blocks : (count : ℕ → ℕ) → BestBlocks count e → BestBlocks count marked
+  marked-blocks count b =
+      record {
+        entry = λ zeros ones lz lo.
+            let k = zeros * blockSpace + ones in
+            let l : k < entries = omega arith in
+            getD-set-other (set e entries board) (entries + 1) k wires 0 (λ d. omega arith) ∙ getD-set-other e entries k board 0 (λ d. omega arith) ∙ b .entry zeros ones lz lo;
+      }
+
+  pub marked-entries : (kind : BoardKind) → LentFor kind e → LentFor kind marked
+  marked-entries Tree b = marked-blocks _ b
+  marked-entries Sharing b = marked-blocks _ b

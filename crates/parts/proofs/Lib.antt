@@ -1,8 +1,13 @@
 pub mod BoardNumbers
-pub mod Packing
-pub mod Changes
+pub mod Differences
 pub mod PairBits
-pub mod PairSums
 pub mod PairCuts
+pub mod WordSums
+pub mod CellBytes
+pub mod WordRows
+pub mod WordMasks
+pub mod WordCuts
 pub mod Keeping
 pub mod Narrowing
+pub mod LentPicks
+pub mod StateRoom

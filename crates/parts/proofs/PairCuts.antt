@@ -2,35 +2,30 @@
 use Prim.Native.Nat.{ℕ, suc, _+_, _*_, _-_, _^_, _/_, _%_, _<_, _≤_}
 use mathlib.Core.Path.{_≡_, refl, sym, ap, ap₂, _∙_}
 use mathlib.Core.Bool.{Bool, true, false, cond, not}
-use mathlib.Core.List.{List}
 use native.Mathlib.Omega.{arith}
 use native.Mathlib.Nat.{mul-le-mul-right, add-mul, add-zero, mod-eq-of-lt, mod-lt, div-add-mod', div-div-eq-div-mul}
 use lib.Bits.{bitAnd, and-mask, and-zero-r, and-block}
 use lib.Dec.{eqb}
-use lib.ListN.{length, getD}
 use lib.Pow.{pow-mono, pow-pos, pow-add}
 use Rattle.base.proofs.Tests.{cond-has, eqb-yes, eqb-not}
-use Rattle.sheet.specs.Limits.{maxWires, maxPatterns, maxValues}
+use Rattle.sheet.specs.Limits.{maxWires}
 use Rattle.table.specs.Bits.{bit, sum, ofBits, isOne}
-use Rattle.table.specs.Inner.Pairs.{blockPatterns, upperHalf, pairBits, seat, zerosIn, onesIn, paired}
+use Rattle.table.specs.Inner.Pairs.{narrowPatterns, blockPatterns, upperHalf, pairBits, seat, zerosIn, onesIn, paired}
 use Rattle.table.proofs.Pairs.{ones-at, zeros-at, ones-lt, zeros-lt}
-use Rattle.table.proofs.Bits.{sum-cong, sum-but-one, bit-lt, bit-ofBits, ofBits-bit}
+use Rattle.table.proofs.Bits.{sum-cong, sum-but-one, bit-lt, bit-ofBits, ofBits-lt, ofBits-bit}
 use Rattle.table.proofs.BitColumns.{isOne-lt-two}
 use Rattle.relation.specs.Tests.{occurs}
-use Rattle.relation.specs.Inner.Members.{member, withBit}
-use Rattle.relation.specs.Inner.Narrowed.{narrowed}
+use Rattle.relation.specs.Inner.Members.{member}
 use Rattle.relation.specs.Inner.Masks.{cut}
-use Rattle.relation.proofs.Masks.{mask-narrowed}
-use Rattle.parts.specs.Inner.Pairs.{bothSides, pairOf, lostOf, cutPair}
+use Rattle.parts.specs.Inner.Pairs.{bothSides, lostOf, cutPair}
 use Rattle.parts.proofs.PairBits.{paired-back}
-use Rattle.parts.proofs.PairSums.{pair-zeros, pair-ones}
 
--- a mask without a pattern, bit by bit
-module _ (x p : ℕ) (d : Bool) (lx : x < 2 ^ maxPatterns) (lp : p < maxPatterns) where
-  left : ℕ → ℕ
+-- a mask of k patterns without one of them, bit by bit
+module _ (k x p : ℕ) (d : Bool) (lx : x < 2 ^ k) (lp : p < k) where
+  pub left : ℕ → ℕ
   left q = cond (eqb q p) (bit x q * isOne d) (bit x q)
 
-  left-lt : (q : ℕ) → left q < 2
+  pub left-lt : (q : ℕ) → left q < 2
   unfolding left isOne
   left-lt q =
       cond-has (λ y. y < 2) (eqb q p) (λ _. small d) (λ _. bit-lt x q)
@@ -39,27 +34,30 @@ module _ (x p : ℕ) (d : Bool) (lx : x < 2 ^ maxPatterns) (lp : p < maxPatterns
       small true = omega (arith, bit-lt x q)
       small false = omega arith
 
-  left-at : left p ≡ bit x p * isOne d
+  pub left-at : left p ≡ bit x p * isOne d
   unfolding left
   left-at = eqb-yes p p (bit x p * isOne d) (bit x p) refl
 
-  left-off : (q : ℕ) → (q ≡ p → ⊥) → left q ≡ bit x q
+  pub left-off : (q : ℕ) → (q ≡ p → ⊥) → left q ≡ bit x q
   unfolding left
   left-off q ne = eqb-not q p (bit x q * isOne d) (bit x q) ne
 
-  cut-left : cut x p d ≡ ofBits maxPatterns left
+  cut-left : cut x p d ≡ ofBits k left
   unfolding ofBits cut isOne
   cut-left =
-      go d left-at (sum-but-one (λ q. left q * 2 ^ q) (λ q. bit x q * 2 ^ q) maxPatterns p lp (λ q ne. ap (λ y. y * 2 ^ q) (left-off q ne)))
+      go d left-at (sum-but-one (λ q. left q * 2 ^ q) (λ q. bit x q * 2 ^ q) k p lp (λ q ne. ap (λ y. y * 2 ^ q) (left-off q ne)))
     where
       go : (e : Bool) → left p ≡ bit x p * isOne e
-          → sum maxPatterns (λ q. left q * 2 ^ q) + bit x p * 2 ^ p ≡ sum maxPatterns (λ q. bit x q * 2 ^ q) + left p * 2 ^ p
-          → cut x p e ≡ sum maxPatterns (λ q. left q * 2 ^ q)
-      go true a s = let w : left p * 2 ^ p ≡ bit x p * 2 ^ p = ap (λ y. y * 2 ^ p) (a ∙ omega arith) in omega (arith, ofBits-bit maxPatterns x lx)
-      go false a s = let w : left p * 2 ^ p ≡ 0 * 2 ^ p = ap (λ y. y * 2 ^ p) (a ∙ omega arith) in omega (arith, ofBits-bit maxPatterns x lx)
+          → sum k (λ q. left q * 2 ^ q) + bit x p * 2 ^ p ≡ sum k (λ q. bit x q * 2 ^ q) + left p * 2 ^ p
+          → cut x p e ≡ sum k (λ q. left q * 2 ^ q)
+      go true a s = let w : left p * 2 ^ p ≡ bit x p * 2 ^ p = ap (λ y. y * 2 ^ p) (a ∙ omega arith) in omega (arith, ofBits-bit k x lx)
+      go false a s = let w : left p * 2 ^ p ≡ 0 * 2 ^ p = ap (λ y. y * 2 ^ p) (a ∙ omega arith) in omega (arith, ofBits-bit k x lx)
 
-  cut-bit : (q : ℕ) → q < maxPatterns → bit (cut x p d) q ≡ left q
-  cut-bit q l = ap (λ y. bit y q) cut-left ∙ bit-ofBits left maxPatterns (λ i _. left-lt i) q l
+  pub cut-lt : cut x p d < 2 ^ k
+  cut-lt = rw cut-left (ofBits-lt left k (λ i _. left-lt i))
+
+  pub cut-bit : (q : ℕ) → q < k → bit (cut x p d) q ≡ left q
+  cut-bit q l = ap (λ y. bit y q) cut-left ∙ bit-ofBits left k (λ i _. left-lt i) q l
 
 -- what is seat-shifted to a seat stays within the number
 pub seat-shifted : (x s : ℕ) → x ≤ bothSides → s + blockPatterns < pairBits → x * 2 ^ s % 2 ^ pairBits ≡ x * 2 ^ s
@@ -114,23 +112,23 @@ unfolding isOne
 parted y true = omega arith
 parted y false = omega arith
 
-module _ (zeros ones p : ℕ) (d₀ d₁ : Bool) (lz : zeros < 2 ^ maxPatterns) (lo : ones < 2 ^ maxPatterns) (lp : p < maxPatterns) where
+module _ (zeros ones p : ℕ) (d₀ d₁ : Bool) (lz : zeros < 2 ^ narrowPatterns) (lo : ones < 2 ^ narrowPatterns) (lp : p < narrowPatterns) where
   after : ℕ → ℕ
-  after q = (left ones p d₁ lo lp q + upperHalf * left zeros p d₀ lz lp q) * 2 ^ seat q
+  after q = (left narrowPatterns ones p d₁ lo lp q + upperHalf * left narrowPatterns zeros p d₀ lz lp q) * 2 ^ seat q
 
   before : ℕ → ℕ
   before q = (bit ones q + upperHalf * bit zeros q) * 2 ^ seat q
 
   after-off : (q : ℕ) → (q ≡ p → ⊥) → after q ≡ before q
   unfolding after before
-  after-off q ne = ap₂ (λ x y. (x + upperHalf * y) * 2 ^ seat q) (left-off ones p d₁ lo lp q ne) (left-off zeros p d₀ lz lp q ne)
+  after-off q ne = ap₂ (λ x y. (x + upperHalf * y) * 2 ^ seat q) (left-off narrowPatterns ones p d₁ lo lp q ne) (left-off narrowPatterns zeros p d₀ lz lp q ne)
 
-  after-sum : paired (cut zeros p d₀) (cut ones p d₁) ≡ sum maxPatterns after
+  after-sum : paired (cut zeros p d₀) (cut ones p d₁) ≡ sum narrowPatterns after
   unfolding paired after
   after-sum =
-      sum-cong maxPatterns (λ q. (bit (cut ones p d₁) q + upperHalf * bit (cut zeros p d₀) q) * 2 ^ seat q)
-      (λ q. (left ones p d₁ lo lp q + upperHalf * left zeros p d₀ lz lp q) * 2 ^ seat q)
-      (λ q l. ap₂ (λ x y. (x + upperHalf * y) * 2 ^ seat q) (cut-bit ones p d₁ lo lp q l) (cut-bit zeros p d₀ lz lp q l))
+      sum-cong narrowPatterns (λ q. (bit (cut ones p d₁) q + upperHalf * bit (cut zeros p d₀) q) * 2 ^ seat q)
+      (λ q. (left narrowPatterns ones p d₁ lo lp q + upperHalf * left narrowPatterns zeros p d₀ lz lp q) * 2 ^ seat q)
+      (λ q l. ap₂ (λ x y. (x + upperHalf * y) * 2 ^ seat q) (cut-bit narrowPatterns ones p d₁ lo lp q l) (cut-bit narrowPatterns zeros p d₀ lz lp q l))
 
   paired-cut : paired (cut zeros p d₀) (cut ones p d₁)
       ≡ paired zeros ones - (bit ones p * isOne (not d₁) + upperHalf * (bit zeros p * isOne (not d₀))) * 2 ^ seat p
@@ -141,13 +139,13 @@ module _ (zeros ones p : ℕ) (d₀ d₁ : Bool) (lz : zeros < 2 ^ maxPatterns) 
       let b = bit ones p * isOne (not d₁) + upperHalf * (bit zeros p * isOne (not d₀)) in
       let s : bit ones p + upperHalf * bit zeros p ≡ a + b = omega (arith, parted (bit ones p) d₁, parted (bit zeros p) d₀) in
       let was : before p ≡ a * k + b * k = ap (λ z. z * k) s ∙ add-mul a b k in
-      let is : after p ≡ a * k = ap₂ (λ x y. (x + upperHalf * y) * k) (left-at ones p d₁ lo lp) (left-at zeros p d₀ lz lp) in
-      let t : sum maxPatterns after + before p ≡ sum maxPatterns before + after p = sum-but-one after before maxPatterns p lp after-off in
-      let e : sum maxPatterns after ≡ sum maxPatterns before - b * k = omega arith in
+      let is : after p ≡ a * k = ap₂ (λ x y. (x + upperHalf * y) * k) (left-at narrowPatterns ones p d₁ lo lp) (left-at narrowPatterns zeros p d₀ lz lp) in
+      let t : sum narrowPatterns after + before p ≡ sum narrowPatterns before + after p = sum-but-one after before narrowPatterns p lp after-off in
+      let e : sum narrowPatterns after ≡ sum narrowPatterns before - b * k = omega arith in
       after-sum ∙ e
 
 -- what the code takes off is what the masks lose
-pub cut-taken : (x p w j : ℕ) {l s : ℕ} → x < 2 ^ pairBits → p < maxPatterns → l ≡ lostOf w j → s ≡ seat p
+pub cut-taken : (x p w j : ℕ) {l s : ℕ} → x < 2 ^ pairBits → p < narrowPatterns → l ≡ lostOf w j → s ≡ seat p
     → x - bitAnd x (l * 2 ^ s) ≡ cutPair x p w j
 unfolding cutPair
 cut-taken x p w j {l} {s} lx lp el es =
@@ -158,12 +156,3 @@ cut-taken x p w j {l} {s} lx lp el es =
     ∙ ap₂ (λ y z. (y * isOne t + upperHalf * (z * isOne u)) * 2 ^ seat p) (sym (ones-at x p lp)) (sym (zeros-at x p lp)))
     ∙ ap (λ y. y - (bit (onesIn x) p * isOne t + upperHalf * (bit (zerosIn x) p * isOne u)) * 2 ^ seat p) (sym (paired-back x lx))
     ∙ sym (paired-cut (zerosIn x) (onesIn x) p (occurs maxWires (member w) j 0) (occurs maxWires (member w) j 1) (zeros-lt x) (ones-lt x) lp)
-
-pub pair-cut : (sets : List ℕ) (p j b i : ℕ) → p < maxPatterns → length sets ≡ maxPatterns → getD sets p 0 < 2 ^ maxValues
-    → pairOf (narrowed sets p j b) i ≡ cutPair (pairOf sets i) p (withBit (getD sets p 0) j b) i
-unfolding pairOf cutPair
-pair-cut sets p j b i lp long small =
-    let w = withBit (getD sets p 0) j b in
-    ap₂ paired
-    (mask-narrowed sets p j b i 0 lp long small ∙ ap (λ x. cut x p (occurs maxWires (member w) i 0)) (sym (pair-zeros sets i)))
-    (mask-narrowed sets p j b i 1 lp long small ∙ ap (λ x. cut x p (occurs maxWires (member w) i 1)) (sym (pair-ones sets i)))

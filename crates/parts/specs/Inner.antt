@@ -1,6 +1,9 @@
 -- Meanings that only inner functions use: no public contract reaches them.
-pub mod Ranks
-pub mod Changes
-pub mod Pairs
 pub mod Boards
+pub mod Pairs
+pub mod Words
+pub mod Cells
+pub mod Picks
 pub mod Parts
+pub mod States
+pub mod Changes

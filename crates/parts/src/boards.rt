@@ -1,26 +1,25 @@
-// A board and its inputs as one number, and picks by it: the only place where the search looks at the board that it is made for, but for its entry, where the
-// table is lent that picks on the board are made from.
-// Inner functions: the parts and the first answer meet what they require.
+// A board and its inputs as one number: the search looks at its board by it alone, but for its entry, where the table is lent that picks on the board are
+// made from.
 use nodes::BoardKind;
-use nodes::picks::pick_shared;
-use table::picks::ENTRIES;
-use table::picks::pick;
+use table::picks::NARROW_INPUTS;
 ghost use mathlib.Core.Path.{_≡_};
-ghost use Prim.Native.Nat.{_<_, _≤_};
-ghost use Rattle.sheet.specs.Limits.{maxInputs};
-ghost use Rattle.parts.specs.Inner.Boards.{boardNumber, kindIn, boardInputs, Lent};
-ghost use Rattle.parts.specs.Inner.Pairs.{Covers};
-ghost use Rattle.parts.specs.Inner.Parts.{rankBetween};
+ghost use Prim.Native.Nat.{_≤_};
+ghost use lib.Dec.{leb};
+ghost use Rattle.nodes.specs.Counts.{mostInputs};
+ghost use Rattle.parts.specs.Inner.Boards.{wideMark, boardNumber, boardInputs};
 
 // What marks the board that shares: above the inputs of every board.
-const SHARING: u8 = 8;
+pub const SHARING: u8 = 8;
+
+// What marks a board of trees with more inputs than the masks of one number have: above every number of the other boards.
+pub const WIDE: u8 = 16;
 
 pub fn board_of(kind: BoardKind, n: u8) -> u8
-    requires { ⌜ n ≤ maxInputs ⌝ }
+    requires { ⌜ n ≤ mostInputs kind ⌝ }
     ensures { λ r. ⌜ r ≡ boardNumber kind n ⌝ }
 {
     match kind {
-        BoardKind::Tree => n,
+        BoardKind::Tree => { if n <= NARROW_INPUTS { n } else { WIDE + n } }
         BoardKind::Sharing => SHARING + n,
     }
 }
@@ -31,14 +30,8 @@ pub fn inputs_of(board: u8) -> u8
     board % SHARING
 }
 
-// The rank of the pick between the two masks of a pair.
-pub fn pick_on(e: &[u16; ENTRIES], board: u8, pair: u32) -> u32
-    requires { ⌜ Lent board (now e) × (1 ≤ boardInputs board) × (boardInputs board ≤ maxInputs) × Covers (boardInputs board) pair ⌝ }
-    ensures { λ r. ⌜ r ≡ rankBetween (kindIn board) (boardInputs board) pair ⌝ }
+pub fn is_wide(board: u8) -> bool
+    ensures { λ r. ⌜ r ≡ leb wideMark board ⌝ }
 {
-    if board < SHARING {
-        pick(e, board, pair)
-    } else {
-        pick_shared(e, board - SHARING, pair)
-    }
+    WIDE <= board
 }

@@ -1,17 +1,26 @@
-// The two masks of a wire in one number: where it can be 0 and where it can be 1 (the projection of the relation on the wire). A pattern's two bits stand
-// four apart, and each byte is the place of a block in the table that picks are made from. No step here branches: what occurs is not to be foretold.
-// Inner functions: the parts and the first answer meet what they require.
+// The two masks of a wire: where it can be 0 and where it can be 1 (the projection of the relation on the wire). A pair is both masks on one section of the
+// patterns in one number: a pattern's two bits stand four apart, and each byte is the place of a block in the table that picks are made from. The words are
+// the pairs of all sections, one after the other, and in each section those of all wires. No step here branches: what occurs is not to be foretold.
+// Inner functions: the picks, the first answer and the search meet what they require.
 use relation::values::has;
 use sheet::Sheet;
 use sheet::limits::patterns_of;
 use table::picks::BLOCK_PATTERNS;
+use table::picks::NARROW_PATTERNS;
 ghost use mathlib.Core.Path.{_≡_};
-ghost use Prim.Native.Nat.{_+_, _*_, _<_, _≤_, _^_};
+ghost use Prim.Native.Nat.{_+_, _*_, _/_, _%_, _<_, _≤_, _^_};
+ghost use lib.ListN.{length, set as put};
 ghost use Rattle.sheet.specs.Limits.{maxInputs, maxWires, maxPatterns};
-ghost use Rattle.table.specs.Inner.Pairs.{blockPatterns, pairBits, seat};
+ghost use Rattle.table.specs.Inner.Pairs.{narrowPatterns, blockPatterns, pairBits, seat};
 ghost use Rattle.table.specs.Bits.{isOne};
 ghost use Rattle.relation.specs.Inner.Narrowed.{NonePast};
-ghost use Rattle.parts.specs.Inner.Pairs.{bothSides, bitsOf, pairOf, pairsOf, sidesOf, lostOf, cutPair, cutPairs};
+ghost use Rattle.parts.specs.Inner.Pairs.{bothSides, bitsOf, sidesOf, lostOf, cutPair, cutPairs};
+ghost use Rattle.parts.specs.Inner.Words.{sections, wordCount, wordPlace, wordAt, pairsOf, wordsFor, rowOf, withRow};
+
+// The patterns of a section, and the words of all sections.
+pub const SECTION: u8 = NARROW_PATTERNS as u8;
+
+pub const WORDS: usize = Sheet::MAX_PATTERNS / NARROW_PATTERNS * Sheet::WIRES;
 
 // The patterns of a block have a bit each in either half of a byte.
 const BLOCK: u8 = BLOCK_PATTERNS;
@@ -50,9 +59,9 @@ fn lost(set: u16, j: u8) -> u32
     bits_of(!has(set, j, 1), !has(set, j, 0))
 }
 
-// Where the bits of a pattern stand: the lower of them.
+// Where the bits of a section's pattern p stand: the lower of them.
 fn seat_of(p: u8) -> u8
-    requires { ⌜ p < maxPatterns ⌝ }
+    requires { ⌜ p < narrowPatterns ⌝ }
     ensures { λ r. ⌜ (r ≡ seat p) × (r + blockPatterns < pairBits) ⌝ }
 {
     p / BLOCK * BYTE + p % BLOCK
@@ -60,60 +69,97 @@ fn seat_of(p: u8) -> u8
 
 // A pair with pattern p, which it lacks, put in by its set.
 fn put_pair(x: u32, p: u8, set: u16, j: u8) -> u32
-    requires { ⌜ (p < maxPatterns) × (j < maxWires) × (x + bothSides * 2 ^ seat p < 2 ^ pairBits) ⌝ }
+    requires { ⌜ (p < narrowPatterns) × (j < maxWires) × (x + bothSides * 2 ^ seat p < 2 ^ pairBits) ⌝ }
     ensures { λ r. ⌜ r ≡ x + sidesOf set j * 2 ^ seat p ⌝ }
 {
     x + (sides(set, j) << seat_of(p))
 }
 
-// The pair of one wire.
-pub fn pair_of(n: u8, sets: [u16; Sheet::MAX_PATTERNS], j: u8) -> u32
-    requires { ⌜ (n ≤ maxInputs) × (j < maxWires) × NonePast n sets ⌝ }
-    ensures { λ r. ⌜ r ≡ pairOf sets j ⌝ }
+// Where the word of section q and wire j stands.
+pub fn place_of(q: u8, j: u8) -> usize
+    requires { ⌜ (q < sections) × (j < maxWires) ⌝ }
+    ensures { λ r. ⌜ (r ≡ wordPlace q j) × (r < wordCount) ⌝ }
 {
-    let count = patterns_of(n);
-    let mut found: u32 = 0;
-    for p in 0..count {
-        found = put_pair(found, p, sets[p as usize], j);
-    }
-    found
+    (q * Sheet::MAX_WIRES + j) as usize
 }
 
-// The pairs of all wires, in one pass over the patterns.
-pub fn pairs_of(n: u8, sets: [u16; Sheet::MAX_PATTERNS]) -> [u32; Sheet::WIRES]
-    requires { ⌜ (n ≤ maxInputs) × NonePast n sets ⌝ }
-    ensures { λ r. ⌜ r ≡ pairsOf sets ⌝ }
+// The words with pattern p, which they lack, put in for wire j by its set.
+fn put_in(words: &mut [u32; WORDS], p: u8, set: u16, j: u8)
+    requires { ⌜ (p < maxPatterns) × (j < maxWires) × (wordAt (now words) p j + bothSides * 2 ^ seat (p % narrowPatterns) < 2 ^ pairBits) ⌝ }
+    ensures { λ _. ⌜ now (words .exit) ≡ put (now (words .entry)) (wordPlace (p / narrowPatterns) j) (wordAt (now (words .entry)) p j + sidesOf set j * 2 ^ seat (p % narrowPatterns)) ⌝ }
+{
+    let at = place_of(p / SECTION, j);
+    words[at] = put_pair(words[at], p % SECTION, set, j);
+}
+
+// The words of one wire alone, in one pass over the patterns that there are.
+pub fn pair_of(n: u8, sets: &[u16; Sheet::MAX_PATTERNS], j: u8) -> [u32; WORDS]
+    requires { ⌜ (n ≤ maxInputs) × (j < maxWires) × NonePast n (now sets) ⌝ }
+    ensures { λ r. ⌜ r ≡ wordsFor (now (sets .entry)) j ⌝ }
 {
     let count = patterns_of(n);
-    let mut found = [0u32; Sheet::WIRES];
+    let mut words = [0u32; WORDS];
+    for p in 0..count {
+        put_in(&mut words, p, sets[p as usize], j);
+    }
+    words
+}
+
+// The words of all wires, in one pass.
+pub fn pairs_of(n: u8, sets: &[u16; Sheet::MAX_PATTERNS]) -> [u32; WORDS]
+    requires { ⌜ (n ≤ maxInputs) × NonePast n (now sets) ⌝ }
+    ensures { λ r. ⌜ r ≡ pairsOf (now (sets .entry)) ⌝ }
+{
+    let count = patterns_of(n);
+    let mut words = [0u32; WORDS];
     for p in 0..count {
         let set = sets[p as usize];
-        found = [
-            put_pair(found[0], p, set, 0),
-            put_pair(found[1], p, set, 1),
-            put_pair(found[2], p, set, 2),
-            put_pair(found[3], p, set, 3),
-        ];
+        put_in(&mut words, p, set, 0);
+        put_in(&mut words, p, set, 1);
+        put_in(&mut words, p, set, 2);
+        put_in(&mut words, p, set, 3);
     }
-    found
+    words
 }
 
-// A pair once pattern p has a set: the pattern goes from the masks of what no longer occurs.
-fn cut_pair(x: u32, p: u8, set: u16, j: u8) -> u32
-    requires { ⌜ (p < maxPatterns) × (j < maxWires) ⌝ }
+// The words of all wires on section q.
+pub fn row_of(words: &[u32; WORDS], q: u8) -> [u32; Sheet::WIRES]
+    requires { ⌜ q < sections ⌝ }
+    ensures { λ r. ⌜ r ≡ rowOf (now (words .entry)) q ⌝ }
+{
+    let at = place_of(q, 0);
+    [words[at], words[at + 1], words[at + 2], words[at + 3]]
+}
+
+// The words with those of section q replaced.
+pub fn put_row(words: &mut [u32; WORDS], q: u8, row: [u32; Sheet::WIRES])
+    requires { ⌜ (q < sections) × (length (now words) ≡ wordCount) ⌝ }
+    ensures { λ _. ⌜ now (words .exit) ≡ withRow (now (words .entry)) q row ⌝ }
+{
+    let at = place_of(q, 0);
+    words[at] = row[0];
+    words[at + 1] = row[1];
+    words[at + 2] = row[2];
+    words[at + 3] = row[3];
+}
+
+// A pair once pattern p of its section has a set: the pattern goes from the masks of what no longer occurs.
+pub fn cut_pair(x: u32, p: u8, set: u16, j: u8) -> u32
+    requires { ⌜ (p < narrowPatterns) × (j < maxWires) ⌝ }
     ensures { λ r. ⌜ r ≡ cutPair x p set j ⌝ }
 {
     x - (x & (lost(set, j) << seat_of(p)))
 }
 
-pub fn cut_pairs(pairs: [u32; Sheet::WIRES], p: u8, set: u16) -> [u32; Sheet::WIRES]
-    requires { ⌜ p < maxPatterns ⌝ }
-    ensures { λ r. ⌜ r ≡ cutPairs pairs p set ⌝ }
+// The same of all wires' pairs on the section.
+pub fn cut_pairs(row: [u32; Sheet::WIRES], p: u8, set: u16) -> [u32; Sheet::WIRES]
+    requires { ⌜ p < narrowPatterns ⌝ }
+    ensures { λ r. ⌜ r ≡ cutPairs row p set ⌝ }
 {
     [
-        cut_pair(pairs[0], p, set, 0),
-        cut_pair(pairs[1], p, set, 1),
-        cut_pair(pairs[2], p, set, 2),
-        cut_pair(pairs[3], p, set, 3),
+        cut_pair(row[0], p, set, 0),
+        cut_pair(row[1], p, set, 1),
+        cut_pair(row[2], p, set, 2),
+        cut_pair(row[3], p, set, 3),
     ]
 }

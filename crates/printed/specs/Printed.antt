@@ -10,7 +10,7 @@ use Rattle.nodes.specs.declared.BoardKind.{BoardKind}
 use Rattle.quote.specs.Cases.{QuoteReply}
 use Rattle.quote.specs.Quote.{quotedOf, bufferQuoted}
 use Rattle.quote.specs.Audit.{auditedOf}
-use Rattle.diagram.specs.Bytes.{longestShared}
+use Rattle.diagram.specs.Bytes.{longestWritten}
 use Rattle.clean.specs.Copy.{longestCopy}
 use Rattle.clean.specs.Cleaned.{cleanedOf, bufferCleaned}
 use Rattle.report.specs.Lines.{sheetText, refusalLine, linesOf, auditLine, copyLine}
@@ -25,7 +25,7 @@ budget = 10000
 
 -- the buffers that the program lends: to the quote with room for the longest stage of either board, and for a copy with room for the longest
 abbrev pub lentStage : List ℕ
-lentStage = replicate longestShared 0
+lentStage = replicate longestWritten 0
 
 abbrev pub lentCopy : List ℕ
 lentCopy = replicate longestCopy 0

@@ -2,7 +2,7 @@
 use base::Refusal;
 use base::Written;
 use clean::LONGEST_COPY;
-use diagram::LONGEST_SHARED;
+use diagram::LONGEST_WRITTEN;
 use nodes::BoardKind;
 use quote::Audited;
 use quote::Quoted;
@@ -43,7 +43,7 @@ fn too_long_quote() -> Quoted
 pub fn quote_reply(kind: BoardKind, sheet: &[u8], out: &mut [u8]) -> usize
     ensures { λ r. ⌜ Printed longestReport (printedOf kind (now (sheet .entry))) (now (out .entry)) (now (out .exit)) r ⌝ }
 {
-    let mut stage = [0u8; LONGEST_SHARED];
+    let mut stage = [0u8; LONGEST_WRITTEN];
     if LONGEST_SHEET < sheet.len() {
         return report::report(too_long_quote(), &stage, out);
     }

@@ -27,7 +27,7 @@ use Rattle.base.specs.Each.{Each}
 use Rattle.stage.specs.Read.{readSheet}
 use Rattle.nodes.specs.Counts.{countOf}
 use Rattle.diagram.specs.Forms.{formOf, drawingOf}
-use Rattle.diagram.proofs.Forms.{form-laws, form-fair}
+use Rattle.diagram.proofs.Forms.{form-laws, form-most, most-inputs, form-fair}
 use Rattle.table.proofs.Drawings.{value-tables}
 use Rattle.relation.proofs.Decide.{value-cong}
 use Rattle.table.specs.Drawing.{got, drawnTable, drawnValue}
@@ -43,6 +43,10 @@ use Rattle.quote.specs.Audit.{keepsTo, sizesApart, auditedStage, audited
 
 map-past : {A : Type 0} (f : A → ℕ) (xs : List A) (j : ℕ) → length xs ≤ j → getD (map f xs) j 0 ≡ 0
 map-past f xs j l = List·getD-eq-default (map f xs) 0 (omega (arith, length-map xs f))
+
+-- a stage has no more inputs than a sheet can have, whatever its board
+few-lines : (kind : BoardKind) (n : ℕ) → n ≤ formOf kind .most → n ≤ maxInputs
+few-lines kind n h = omega (arith, h, form-most kind, most-inputs kind)
 
 module _ (kind : BoardKind) where
   -- the value that the tables drive is the value that the drawings do
@@ -71,7 +75,7 @@ module _ (kind : BoardKind) where
       (λ p. relationOf r p (drawnValue (drawingOf kind) (r .n) stage p))
       (λ p l.
       ap₂ (λ w v. eqb (bit w v) 1) (sym (getD-take (2 ^ r .n) (r .sets) p 0 l))
-      (value-drawn (r .n) stage (st .sizes .n-most) (omega (arith, st .one-each, st .sizes .m-most)) (st .formed) p l))
+      (value-drawn (r .n) stage (few-lines kind (r .n) (st .sizes .n-most)) (omega (arith, st .one-each, st .sizes .m-most)) (st .formed) p l))
 
 module _ (kind : BoardKind) (r : Relation) (bytes : List ℕ) (rd : StageRead)
     (e : stageReply rd ≡ replyToStage (drawingOf kind) (readSheet (formOf kind) bytes)) where
@@ -93,7 +97,7 @@ module _ (kind : BoardKind) (r : Relation) (bytes : List ℕ) (rd : StageRead)
 
     -- the inputs of a stage sheet are in range
     pub few-inputs : rd .n ≤ maxInputs
-    few-inputs = accepted (formOf kind) (form-laws kind) bytes (rd .n) (rd .m) (g .stage) (g .is) .sizes .n-most
+    few-inputs = few-lines kind (rd .n) (accepted (formOf kind) (form-laws kind) bytes (rd .n) (rd .m) (g .stage) (g .is) .sizes .n-most)
 
     pub tested : rd .n ≡ r .n → rd .m ≡ r .m → (b : Bool) → b ≡ all (2 ^ rd .n) (λ p. ofSets (r .sets) p (value maxWires (wires (rd .tables)) p))
         → cond b (accepting fitsOutcome (rd .cells)) (accepting differsOutcome (rd .cells)) ≡ auditedStage (drawingOf kind) r (readSheet (formOf kind) bytes)

@@ -1,7 +1,9 @@
 pub mod Own
+pub mod Told
 pub mod Searched
 pub mod Demand
 pub mod Quoting
 pub mod Auditing
 pub mod Agreeing
 pub mod Cases
+pub mod Rows

@@ -1,6 +1,6 @@
 -- What a search of a relation that passes its test writes: its own stage, and the promise told by stages drawn, on either board.
 use Prim.Native.Nat.{ℕ, _^_, _<_, _≤_}
-use mathlib.Core.Path.{_≡_, subst}
+use mathlib.Core.Path.{_≡_, sym, subst}
 use mathlib.Core.Bool.{cond, not}
 use mathlib.Core.List.{List, map}
 use native.Mathlib.Omega.{arith}
@@ -11,15 +11,16 @@ use lib.ListN.{length, getD, take}
 use Rattle.base.specs.Cases.{accepting, acceptedOutcome, acceptedCase, refusedCase}
 use Rattle.base.specs.Refusals.{refusalAt, shortBuffer}
 use Rattle.base.proofs.Lowest.{lowest-none}
-use Rattle.sheet.specs.Limits.{isBeyond}
+use Rattle.sheet.specs.Limits.{maxInputs, isBeyond}
 use Rattle.sheet.specs.Inner.Sized.{Sized}
 use Rattle.sheet.proofs.Sizes.{sizes-fit}
 use Rattle.table.specs.Drawing.{got, drawnCells}
 use Rattle.nodes.specs.declared.BoardKind.{BoardKind}
+use Rattle.nodes.specs.Counts.{mostInputs}
 use Rattle.relation.specs.declared.Relation.{Relation}
 use Rattle.relation.specs.Families.{Family}
 use Rattle.relation.specs.Handed.{relationOf, checkOf}
-use Rattle.relation.proofs.Fits.{Fit, check-well-formed}
+use Rattle.relation.proofs.Fits.{Fit, sized-within, check-well-formed}
 use Rattle.branch_bound.specs.declared.State.{State}
 use Rattle.branch_bound.specs.Search.{floor, run}
 use Rattle.branch_bound.specs.Boards.{boardOf}
@@ -31,14 +32,18 @@ use Rattle.stage.specs.Read.{readSheet}
 use Rattle.stage.specs.Written.{stageDrawn, stageOf, firstOut, writtenOf}
 use Rattle.stage.proofs.Sheets.{written-back}
 use Rattle.diagram.specs.Forms.{formOf, drawingOf}
-use Rattle.diagram.proofs.Forms.{form-laws, form-fair, form-reduces}
+use Rattle.diagram.proofs.Forms.{form-laws, form-most, most-inputs, form-fair, form-reduces}
 
-module _ (kind : BoardKind) (r : Relation) (passes : checkOf r ≡ acceptedCase) (budget : ℕ) where
-  fit : Fit r
-  fit = check-well-formed r passes
+module _ (kind : BoardKind) (r : Relation) (passes : checkOf (mostInputs kind) r ≡ acceptedCase) (budget : ℕ) where
+  fit : Fit (mostInputs kind) r
+  fit = check-well-formed (mostInputs kind) r passes
 
-  sized : Sized (r .n) (r .m)
-  sized = fit .sizes
+  -- sizes of a sheet, and of a stage on the board
+  sized : Sized maxInputs (r .n) (r .m)
+  sized = sized-within (mostInputs kind) (r .n) (r .m) (most-inputs kind) (fit .sizes)
+
+  sized-board : Sized (formOf kind .most) (r .n) (r .m)
+  sized-board = subst (λ k. Sized k (r .n) (r .m)) (sym (form-most kind)) (fit .sizes)
 
   abbrev pub found : State
   found = run (boardOf kind (r .n) (r .m)) budget (relationOf r)
@@ -94,7 +99,7 @@ module _ (kind : BoardKind) (r : Relation) (passes : checkOf r ≡ acceptedCase)
   unfolding writtenOf firstOut
   written room =
       rw (
-        sizes-fit (r .n) (r .m) sized,
+        sizes-fit (formOf kind .most) (r .n) (r .m) sized-board,
         lowest-none (r .m) (λ j. isBeyond (2 ^ r .n) (getD (found .tables) j 0)) (λ j l. nleb (2 ^ (2 ^ r .n)) (getD (found .tables) j 0) (in-range j l)),
         le-ltb (r .m) (r .m) (le-refl (r .m)),
       )
@@ -103,4 +108,4 @@ module _ (kind : BoardKind) (r : Relation) (passes : checkOf r ≡ acceptedCase)
       nleb k x h = rw (lt-leb k x h) tt
 
   pub read-back : readSheet (formOf kind) (stageOf (formOf kind) (r .n) (r .m) (found .tables)) ≡ got (r .n) (r .m) drawn
-  read-back = written-back (formOf kind) (form-laws kind) (r .n) (r .m) (found .tables) sized long in-range
+  read-back = written-back (formOf kind) (form-laws kind) (r .n) (r .m) (found .tables) sized-board long in-range

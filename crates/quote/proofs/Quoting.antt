@@ -1,12 +1,14 @@
 -- The cases of a quote: each return of the code is the written reply, with the buffer as it is to be.
-use Prim.Native.Nat.{ℕ}
+use Prim.Native.Nat.{ℕ, _<_, _≤_}
 use mathlib.Core.Path.{_≡_, sym, ap, _∙_}
 use mathlib.Core.Bool.{false}
 use mathlib.Core.List.{List}
 use lib.ListN.{length}
 use Rattle.base.specs.declared.Refusal.{Refusal}
 use Rattle.base.specs.Cases.{Case, isRefused}
+use Rattle.base.specs.Refusals.{refusalAt, tooWide}
 use Rattle.nodes.specs.declared.BoardKind.{BoardKind}
+use Rattle.nodes.specs.Counts.{mostInputs}
 use Rattle.relation.specs.declared.Relation.{Relation}
 use Rattle.search.specs.declared.Answer.{Answer}
 use Rattle.search.specs.declared.Mark.the-variants.{Refused}
@@ -25,6 +27,7 @@ use Rattle.quote.specs.Cases.{QuoteReply}
 use Rattle.quote.specs.Inner.Refused.{refusedQuote}
 use Rattle.quote.specs.Quote.{withStage, searched, bufferSearched, quotedOf, bufferQuoted}
 use Rattle.quote.specs.Promised.{Promised}
+use Rattle.quote.proofs.Told.{is-wide, not-wide}
 use Rattle.quote.proofs.Demand.{promised}
 
 -- the writer's answer taken over
@@ -39,25 +42,32 @@ module _ (a : Answer) (w : Written) {x : Case} (e : writtenCase w ≡ x) where
   unfolding withStage
   with-refusal f d eq = eq ∙ rw (← (ap writtenCase (sym d) ∙ e))
 
-module _ (kind : BoardKind) (r : Relation) (budget : ℕ) (buffer : List ℕ) (a : Answer) (ea : searchReply a ≡ searchOf kind r budget) where
+-- the relation is too wide for the board
+pub no-search : (kind : BoardKind) (r : Relation) (budget : ℕ) (buffer : List ℕ) {q : QuoteReply} (f : Refusal) → mostInputs kind < r .n → f ≡ refusalAt tooWide 0 → q ≡ refusedQuote f
+    → (q ≡ searched kind r budget (length buffer)) × (buffer ≡ bufferSearched kind r budget buffer)
+unfolding searched bufferSearched
+no-search kind r budget buffer f many ef eq = (eq ∙ rw (ef, is-wide kind r many), rw (is-wide kind r many))
+
+-- it is not, and is searched
+module _ (kind : BoardKind) (r : Relation) (budget : ℕ) (buffer : List ℕ) (few : r .n ≤ mostInputs kind) (a : Answer) (ea : searchReply a ≡ searchOf kind r budget) where
   -- the search has a stage
   pub with-stage : {q : QuoteReply} {b : List ℕ} → isRefused (markCase (a .mark)) ≡ false
       → q ≡ withStage (searchReply a) (writtenOf (formOf kind) (r .n) (r .m) (a .tables) (length buffer))
       → b ≡ bufferAfter (formOf kind) (r .n) (r .m) (a .tables) buffer → (q ≡ searched kind r budget (length buffer)) × (b ≡ bufferSearched kind r budget buffer)
   unfolding searched bufferSearched
-  with-stage h eq eb = (eq ∙ rw (← ea, h), eb ∙ rw (← ea, h))
+  with-stage h eq eb = (eq ∙ rw (not-wide kind r few, ← ea, h), eb ∙ rw (not-wide kind r few, ← ea, h))
 
   -- the search refuses the relation
   pub no-stage : {q : QuoteReply} (f : Refusal) → a .mark ≡ Refused f → q ≡ refusedQuote f
       → (q ≡ searched kind r budget (length buffer)) × (buffer ≡ bufferSearched kind r budget buffer)
   unfolding searched bufferSearched
-  no-stage f e eq = (eq ∙ rw (← ea, e), rw (← ea, e))
+  no-stage f e eq = (eq ∙ rw (not-wide kind r few, ← ea, e), rw (not-wide kind r few, ← ea, e))
 
 -- the whole quote, from what forming the relation gave
 module _ (kind : BoardKind) (sheet : List ℕ) (budget : ℕ) (buffer : List ℕ) (f : Formed) (ef : formedReply f ≡ formedOf sheet) where
   -- the three clauses of the quote's contract
   abbrev pub ClausesKept : QuoteReply → List ℕ → Type 0
-  ClausesKept q b = (q ≡ quotedOf kind sheet budget (length buffer)) × ((b ≡ bufferQuoted kind sheet budget buffer) × Promised (drawingOf kind) sheet budget q b)
+  ClausesKept q b = (q ≡ quotedOf kind sheet budget (length buffer)) × ((b ≡ bufferQuoted kind sheet budget buffer) × Promised (drawingOf kind) (mostInputs kind) sheet budget q b)
 
   clauses : {q : QuoteReply} {b : List ℕ} → q ≡ quotedOf kind sheet budget (length buffer) → b ≡ bufferQuoted kind sheet budget buffer → ClausesKept q b
   clauses eq eb = (eq, (eb, rw (eq, eb) (promised kind sheet budget buffer)))

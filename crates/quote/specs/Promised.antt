@@ -1,19 +1,20 @@
 -- Demand 3 of document 01, "Quote, audit, program": what a quote promises about stages that nobody drew.
 -- It is told by the bytes of the sheet (`Rival`), the reply, and the bytes written, which the stage reader takes;
 -- of the search it names the two marks alone.
--- It is stated over what a drawing is (`Drawing`).
-use Prim.Native.Nat.{ℕ, _≤_}
+-- It is stated over what a drawing is (`Drawing`) and the most inputs that the board has lines for.
+use Prim.Native.Nat.{ℕ, _<_, _≤_}
 use mathlib.Core.Path.{_≡_}
 use mathlib.Core.Logic.{_⊎_, _↔_}
 use mathlib.Core.List.{List}
 use lib.ListN.{take}
-use Rattle.base.specs.Refusals.{empty}
+use Rattle.base.specs.Refusals.{empty, tooWide}
 use Rattle.table.specs.Drawing.{Drawing, drawnCells, got}
 use Rattle.branch_bound.specs.Reply.{bestOutcome, stoppedOutcome}
 use Rattle.sheet.specs.declared.Command.{Command}
 use Rattle.sheet.specs.Commands.{inputsOf, wiresOf}
 use Rattle.sheet.specs.Judged.{holds}
 use Rattle.reader.specs.Reading.{readingOf}
+use Rattle.stage.specs.Trees.{treeDrawing}
 use Rattle.unit.specs.Rival.{Rival}
 use Rattle.quote.specs.Cases.{QuoteReply}
 
@@ -40,7 +41,15 @@ pub record NoRival (D : Drawing) (sheet : List ℕ) : Type 0 where
   pub held : readingOf sheet ≡ holds commands
   pub none : (stage : List (D .Shape)) → Rival D sheet stage → ⊥
 
-pub record Promised (D : Drawing) (sheet : List ℕ) (budget : ℕ) (r : QuoteReply) (buffer : List ℕ) : Type 0 where
+-- the sheet is read with no refusal and has more inputs than that, and somebody has a stage of trees for it
+pub record TooWide (most : ℕ) (sheet : List ℕ) : Type 0 where
+  pub commands : List Command
+  pub held : readingOf sheet ≡ holds commands
+  pub many : most < inputsOf commands
+  pub stage : List (treeDrawing .Shape)
+  pub rival : Rival treeDrawing sheet stage
+
+pub record Promised (D : Drawing) (most : ℕ) (sheet : List ℕ) (budget : ℕ) (r : QuoteReply) (buffer : List ℕ) : Type 0 where
   -- no rival has fewer cells than a quote marked best
   pub best : IsBest r → (stage : List (D .Shape)) → Rival D sheet stage → r .cells ≤ drawnCells D stage
   -- no rival has fewer cells than the floor of a quote marked stopped
@@ -52,3 +61,7 @@ pub record Promised (D : Drawing) (sheet : List ℕ) (budget : ℕ) (r : QuoteRe
   pub spent : IsStopped r → r .visits ≡ budget
   -- the refusal's number is 10 exactly where reading refuses nothing and no rival exists
   pub refused : (r .mark .number ≡ empty) ↔ NoRival D sheet
+  -- trees tell that as well, on every board
+  pub by-trees : (r .mark .number ≡ empty) ↔ NoRival treeDrawing sheet
+  -- it is 15 exactly where the sheet has more inputs than the board, and only where it is not 10
+  pub wide : (r .mark .number ≡ tooWide) ↔ TooWide most sheet

@@ -1,10 +1,13 @@
 -- Document 01, "Quote, audit, program": a sheet's relation is searched and the stage found is written, for either board. The refusals are the sheet's own,
--- then 10, then 12.
+-- then 10, then 15 (document 02, E5), then 12.
 use Prim.Native.Nat.{ℕ, zero}
-use mathlib.Core.Bool.{cond}
+use mathlib.Core.Bool.{Bool, cond}
 use mathlib.Core.List.{List}
-use Rattle.base.specs.Cases.{Case, isRefused}
+use lib.Dec.{ltb}
+use Rattle.base.specs.Cases.{Case, refusedCase, isRefused}
+use Rattle.base.specs.Refusals.{refusalAt, tooWide}
 use Rattle.nodes.specs.declared.BoardKind.{BoardKind}
+use Rattle.nodes.specs.Counts.{mostInputs}
 use Rattle.relation.specs.declared.Relation.{Relation}
 use Rattle.branch_bound.specs.Reply.{SearchReply, searchOf}
 use Rattle.diagram.specs.Forms.{formOf}
@@ -22,12 +25,19 @@ withStage a w =
     let q : QuoteReply = record { cells = a .cells; floor = a .floor; visits = a .visits; length = w .value; mark = a .mark } in
     cond (isRefused w) (noQuote w) q
 
--- the search of the relation formed, and the stage of its tables in a buffer of so many bytes
+-- a relation has more inputs than the board has lines: 15, at place 0
+abbrev pub isTooWide : BoardKind → Relation → Bool
+isTooWide kind r = ltb (mostInputs kind) (r .n)
+
+abbrev pub wideQuote : QuoteReply
+wideQuote = noQuote (refusedCase (refusalAt tooWide 0))
+
+-- the search of the relation formed, unless it is too wide for the board, and the stage of its tables in a buffer of so many bytes
 unfoldable pub searched : BoardKind → Relation → ℕ → ℕ → QuoteReply
 searched kind r budget room =
     let a = searchOf kind r budget in
     let q = withStage a (writtenOf (formOf kind) (r .n) (r .m) (a .tables) room) in
-    cond (isRefused (a .mark)) (noQuote (a .mark)) q
+    cond (isTooWide kind r) wideQuote (cond (isRefused (a .mark)) (noQuote (a .mark)) q)
 
 -- the reply to the bytes of a sheet, a budget, and a buffer of so many bytes
 unfoldable pub quotedOf : BoardKind → List ℕ → ℕ → ℕ → QuoteReply
@@ -41,7 +51,7 @@ unfoldable pub bufferSearched : BoardKind → Relation → ℕ → List ℕ → 
 bufferSearched kind r budget buffer =
     let a = searchOf kind r budget in
     let after = bufferAfter (formOf kind) (r .n) (r .m) (a .tables) buffer in
-    cond (isRefused (a .mark)) buffer after
+    cond (isTooWide kind r) buffer (cond (isRefused (a .mark)) buffer after)
 
 -- what the lent buffer holds after the quote
 unfoldable pub bufferQuoted : BoardKind → List ℕ → ℕ → List ℕ → List ℕ

@@ -25,7 +25,7 @@ ghost use Rattle.quote.specs.Cases.{auditedCase};
 ghost use Rattle.quote.specs.Audit.{auditedStage};
 
 // Whether the value that the tables drive lies in the set of every pattern.
-fn allowed_everywhere(n: u8, sets: [u16; Sheet::MAX_PATTERNS], tables: [u16; Sheet::WIRES]) -> bool
+fn allowed_everywhere(n: u8, sets: [u16; Sheet::MAX_PATTERNS], tables: [u64; Sheet::WIRES]) -> bool
     requires { ⌜ n ≤ maxInputs ⌝ }
     ensures { λ r. ⌜ r ≡ all (2 ^ n) (λ p. ofSets sets p (value maxWires (wires tables) p)) ⌝ }
 {

@@ -5,7 +5,9 @@ use nodes::BoardKind;
 use search::Mark;
 ghost use mathlib.Core.Path.{_≡_};
 ghost use lib.ListN.{length};
+ghost use Rattle.sheet.specs.Limits.{maxInputs, maxSharedInputs};
 ghost use Rattle.nodes.specs.declared.BoardKind.the-variants.{Tree, Sharing};
+ghost use Rattle.nodes.specs.Counts.{mostInputs};
 ghost use Rattle.stage.specs.Trees.{treeDrawing};
 ghost use Rattle.diagram.specs.Diagrams.{diagramDrawing};
 ghost use Rattle.diagram.specs.Forms.{drawingOf};
@@ -20,9 +22,9 @@ mod audits; // the audit
 // The reply of a quote: the cells, the floor (lower bound), the visits and the mark of the search, and the length of the stage written. On a refusal
 // the mark has it and the numbers are 0.
 pub struct Quoted {
-    pub cells: u32,
-    pub floor: u32,
-    pub visits: u32,
+    pub cells: u64,
+    pub floor: u64,
+    pub visits: u64,
     pub length: usize,
     pub mark: Mark,
 }
@@ -39,7 +41,7 @@ pub enum Audited {
 pub fn quote_on(kind: BoardKind, sheet: &[u8], budget: u32, buffer: &mut [u8]) -> Quoted
     ensures reply { λ r. ⌜ quoteReply r ≡ quotedOf kind (now (sheet .entry)) budget (length (now (buffer .entry))) ⌝ }
     ensures bytes { λ _. ⌜ now (buffer .exit) ≡ bufferQuoted kind (now (sheet .entry)) budget (now (buffer .entry)) ⌝ }
-    ensures promise { λ r. ⌜ Promised (drawingOf kind) (now (sheet .entry)) budget (quoteReply r) (now (buffer .exit)) ⌝ }
+    ensures promise { λ r. ⌜ Promised (drawingOf kind) (mostInputs kind) (now (sheet .entry)) budget (quoteReply r) (now (buffer .exit)) ⌝ }
 {
     let formed = unit::form(sheet);
     let answer = formed.answer;
@@ -54,16 +56,17 @@ pub fn quote_on(kind: BoardKind, sheet: &[u8], budget: u32, buffer: &mut [u8]) -
 pub fn quote(sheet: &[u8], budget: u32, buffer: &mut [u8]) -> Quoted
     ensures reply { λ r. ⌜ quoteReply r ≡ quotedOf Tree (now (sheet .entry)) budget (length (now (buffer .entry))) ⌝ }
     ensures bytes { λ _. ⌜ now (buffer .exit) ≡ bufferQuoted Tree (now (sheet .entry)) budget (now (buffer .entry)) ⌝ }
-    ensures promise { λ r. ⌜ Promised treeDrawing (now (sheet .entry)) budget (quoteReply r) (now (buffer .exit)) ⌝ }
+    ensures promise { λ r. ⌜ Promised treeDrawing maxInputs (now (sheet .entry)) budget (quoteReply r) (now (buffer .exit)) ⌝ }
 {
     quote_on(BoardKind::Tree, sheet, budget, buffer)
 }
 
-// The same on the board that shares selectors (document 02, E2): a rival is any well-formed diagrams that keep to the sheet, one for each wire.
+// The same on the board that shares selectors (document 02, E2): a rival is any well-formed diagrams that keep to the sheet, one for each wire. It has
+// four lines: a sheet with more inputs is refused, 15 (E5).
 pub fn quote_shared(sheet: &[u8], budget: u32, buffer: &mut [u8]) -> Quoted
     ensures reply { λ r. ⌜ quoteReply r ≡ quotedOf Sharing (now (sheet .entry)) budget (length (now (buffer .entry))) ⌝ }
     ensures bytes { λ _. ⌜ now (buffer .exit) ≡ bufferQuoted Sharing (now (sheet .entry)) budget (now (buffer .entry)) ⌝ }
-    ensures promise { λ r. ⌜ Promised diagramDrawing (now (sheet .entry)) budget (quoteReply r) (now (buffer .exit)) ⌝ }
+    ensures promise { λ r. ⌜ Promised diagramDrawing maxSharedInputs (now (sheet .entry)) budget (quoteReply r) (now (buffer .exit)) ⌝ }
 {
     quote_on(BoardKind::Sharing, sheet, budget, buffer)
 }

@@ -3,6 +3,7 @@ use crate::Quoted;
 use base::Refusal;
 use base::Written;
 use nodes::BoardKind;
+use nodes::most_inputs;
 use relation::Relation;
 use search::Answer;
 use search::Mark;
@@ -49,13 +50,16 @@ fn quote_answer(kind: BoardKind, n: u8, m: u8, answer: Answer, buffer: &mut [u8]
     }
 }
 
-// The relation searched, and the stage found written.
+// The relation searched, and the stage found written. A relation of more inputs than the board has lines is not searched.
 pub fn quote_relation(kind: BoardKind, relation: Relation, budget: u32, buffer: &mut [u8]) -> Quoted
     ensures { λ r. ⌜ (quoteReply r ≡ searched kind relation budget (length (now (buffer .entry))))
         × (now (buffer .exit) ≡ bufferSearched kind relation budget (now (buffer .entry))) ⌝ }
 {
     let n = relation.n;
     let m = relation.m;
+    if most_inputs(kind) < n {
+        return refused_quote(Refusal::at(Refusal::TOO_WIDE, 0));
+    }
     let answer = search_on(kind, relation, budget);
     let mark = answer.mark;
     if let Mark::Refused(refusal) = mark {

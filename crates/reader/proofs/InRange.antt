@@ -29,7 +29,7 @@ pattern-fits n m (Limit p w) h e = below n p h (neither (isBeyond n p) (isBeyond
 -- the inputs stay in range
 pub inputs-fit : (r : Reader) (c : Command) (to : ℕ) → r .n ≤ maxInputs → isOutOfRange (r .n) (r .m) c ≡ false → movedPast r c to .n ≤ maxInputs
 inputs-fit r End to h e = h
-inputs-fit r (Sizes n m) to h e = sizes-in n m e .n-most
+inputs-fit r (Sizes n m) to h e = sizes-in maxInputs n m e .n-most
 inputs-fit r (Row p v) to h e = h
 inputs-fit r (DontCare p) to h e = h
 inputs-fit r (Gate k a b) to h e = h

@@ -4,6 +4,7 @@ use mathlib.Core.Path.{_≡_, refl, sym, ap, subst}
 use mathlib.Core.Bool.{true, false, not}
 use mathlib.Core.List.{List, [], _∷_, _++_}
 use lib.ListN.{getD}
+use Rattle.sheet.specs.Limits.{maxInputs}
 use Rattle.sheet.specs.Inner.Sized.{Sized}
 use Rattle.sheet.proofs.Sizes.{sizes-in}
 use Rattle.sheet.specs.declared.Command.{Command}
@@ -68,11 +69,11 @@ headed-more before c (headed n m rest p) o = headed n m (rest ++ c ∷ []) (each
 
 -- sizes in range
 abbrev pub InSize : List Command → Type 0
-InSize cs = isEmpty cs ≡ false → Sized (inputsOf cs) (wiresOf cs)
+InSize cs = isEmpty cs ≡ false → Sized maxInputs (inputsOf cs) (wiresOf cs)
 
 pub size-more : (before : List Command) (c : Command) → InSize before → InOrder before c → InSize (before ++ c ∷ [])
 unfolding collect
-size-more before c p o = by-opening InSize before c o (λ n m r _. sizes-in n m r) (λ f i w _. rw (i, w) (p f))
+size-more before c p o = by-opening InSize before c o (λ n m r _. sizes-in maxInputs n m r) (λ f i w _. rw (i, w) (p f))
 
 -- operands in range
 abbrev pub InRange : List Command → Type 0

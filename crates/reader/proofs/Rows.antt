@@ -1,4 +1,4 @@
--- Document 01, "Bench sheets": rows that reading alone answers, computed from the meaning.
+-- Document 01, "Bench sheets", with the row of document 02, E5: rows that reading alone answers, computed from the meaning.
 use mathlib.Core.Path.{_≡_, refl}
 use mathlib.Core.List.{List, [], _∷_}
 use Prim.Native.Nat.{ℕ}
@@ -18,14 +18,18 @@ pub lone-end : readingOf (0 ∷ []) ≡ refused (refusalAt outOfTurn 0)
 unfolding readingOf readingFrom oneCommand nextOf collect
 lone-end = refl
 
-pub five-inputs : readingOf (1 ∷ 5 ∷ 1 ∷ []) ≡ refused (refusalAt outOfRange 0)
+pub seven-inputs : readingOf (1 ∷ 7 ∷ 1 ∷ []) ≡ refused (refusalAt outOfRange 0)
 unfolding readingOf readingFrom oneCommand nextOf collect
-five-inputs = refl
+seven-inputs = refl
 
--- sizes 4 and 4 are in range: what is missing is the next command
+-- sizes 4 and 4 are in range, and so are 6 and 4: what is missing is the next command
 pub four-and-four : readingOf (1 ∷ 4 ∷ 4 ∷ []) ≡ refused (refusalAt cutShort 3)
 unfolding readingOf readingFrom oneCommand nextOf judged collect
 four-and-four = refl
+
+pub six-and-four : readingOf (1 ∷ 6 ∷ 4 ∷ []) ≡ refused (refusalAt cutShort 3)
+unfolding readingOf readingFrom oneCommand nextOf judged collect
+six-and-four = refl
 
 abbrev pub sheetA : List ℕ
 sheetA = 1 ∷ 2 ∷ 2 ∷ 2 ∷ 0 ∷ 1 ∷ 2 ∷ 1 ∷ 0 ∷ 2 ∷ 2 ∷ 0 ∷ 2 ∷ 3 ∷ 2 ∷ 4 ∷ 2 ∷ 0 ∷ 1 ∷ 4 ∷ 0 ∷ 2 ∷ 1 ∷ 5 ∷ 2 ∷ 5 ∷ 3 ∷ 0 ∷ []

@@ -4,6 +4,7 @@ use mathlib.Core.Path.{_≡_, sym}
 use mathlib.Core.List.{List}
 use native.Mathlib.Nat.{not-suc-le-zero}
 use native.Mathlib.Omega.{arith}
+use Rattle.sheet.specs.Limits.{maxInputs}
 use Rattle.sheet.specs.Inner.Sized.{Sized}
 use Rattle.sheet.specs.declared.Command.{Command}
 use Rattle.sheet.specs.Commands.{collect, inputsOf, limitsOn, wiresOf}
@@ -19,7 +20,7 @@ use Rattle.reader.proofs.Marks.{Once, once-more, Given, given, limits-f
 pub record Sound (cs : List Command) : Type 0 where
   -- 01 stands at the start and nowhere else, with sizes in range
   pub opened : Headed cs
-  pub sizes : Sized (inputsOf cs) (wiresOf cs)
+  pub sizes : Sized maxInputs (inputsOf cs) (wiresOf cs)
   -- every operand is in range
   pub in-range : InRange cs
   -- the gates are of known kinds, on signals made before them, and not too many; so are the outputs

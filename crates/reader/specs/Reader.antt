@@ -10,7 +10,7 @@ use Rattle.sheet.specs.declared.Command.the-variants.{End, Sizes, Row, DontCare
 use Rattle.reader.specs.declared.Reader.{Reader}
 use Rattle.reader.specs.declared.Step.{Step}
 use Rattle.reader.specs.declared.Step.the-variants.{Read, Refused}
-use Rattle.sheet.specs.Limits.{sizesOut, isBeyond}
+use Rattle.sheet.specs.Limits.{maxInputs, sizesOut, isBeyond}
 use Rattle.sheet.specs.Commands.{isEmpty, isSizes, inputsIn, wiresIn, inputsOf, wiresOf}
 
 -- how many bytes a command has, by its first, which counts too; 0 where there is no such command
@@ -46,7 +46,7 @@ lastKind = 5
 -- some operand is too small or too large: refusal 3
 abbrev pub isOutOfRange : ℕ → ℕ → Command → Bool
 isOutOfRange n m End = false
-isOutOfRange n m (Sizes n′ m′) = sizesOut n′ m′
+isOutOfRange n m (Sizes n′ m′) = sizesOut maxInputs n′ m′
 isOutOfRange n m (Row p v) = isBeyond n p || isBeyond m v
 isOutOfRange n m (DontCare p) = isBeyond n p
 isOutOfRange n m (Gate k a b) = ltb lastKind k

@@ -3,6 +3,7 @@ use crate::Reader;
 use crate::Step;
 use base::Refusal;
 use sheet::Command;
+use sheet::Sheet;
 use sheet::limits::beyond;
 use sheet::limits::bits_past;
 use sheet::limits::sizes_out;
@@ -117,7 +118,7 @@ impl Reader {
     {
         match c {
             Command::End => false,
-            Command::Sizes { n, m } => sizes_out(n, m),
+            Command::Sizes { n, m } => sizes_out(Sheet::MAX_INPUTS, n, m),
             Command::Row { p, v } => row_out(self.n, self.m, p, v),
             Command::DontCare { p } => beyond(self.n, p as u16),
             Command::Gate { kind, a: _, b: _ } => Self::LAST_KIND < kind,

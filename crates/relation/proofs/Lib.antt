@@ -6,4 +6,5 @@ pub mod Narrowing
 pub mod AllWires
 pub mod Masks
 pub mod Side
+pub mod Fronts
 pub mod Families

@@ -72,7 +72,9 @@ agreed-agree sets j t len small = fun-ext (λ p. fun-ext (λ v. ⊎-elim (inside
 cleared-entry : (n : ℕ) (sets : List ℕ) (p : ℕ) → n ≤ maxInputs → getD (cleared n sets) p 0 ≡ cond (ltb p (2 ^ n)) (getD sets p 0) 0
 unfolding cleared
 cleared-entry n sets p h =
-    tabulate-entry maxPatterns (λ p. cond (ltb p (2 ^ n)) (getD sets p 0) 0) p
+    let held : getD (cleared n sets) p 0 ≡ cond (ltb p maxPatterns) (cond (ltb p (2 ^ n)) (getD sets p 0) 0) 0 =
+    tabulate-entry maxPatterns (λ p. cond (ltb p (2 ^ n)) (getD sets p 0) 0) p in
+    held
     ∙ ⊎-elim (λ (l : T (ltb p maxPatterns)). rw (test-yes (ltb p maxPatterns) l))
     (λ l. let b : 2 ^ n ≤ p = omega (arith, nltb→le p maxPatterns l, pow-mono {i = n} {j = maxInputs} h) in
     rw (test-no (ltb p maxPatterns) l, le-ltb p (2 ^ n) b))

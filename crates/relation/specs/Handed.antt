@@ -20,12 +20,15 @@ relationOf r = ofSets (take (2 ^ r .n) (r .sets))
 unfoldable pub widePattern : ℕ → ℕ → List ℕ → ℕ
 widePattern n m sets = lowest (2 ^ n) (λ p. isBeyond (2 ^ m) (getD sets p 0))
 
--- sizes out of range are 3 at 0, a set with a value that there is not is 3 at its pattern, an empty set is 10 at its pattern, in this order
-unfoldable pub checkOf : Relation → Case
-checkOf r =
+-- a set with a value that there is not is 3 at its pattern, then an empty set is 10 at its pattern
+abbrev pub checkSets : Relation → Case
+checkSets r =
     let n = r .n in
     let m = r .m in
     let wide = widePattern n m (r .sets) in
     let none = emptyPattern n m (relationOf r) in
-    cond (sizesOut n m) (refusedCase (refusalAt outOfRange 0))
-    (cond (ltb wide (2 ^ n)) (refusedCase (refusalAt outOfRange wide)) (cond (ltb none (2 ^ n)) (refusedCase (refusalAt empty none)) acceptedCase))
+    cond (ltb wide (2 ^ n)) (refusedCase (refusalAt outOfRange wide)) (cond (ltb none (2 ^ n)) (refusedCase (refusalAt empty none)) acceptedCase)
+
+-- with at most so many inputs: sizes out of range are 3 at 0, and come before the sets
+unfoldable pub checkOf : (most : ℕ) → Relation → Case
+checkOf most r = cond (sizesOut most (r .n) (r .m)) (refusedCase (refusalAt outOfRange 0)) (checkSets r)

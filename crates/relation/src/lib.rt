@@ -7,7 +7,9 @@ use sheet::Sheet;
 use sheet::limits::patterns_of;
 use sheet::limits::sizes_out;
 ghost use mathlib.Core.Path.{_≡_};
+ghost use Prim.Native.Nat.{_≤_};
 ghost use Rattle.base.specs.Cases.{verdictCase};
+ghost use Rattle.sheet.specs.Limits.{maxInputs};
 ghost use Rattle.relation.specs.Handed.{checkOf};
 
 pub mod values; // sets of wire values
@@ -22,14 +24,16 @@ pub struct Relation {
 }
 
 impl Relation {
-    // The test of a relation that is handed over as numbers: sizes, then bits past the last value, then empty sets.
-    pub fn check(self) -> Verdict
-        ensures { λ r. ⌜ verdictCase r ≡ checkOf self ⌝ }
+    // The test of a relation that is handed over as numbers, with at most so many inputs: sizes, then bits past the last value, then empty sets.
+    // Who calls it names a limit on the inputs that a sheet has room for.
+    pub fn check(self, most: u8) -> Verdict
+        requires { ⌜ most ≤ maxInputs ⌝ }
+        ensures { λ r. ⌜ verdictCase r ≡ checkOf most self ⌝ }
     {
         let n = self.n;
         let m = self.m;
         let sets = self.sets;
-        if sizes_out(n, m) {
+        if sizes_out(most, n, m) {
             return Verdict::Refused(Refusal::at(Refusal::OUT_OF_RANGE, 0));
         }
         let count = patterns_of(n);

@@ -2,38 +2,47 @@
 // Inner functions: the search and the audit meet what they require, wires, bits and patterns that there are.
 ghost use mathlib.Core.Path.{_≡_};
 ghost use mathlib.Core.Bool.{cond};
-ghost use Prim.Native.Nat.{_<_, _≤_, _^_};
-ghost use lib.Dec.{eqb, ltb};
+ghost use Prim.Native.Nat.{_*_, _/_, _<_, _≤_};
+ghost use lib.Dec.{eqb};
 ghost use Rattle.sheet.specs.Limits.{maxInputs, maxWires, maxPatterns, maxValues};
 ghost use Rattle.table.specs.Bits.{bit};
+ghost use Rattle.table.specs.Inner.Pairs.{narrowPatterns};
+ghost use Rattle.table.specs.Inner.Ranks.{narrowSpace};
 ghost use Rattle.relation.specs.Source.{value};
 ghost use Rattle.table.specs.Cells.{wires};
-ghost use Rattle.relation.specs.Inner.Side.{sideBySide, valueIn};
-ghost use Rattle.relation.specs.Inner.Narrowed.{agreed, cleared};
+ghost use Rattle.relation.specs.Inner.Side.{section, sideBySide, valueIn};
+ghost use Rattle.relation.specs.Inner.Narrowed.{NonePast, agreed, cleared};
 use sheet::Sheet;
 use sheet::limits::patterns_of;
 use table::columns::column;
+use table::picks::NARROW_PATTERNS;
+use table::picks::NARROW_SPACE;
 
-// Where the tables of wires 1, 2 and 3 begin beside that of wire 0, each with as many bits as there are patterns.
-const SIDE_1: u64 = 1 << Sheet::MAX_PATTERNS;
+// A section of a table: its bits on so many patterns, and above all such sections.
+const SECTION: u8 = NARROW_PATTERNS as u8;
 
-const SIDE_2: u64 = 1 << (2 * Sheet::MAX_PATTERNS);
+const SECTION_SPACE: u64 = NARROW_SPACE as u64;
 
-const SIDE_3: u64 = 1 << (3 * Sheet::MAX_PATTERNS);
+// Where the sections of wires 1, 2 and 3 begin beside that of wire 0.
+const SIDE_1: u64 = 1 << NARROW_PATTERNS;
 
-// The lowest bit of each of the four tables.
+const SIDE_2: u64 = 1 << (2 * NARROW_PATTERNS);
+
+const SIDE_3: u64 = 1 << (3 * NARROW_PATTERNS);
+
+// The lowest bit of each of the four sections.
 const LOWEST: u64 = 1 + SIDE_1 + SIDE_2 + SIDE_3;
 
-// Moved down by so many bits, the lowest bit of a table stands one above that of the table below it; by twice as many, two such bits stand
+// Moved down by so many bits, the lowest bit of a section stands one above that of the section below it; by twice as many, two such bits stand
 // above two.
-const TOGETHER: u64 = Sheet::MAX_PATTERNS as u64 - 1;
+const TOGETHER: u64 = NARROW_PATTERNS as u64 - 1;
 
-const TWICE_TOGETHER: u64 = 2 * Sheet::MAX_PATTERNS as u64 - 2;
+const TWICE_TOGETHER: u64 = 2 * NARROW_PATTERNS as u64 - 2;
 
 const VALUES: u64 = Sheet::MAX_VALUES as u64;
 
 // Bit p of a table.
-pub fn bit_of(table: u16, p: u8) -> u16
+pub fn bit_of(table: u64, p: u8) -> u64
     requires { ⌜ p < maxPatterns ⌝ }
     ensures { λ r. ⌜ (r ≡ bit table p) × (r < 2) ⌝ }
 {
@@ -41,7 +50,7 @@ pub fn bit_of(table: u16, p: u8) -> u16
 }
 
 // The value that the tables of all wires drive on pattern p.
-pub fn value_of(tables: [u16; Sheet::WIRES], p: u8) -> u8
+pub fn value_of(tables: [u64; Sheet::WIRES], p: u8) -> u8
     requires { ⌜ p < maxPatterns ⌝ }
     ensures { λ r. ⌜ (r ≡ value maxWires (wires tables) p) × (r < maxValues) ⌝ }
 {
@@ -51,54 +60,61 @@ pub fn value_of(tables: [u16; Sheet::WIRES], p: u8) -> u8
         + 8 * bit_of(tables[3], p)) as u8
 }
 
-// The tables of all wires side by side in one number, as many bits each as there are patterns, so that the value on a pattern takes one shift.
-// Four tables of four inputs fill the number.
-pub fn side_by_side(tables: [u16; Sheet::WIRES]) -> u64
-    ensures { λ r. ⌜ r ≡ sideBySide tables ⌝ }
+// Section q of a table.
+fn section_of(table: u64, q: u8) -> u64
+    requires { ⌜ narrowPatterns * q < maxPatterns ⌝ }
+    ensures { λ r. ⌜ (r ≡ section table q) × (r < narrowSpace) ⌝ }
 {
-    tables[0] as u64
-        + tables[1] as u64 * SIDE_1
-        + tables[2] as u64 * SIDE_2
-        + tables[3] as u64 * SIDE_3
+    (table >> (SECTION * q)) % SECTION_SPACE
 }
 
-// The value that tables side by side drive on pattern p: their bits there are moved together.
-pub fn value_in(tables: u64, p: u8) -> u8
-    requires { ⌜ p < maxPatterns ⌝ }
-    ensures { λ r. ⌜ (r ≡ valueIn tables p) × (r < maxValues) ⌝ }
+// Section q of the tables of all wires side by side in one number, so that the value on a pattern takes one shift. Four sections fill the number.
+pub fn side_by_side(tables: &[u64; Sheet::WIRES], q: u8) -> u64
+    requires { ⌜ q < maxPatterns / narrowPatterns ⌝ }
+    ensures { λ r. ⌜ r ≡ sideBySide (now (tables .entry)) q ⌝ }
 {
-    let bits = (tables >> p) & LOWEST;
+    section_of(tables[0], q)
+        + section_of(tables[1], q) * SIDE_1
+        + section_of(tables[2], q) * SIDE_2
+        + section_of(tables[3], q) * SIDE_3
+}
+
+// The value that tables side by side drive on the p-th pattern of their section: their bits there are moved together.
+pub fn value_in(side: u64, p: u8) -> u8
+    requires { ⌜ p < narrowPatterns ⌝ }
+    ensures { λ r. ⌜ (r ≡ valueIn side p) × (r < maxValues) ⌝ }
+{
+    let bits = (side >> p) & LOWEST;
     let pairs = bits + (bits >> TOGETHER);
     ((pairs + (pairs >> TWICE_TOGETHER)) % VALUES) as u8
 }
 
-// The column of a wire's bit, of its two columns. Chosen and not looked up, so that all patterns are narrowed at once.
-fn choose(bit: u16, zero: u16, one: u16) -> u16
+// The column of a wire's bit, of its two columns: both are looked up before, so that a pattern costs no look-up.
+fn choose(bit: u64, zero: u16, one: u16) -> u16
     ensures { λ r. ⌜ r ≡ cond (eqb bit 1) one zero ⌝ }
 {
     if bit == 1 { one } else { zero }
 }
 
-// The sets once wire j has table t.
-pub fn agreeing(sets: [u16; Sheet::MAX_PATTERNS], j: u8, t: u16) -> [u16; Sheet::MAX_PATTERNS]
-    requires { ⌜ j < maxWires ⌝ }
+// The sets of n inputs once wire j has table t. Only the patterns there are cost something: past them the sets are empty, and stay so.
+pub fn agreeing(
+    n: u8,
+    sets: [u16; Sheet::MAX_PATTERNS],
+    j: u8,
+    t: u64,
+) -> [u16; Sheet::MAX_PATTERNS]
+    requires { ⌜ (n ≤ maxInputs) × (j < maxWires) × NonePast n sets ⌝ }
     ensures { λ r. ⌜ r ≡ agreed sets j t ⌝ }
 {
     let zero = column(j, 0);
     let one = column(j, 1);
+    let count = patterns_of(n);
     let mut next = sets;
-    for p in 0..Sheet::MAX_PATTERNS as u8 {
+    for p in 0..count {
         let at = p as usize;
         next[at] = sets[at] & choose(bit_of(t, p), zero, one);
     }
     next
-}
-
-// A pattern's set, empty past the last pattern.
-fn within(p: u8, count: u8, set: u16) -> u16
-    ensures { λ r. ⌜ r ≡ cond (ltb p count) set 0 ⌝ }
-{
-    if p < count { set } else { 0 }
 }
 
 // The sets with those past the last pattern of n inputs emptied.
@@ -106,11 +122,10 @@ pub fn clear_past(n: u8, sets: [u16; Sheet::MAX_PATTERNS]) -> [u16; Sheet::MAX_P
     requires { ⌜ n ≤ maxInputs ⌝ }
     ensures { λ r. ⌜ r ≡ cleared n sets ⌝ }
 {
-    let count = patterns_of(n);
-    let mut next = sets;
-    for p in 0..Sheet::MAX_PATTERNS as u8 {
+    let mut next = [0; Sheet::MAX_PATTERNS];
+    for p in 0..patterns_of(n) {
         let at = p as usize;
-        next[at] = within(p, count, sets[at]);
+        next[at] = sets[at];
     }
     next
 }

@@ -8,7 +8,7 @@ use lib.ListN.{length, take}
 use lib.Seq.{sets}
 use Rattle.base.specs.Cases.{Case, refusedOutcome, isRefused}
 use Rattle.branch_bound.specs.Reply.{bestOutcome}
-use Rattle.diagram.specs.Bytes.{longestShared}
+use Rattle.diagram.specs.Bytes.{longestWritten}
 use Rattle.quote.specs.Cases.{QuoteReply, fitsOutcome}
 use Rattle.clean.specs.Copy.{longestCopy}
 use Rattle.text.specs.Text.{hexPairs, longestDecimal, named}
@@ -73,7 +73,7 @@ shownLine most k bytes = shownPairs most k bytes ++ newline ∷ []
 
 -- both lines of a quote with a stage, with the word of its mark
 unfoldable pub resultLines : List ℕ → QuoteReply → List ℕ → List ℕ
-resultLines word q stage = countsOf (q .cells) (q .floor) (q .visits) ++ word ++ shownLine longestShared (q .length) stage
+resultLines word q stage = countsOf (q .cells) (q .floor) (q .visits) ++ word ++ shownLine longestWritten (q .length) stage
 
 -- "refused N at P"
 unfoldable pub refusalText : (number place : ℕ) → List ℕ
@@ -121,7 +121,7 @@ abbrev pub longestShownLine : ℕ → ℕ
 longestShownLine most = longestPairs most + 1
 
 abbrev pub longestReport : ℕ
-longestReport = longestCounts + longestWord + longestShownLine longestShared
+longestReport = longestCounts + longestWord + longestShownLine longestWritten
 
 -- the line of a copy, which is above that of any refusal
 abbrev pub longestCopyLine : ℕ

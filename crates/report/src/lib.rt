@@ -3,7 +3,7 @@
 // left as it was.
 use base::Written;
 use clean::LONGEST_COPY;
-use diagram::LONGEST_SHARED;
+use diagram::LONGEST_WRITTEN;
 use lines::put_judged;
 use lines::put_result;
 use parts::put_refusal_line;
@@ -31,7 +31,7 @@ const PAIR: usize = 3;
 pub const LONGEST_REPORT: usize = COUNT_NAMES
     + 3 * LONGEST_DECIMAL
     + LONGEST_WORD
-    + PAIR * LONGEST_SHARED
+    + PAIR * LONGEST_WRITTEN
     + 1;
 
 // And the line of a copy, at most so many.

@@ -2,7 +2,7 @@
 // Inner functions: the two reports meet what they require, bounds on lengths that are there for the sums alone.
 use crate::parts::put_counts;
 use crate::parts::put_shown_line;
-use diagram::LONGEST_SHARED;
+use diagram::LONGEST_WRITTEN;
 use quote::Quoted;
 use text::put_byte;
 use text::put_named;
@@ -21,7 +21,7 @@ pub fn put_result(out: &mut [u8], word: &[u8], q: Quoted, stage: &[u8]) -> usize
 {
     let counts = put_counts(out, 0, q.cells, q.floor, q.visits);
     let line = put_text(out, counts, word);
-    put_shown_line(out, line, stage, q.length, LONGEST_SHARED)
+    put_shown_line(out, line, stage, q.length, LONGEST_WRITTEN)
 }
 
 // Puts the line of a stage that was judged: the word of the judgement, and the stage's cells.

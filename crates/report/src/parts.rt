@@ -14,13 +14,13 @@ ghost use Rattle.report.specs.Lines.{countsOf, shownPairs, shownLine, re
 ghost use Rattle.report.specs.Inner.Lengths.{longestRefusal, longestRefusalLine};
 
 // Puts the counts of a reply: "cells C floor F visits V".
-pub fn put_counts(out: &mut [u8], at: usize, cells: u32, floor: u32, visits: u32) -> usize
+pub fn put_counts(out: &mut [u8], at: usize, cells: u64, floor: u64, visits: u64) -> usize
     requires { ⌜ at + longestCounts ≤ lastPlace ⌝ }
     ensures { λ r. ⌜ PutWithin longestCounts (now (out .entry)) at (countsOf cells floor visits) (now (out .exit)) r ⌝ }
 {
-    let first = put_named(out, at, b"cells ", cells as u64);
-    let second = put_named(out, first, b" floor ", floor as u64);
-    put_named(out, second, b" visits ", visits as u64)
+    let first = put_named(out, at, b"cells ", cells);
+    let second = put_named(out, first, b" floor ", floor);
+    put_named(out, second, b" visits ", visits)
 }
 
 // The lower of a number and the most there may be.

@@ -24,14 +24,14 @@ pub fn put_spaced(out: &mut [u8], at: usize, x: u64) -> usize
 }
 
 // The four tables, each with a space behind it.
-pub fn put_tables(out: &mut [u8], at: usize, tables: [u16; Sheet::WIRES]) -> usize
+pub fn put_tables(out: &mut [u8], at: usize, tables: [u64; Sheet::WIRES]) -> usize
     requires { ⌜ at + longestTables ≤ lastPlace ⌝ }
     ensures { λ r. ⌜ PutWithin longestTables (now (out .entry)) at (tablesText tables) (now (out .exit)) r ⌝ }
 {
-    let first = put_spaced(out, at, tables[0] as u64);
-    let second = put_spaced(out, first, tables[1] as u64);
-    let third = put_spaced(out, second, tables[2] as u64);
-    put_spaced(out, third, tables[3] as u64)
+    let first = put_spaced(out, at, tables[0]);
+    let second = put_spaced(out, first, tables[1]);
+    let third = put_spaced(out, second, tables[2]);
+    put_spaced(out, third, tables[3])
 }
 
 // Whether every byte of a buffer from a place on is as it was filled.

@@ -8,13 +8,13 @@ ghost use Prim.Native.Nat.{_+_, _*_, _≤_};
 ghost use lib.ListN.{length};
 ghost use Rattle.sheet.specs.Limits.{maxPatterns, maxWires};
 ghost use Rattle.base.specs.Inner.Put.{lastPlace};
-ghost use Rattle.samples.specs.Inner.Records.{callOf, fourAt, numbersAt, partOf, recordLength, twoAt};
+ghost use Rattle.samples.specs.Inner.Records.{callOf, eightAt, fourAt, partOf, recordLength, setsAt, tablesAt, twoAt};
 ghost use Rattle.samples.specs.Inner.Lengths.{longestPart, longestRecord};
 
 // The bytes of a record that has no part of its own length: n, m, a budget and the sets of a relation; n, m, a buffer's length and the tables of a stage.
 const SEARCH_RECORD: usize = 7 + 2 * Sheet::MAX_PATTERNS;
 
-const WRITE_RECORD: usize = 4 + 2 * Sheet::WIRES;
+const WRITE_RECORD: usize = 5 + 8 * Sheet::WIRES;
 
 // The number of two bytes at a place; bytes past the end count as 0.
 pub fn u16_at(s: &[u8], at: usize) -> u16
@@ -34,6 +34,14 @@ pub fn u32_at(s: &[u8], at: usize) -> u32
     (u16_at(s, at) as u32) + 65536 * (u16_at(s, at + 2) as u32)
 }
 
+// The number of eight bytes at a place.
+pub fn u64_at(s: &[u8], at: usize) -> u64
+    requires { ⌜ at + 8 ≤ lastPlace ⌝ }
+    ensures { λ r. ⌜ r ≡ eightAt (now (s .entry)) at ⌝ }
+{
+    (u32_at(s, at) as u64) + 4294967296 * (u32_at(s, at + 4) as u64)
+}
+
 // A length of two bytes at a place.
 pub fn length_at(s: &[u8], at: usize) -> usize
     requires { ⌜ at + 2 ≤ lastPlace ⌝ }
@@ -45,7 +53,7 @@ pub fn length_at(s: &[u8], at: usize) -> usize
 // The sets of a relation from a place on.
 pub fn sets_at(s: &[u8], from: usize) -> [u16; Sheet::MAX_PATTERNS]
     requires { ⌜ from + 2 * maxPatterns ≤ lastPlace ⌝ }
-    ensures { λ r. ⌜ r ≡ numbersAt maxPatterns (now (s .entry)) from ⌝ }
+    ensures { λ r. ⌜ r ≡ setsAt (now (s .entry)) from ⌝ }
 {
     let mut sets = [0u16; Sheet::MAX_PATTERNS];
     let mut i: usize = 0;
@@ -57,15 +65,15 @@ pub fn sets_at(s: &[u8], from: usize) -> [u16; Sheet::MAX_PATTERNS]
 }
 
 // The tables of a stage from a place on.
-pub fn tables_at(s: &[u8], from: usize) -> [u16; Sheet::WIRES]
-    requires { ⌜ from + 2 * maxWires ≤ lastPlace ⌝ }
-    ensures { λ r. ⌜ r ≡ numbersAt maxWires (now (s .entry)) from ⌝ }
+pub fn tables_at(s: &[u8], from: usize) -> [u64; Sheet::WIRES]
+    requires { ⌜ from + 8 * maxWires ≤ lastPlace ⌝ }
+    ensures { λ r. ⌜ r ≡ tablesAt (now (s .entry)) from ⌝ }
 {
     [
-        u16_at(s, from),
-        u16_at(s, from + 2),
-        u16_at(s, from + 4),
-        u16_at(s, from + 6),
+        u64_at(s, from),
+        u64_at(s, from + 8),
+        u64_at(s, from + 16),
+        u64_at(s, from + 24),
     ]
 }
 
@@ -102,7 +110,7 @@ pub fn record_length(s: &[u8], at: usize) -> usize
 {
     let call = call_of(byte_at(s, at));
     match call {
-        b'Q' => 8 + length_at(s, at + 6),
+        b'Q' => 9 + length_at(s, at + 7),
         b'A' => 5 + length_at(s, at + 1) + length_at(s, at + 3),
         b'S' => SEARCH_RECORD,
         b'W' => WRITE_RECORD,

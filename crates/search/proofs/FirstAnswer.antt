@@ -6,17 +6,16 @@ use mathlib.Core.Bool.{false, cond}
 use mathlib.Core.List.{List, [], _∷_}
 use native.Mathlib.Numerals.{add-one}
 use native.Mathlib.Omega.{arith}
-use native.Mathlib.Nat.{lt-of-lt-of-le}
+use native.Mathlib.Nat.{le-trans, lt-of-lt-of-le}
 use borrow.Author.Tests.{lt-ltb}
 use lib.Dec.{T-not, eqb, ltb, eqb→eq, ltb→lt, lt→ltb}
 use lib.ListN.{length, getD, set, length-set}
 use lib.Pow.{pow-mono}
 use lib.Seq.{getD-set-same, getD-set-other}
-use Rattle.sheet.specs.Limits.{maxWires, maxValues}
+use Rattle.sheet.specs.Limits.{maxInputs, maxWires, maxPatterns, maxValues}
 use Rattle.base.proofs.Tests.{decide, eq-test, test-ext}
 use Rattle.table.specs.Bits.{sum, tabulate}
 use Rattle.table.specs.Cells.{wires, total}
-use Rattle.table.specs.Inner.Ranks.{rank}
 use Rattle.table.proofs.Bits.{tabulate-at, tabulate-length, sum-cong}
 use Rattle.relation.specs.Source.{Tables}
 use Rattle.relation.specs.Tests.{ofSets, agree}
@@ -28,13 +27,13 @@ use Rattle.branch_bound.specs.declared.State.{State}
 use Rattle.branch_bound.specs.Search.{replyTables, pick, left, quick, start}
 use Rattle.nodes.specs.declared.BoardKind.{BoardKind}
 use Rattle.branch_bound.specs.Boards.{boardOf}
-use Rattle.nodes.specs.Counts.{countOf}
-use Rattle.parts.specs.Inner.Ranks.{tableIn, cellsIn, cellsSpace}
+use Rattle.nodes.specs.Counts.{countOf, mostInputs}
+use Rattle.nodes.proofs.Counts.{count-lt, most-inputs}
 use Rattle.sheet.specs.Inner.Sized.{Sized}
-use Rattle.parts.specs.Inner.Parts.{PartSets, rankOf}
+use Rattle.parts.specs.Inner.Parts.{PartSets}
+use Rattle.parts.specs.Inner.Picks.{tableOf}
 use Rattle.branch_bound.proofs.Picks.{wires-tables, pick-fits}
-use Rattle.parts.proofs.Keeping.{narrow, kept-pick, kept-least}
-use Rattle.parts.proofs.Packing.{rank-table, rank-cells}
+use Rattle.parts.proofs.Keeping.{narrow, kept-pick}
 
 -- the table chosen for wire i
 abbrev chosen : BoardKind → ℕ → ℕ → List ℕ → Tables
@@ -47,11 +46,15 @@ pub record ChosenBelow (kind : BoardKind) (n m : ℕ) (sets : List ℕ) (j : ℕ
   pub is-left : ofSets rest ≡ left (boardOf kind n m) (ofSets sets) j
   pub are-chosen : tables ≡ replyTables j (chosen kind n m sets)
   pub counted : sums ≡ sum j (λ i. countOf kind n (chosen kind n m sets i))
-  pub few : sums ≤ j * cellsSpace
+  pub few : sums ≤ j * maxPatterns
 
 pub none-taken : (kind : BoardKind) (n m : ℕ) (sets : List ℕ) → PartSets n m sets → ChosenBelow kind n m sets 0 sets (0 ∷ 0 ∷ 0 ∷ 0 ∷ []) 0
 unfolding left replyTables tabulate sum
 none-taken kind n m sets ok = record { reached = omega arith; kept = ok; is-left = refl; are-chosen = refl; counted = refl; few = omega arith }
+
+pub row-long : (j : ℕ) (X : Tables) → length (replyTables j X) ≡ maxWires
+unfolding replyTables
+row-long j X = tabulate-length maxWires (λ i. cond (ltb i j) (X i) 0)
 
 -- one table more in a row of tables
 more-tables : (j : ℕ) (X : Tables) (tables : List ℕ) → j < maxWires → tables ≡ replyTables j X → set tables j (X j) ≡ replyTables (j + 1) X
@@ -59,7 +62,7 @@ unfolding replyTables
 more-tables j X tables lj e =
     let f : ℕ → ℕ = λ i. cond (ltb i j) (X i) 0 in
     let g : ℕ → ℕ = λ i. cond (ltb i (j + 1)) (X i) 0 in
-    let long : length tables ≡ maxWires = ap length e ∙ tabulate-length maxWires f in
+    let long : length tables ≡ maxWires = ap length e ∙ row-long j X in
     filled-tabulate maxWires g (set tables j (X j)) (simp length-set long)
     (λ q l.
     ⊎-elim
@@ -76,31 +79,26 @@ more-tables j X tables lj e =
     below : (q : ℕ) → (q ≡ j → ⊥) → q < j + 1 → q < j
     below q ne h = omega arith
 
--- the next wire, from the rank of its pick
-module _ {kind : BoardKind} {n m : ℕ} (sz : Sized n m) {sets : List ℕ} {j : ℕ} {rest tables : List ℕ} {sums : ℕ} (tk : ChosenBelow kind n m sets j rest tables sums)
-    (lj : j < m) {r : ℕ} (er : r ≡ rankOf kind n rest j) where
+-- the next wire, from its pick
+module _ {kind : BoardKind} {n m : ℕ} (sz : Sized (mostInputs kind) n m) {sets : List ℕ} {j : ℕ} {rest tables : List ℕ} {sums : ℕ} (tk : ChosenBelow kind n m sets j rest tables sums)
+    (lj : j < m) where
   is-chosen : pick (boardOf kind n m) (ofSets rest) j ≡ chosen kind n m sets j
   is-chosen = ap (λ R. pick (boardOf kind n m) R j) (tk .is-left)
-
-  parts : (tableIn r ≡ pick (boardOf kind n m) (ofSets rest) j) × (cellsIn r ≡ countOf kind n (pick (boardOf kind n m) (ofSets rest) j))
-  parts =
-      let k = kept-pick kind sz (tk .kept) j in
-      let t = pick (boardOf kind n m) (ofSets rest) j in
-      let l = kept-least kind sz (tk .kept) j .0 in
-      let e = er ∙ ap (rank (countOf kind n)) k in
-      (ap tableIn e ∙ rank-table (countOf kind n) n t (sz .n-most) l, ap cellsIn e ∙ rank-cells (countOf kind n) n t (sz .n-most) l)
 
   small : (p : ℕ) → getD rest p 0 < 2 ^ maxValues
   small p = lt-of-lt-of-le (tk .kept .small p) (pow-mono {i = 2 ^ m} {j = maxValues} (pow-mono {i = m} {j = maxWires} (sz .m-most)))
 
-  pub next-taken : {t s : ℕ} → t ≡ tableIn r → s ≡ cellsIn r → s < cellsSpace → ChosenBelow kind n m sets (j + 1) (agreed rest j t) (set tables j t) (sums + s)
+  chosen-next : {s : ℕ} → s ≡ countOf kind n (tableOf kind n rest j)
+      → ChosenBelow kind n m sets (j + 1) (agreed rest j (tableOf kind n rest j)) (set tables j (tableOf kind n rest j)) (sums + s)
   unfolding left boardOf sum
-  next-taken {t} {s} et es ls =
+  chosen-next {s} es =
+      let t = tableOf kind n rest j in
       let R = ofSets rest in
       let p = pick (boardOf kind n m) R j in
-      let tp : t ≡ p = et ∙ parts .0 in
+      let k = kept-pick kind sz (tk .kept) j in
+      let tp : t ≡ p = k in
       let ag = agreed-agree rest j t (tk .kept .long) small in
-      let w = agreed-narrow n m rest j t (narrow sz (tk .kept)) in
+      let w = agreed-narrow n m rest j t (narrow kind sz (tk .kept)) in
       record {
         reached = omega arith;
         kept =
@@ -112,13 +110,22 @@ module _ {kind : BoardKind} {n m : ℕ} (sz : Sized n m) {sets : List ℕ} {j : 
             };
         is-left = ag ∙ ap (agree R j) tp ∙ ap (λ Q. agree Q j (pick (boardOf kind n m) Q j)) (tk .is-left) ∙ ap (left (boardOf kind n m) (ofSets sets)) (sym (add-one j));
         are-chosen = ap (set tables j) (tp ∙ is-chosen) ∙ more-tables j (chosen kind n m sets) tables (omega (arith, sz .m-most)) (tk .are-chosen);
-        counted = ap₂ (λ x y. x + y) (tk .counted) (es ∙ parts .1 ∙ ap (countOf kind n) is-chosen)
+        counted = ap₂ (λ x y. x + y) (tk .counted) (es ∙ ap (countOf kind n) (k ∙ is-chosen))
             ∙ ap (λ k. sum k (λ i. countOf kind n (chosen kind n m sets i))) (sym (add-one j));
-        few = omega (arith, tk .few);
+        few = omega (arith, tk .few, es, count-lt kind n (tableOf kind n rest j), pow-mono {i = n} {j = maxInputs} (le-trans (sz .n-most) (most-inputs kind)));
       }
 
+  -- as the code makes it
+  pub next-taken : {s : ℕ} {more next : List ℕ} → more ≡ set tables j (tableOf kind n rest j) → s ≡ countOf kind n (tableOf kind n rest j) → next ≡ agreed rest j (getD more j 0)
+      → ChosenBelow kind n m sets (j + 1) next more (sums + s)
+  next-taken {s} {more} {next} et es en =
+      let t = tableOf kind n rest j in
+      let long : length tables ≡ maxWires = ap length (tk .are-chosen) ∙ row-long j (chosen kind n m sets) in
+      let there : getD more j 0 ≡ t = ap (λ l. getD l j 0) et ∙ getD-set-same tables j t 0 (omega (arith, long, sz .m-most)) in
+      rw (en ∙ ap (agreed rest j) there, et) (chosen-next es)
+
 -- with all wires chosen it is the start of the search
-pub all-taken : {kind : BoardKind} {n m : ℕ} → Sized n m → {sets rest tables : List ℕ} {sums j : ℕ} → j ≡ m → ChosenBelow kind n m sets j rest tables sums
+pub all-taken : {kind : BoardKind} {n m : ℕ} → Sized (mostInputs kind) n m → {sets rest tables : List ℕ} {sums j : ℕ} → j ≡ m → ChosenBelow kind n m sets j rest tables sums
     → _≡_ {A = State} (record { tables = tables; cells = sums; visits = 0; stopped = false }) (start (boardOf kind n m) (ofSets sets))
 unfolding start quick total boardOf
 all-taken {kind} {n} {m} sz {sets} {rest} {tables} {sums} {j} e tk =

@@ -1,8 +1,9 @@
+pub mod Lending
 pub mod Opening
 pub mod Carrying
 pub mod Steps
 pub mod Halves
-pub mod Tallies
+pub mod StateChanges
 pub mod FirstAnswer
 pub mod Entry
 pub mod Cases

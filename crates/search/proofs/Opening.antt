@@ -1,5 +1,5 @@
 -- The pair to split at: what the nested loops find is the first conflict and its first open wire.
-use Prim.Native.Nat.{ℕ, _^_, _<_, _≤_}
+use Prim.Native.Nat.{ℕ, _/_, _%_, _^_, _<_, _≤_}
 use mathlib.Core.Path.{_≡_, refl, sym, ap, ap₂, subst, _∙_}
 use mathlib.Core.Logic.{⊎-elim}
 use mathlib.Core.Bool.{Bool, false, cond, not}
@@ -7,7 +7,7 @@ use mathlib.Core.List.{List}
 use native.Mathlib.Omega.{arith}
 use lib.Dec.{T, T-not, not-T, ltb, nltb→le, ltb→lt}
 use lib.ListN.{getD, List·getD-eq-default}
-use Rattle.sheet.specs.Limits.{maxInputs, maxWires, maxPatterns}
+use Rattle.sheet.specs.Limits.{maxInputs, maxWires}
 use Rattle.base.specs.Lowest.{lowest}
 use Rattle.base.proofs.Tests.{cond-has, decide, test-yes, test-no}
 use Rattle.base.proofs.Lowest.{lowest-at, lowest-below}
@@ -26,6 +26,8 @@ use Rattle.search.specs.declared.SplitPlace.{SplitPlace}
 use Rattle.search.specs.declared.SplitPlace.the-variants.{Pair, Nowhere}
 use Rattle.branch_bound.specs.Search.{replyTables, pick, picks}
 use Rattle.nodes.specs.declared.BoardKind.{BoardKind}
+use Rattle.nodes.specs.Counts.{mostInputs}
+use Rattle.table.specs.Inner.Pairs.{narrowPatterns}
 use Rattle.branch_bound.specs.Boards.{boardOf}
 use Rattle.sheet.specs.Inner.Sized.{Sized}
 use Rattle.parts.specs.Inner.Parts.{PartSets}
@@ -72,17 +74,17 @@ found-nowhere n m R X e =
     let y : _≡_ {A = ℕ} 0 1 = cc in absurd (omega arith))
     (decide (compatible n m R X))
 
-module _ (kind : BoardKind) {n m : ℕ} (sz : Sized n m) {sets : List ℕ} (ok : PartSets n m sets) {tables : List ℕ} (are : tables ≡ picks (boardOf kind n m) (ofSets sets)) where
+module _ (kind : BoardKind) {n m : ℕ} (sz : Sized (mostInputs kind) n m) {sets : List ℕ} (ok : PartSets n m sets) {tables : List ℕ} (are : tables ≡ picks (boardOf kind n m) (ofSets sets)) where
   -- the code's tests
-  pub allowed-test : ((j : ℕ) → getD tables j 0 < 2 ^ maxPatterns) → (p : ℕ) → p < maxPatterns → {s v : ℕ} → s ≡ sideBySide tables → v ≡ valueIn s p
+  pub allowed-test : (p : ℕ) → {s v : ℕ} → s ≡ sideBySide tables (p / narrowPatterns) → v ≡ valueIn s (p % narrowPatterns)
       → {r : Bool} → r ≡ member (getD sets p 0) v → r ≡ ofSets sets p (value m (wires (picks (boardOf kind n m) (ofSets sets))) p)
   unfolding picks boardOf
-  allowed-test small p l es ev er =
+  allowed-test p es ev er =
       er
       ∙ ap₂ (λ (S : ℕ → Bool) v. S v) (sym (member-sets sets p))
       (ev
-      ∙ ap (λ x. valueIn x p) es
-      ∙ side-value tables p l small
+      ∙ ap (λ x. valueIn x (p % narrowPatterns)) es
+      ∙ side-value tables p
       ∙ value-all-wires m tables p (sz .m-most) (λ j l. ap (λ ts. wires ts j) are ∙ tables-past m (pick (boardOf kind n m) (ofSets sets)) j l)
       ∙ ap (λ ts. value m (wires ts) p) are)
 

@@ -15,7 +15,7 @@ use Rattle.branch_bound.specs.Boards.{boardOf}
 use Rattle.branch_bound.proofs.Depth.{search-step}
 use Rattle.search.specs.declared.SplitPlace.{SplitPlace}
 use Rattle.search.specs.declared.SplitPlace.the-variants.{Pair, Nowhere}
-use Rattle.parts.specs.Inner.Ranks.{tablesIn, floorIn}
+use Rattle.parts.specs.Inner.Cells.{cellsSum}
 use Rattle.parts.specs.Inner.Parts.{Carried}
 use Rattle.search.specs.Inner.Conflicts.{splitPlace}
 use Rattle.search.proofs.Carrying.{carried-floor, carried-tables}
@@ -24,7 +24,7 @@ use Rattle.search.proofs.Opening.{found-nowhere, place-told}
 pub lt→nleb : (x y : ℕ) → y < x → T (not (leb x y))
 lt→nleb x y l = not-T (leb x y) (λ t. omega (arith, leb→le x y t))
 
-module _ {kind : BoardKind} {n m : ℕ} {S ws rs : List ℕ} (h : Carried kind n m S ws rs) (budget : ℕ) (s : State) {f : ℕ} (ef : f ≡ floorIn rs) where
+module _ {kind : BoardKind} {n m : ℕ} {S ws ts : List ℕ} {c : ℕ} (h : Carried kind n m S ws ts c) (budget : ℕ) (s : State) {f : ℕ} (ef : f ≡ cellsSum c) where
   step : searchPart (boardOf kind n m) budget (ofSets S) s ≡ treat (boardOf kind n m) budget (searchPart (boardOf kind n m) budget) (ofSets S) s
   unfolding boardOf
   step = search-step (boardOf kind n m) (h .sized .m-most) budget (ofSets S) s (h .sets .defined)
@@ -43,19 +43,19 @@ module _ {kind : BoardKind} {n m : ℕ} {S ws rs : List ℕ} (h : Carried kind n
       unfolding treat charge
       expands = rw (← carried-floor h ef, test-no (discarded s f) more, test-no (usedUp budget s) left)
 
-      -- the code's tables and where it splits
-      module _ {tables : List ℕ} (et : tables ≡ tablesIn rs) {found : SplitPlace} (ep : found ≡ splitPlace n m (ofSets S) (wires tables)) {u : State} where
-        pub improves : found ≡ Nowhere → u ≡ improved tables f (charged s) → u ≡ searchPart (boardOf kind n m) budget (ofSets S) s
+      -- where the code splits
+      module _ {found : SplitPlace} (ep : found ≡ splitPlace n m (ofSets S) (wires ts)) {u : State} where
+        pub improves : found ≡ Nowhere → u ≡ improved ts f (charged s) → u ≡ searchPart (boardOf kind n m) budget (ofSets S) s
         unfolding expand boardOf
         improves e eu =
-            let t = test-yes (compatible n m (ofSets S) (wires tables)) (found-nowhere n m (ofSets S) (wires tables) (sym ep ∙ e)) in
-            eu ∙ sym (step ∙ expands ∙ rw (← carried-tables h et, t, ← carried-floor h ef))
+            let t = test-yes (compatible n m (ofSets S) (wires ts)) (found-nowhere n m (ofSets S) (wires ts) (sym ep ∙ e)) in
+            eu ∙ sym (step ∙ expands ∙ rw (← carried-tables h, t, ← carried-floor h ef))
 
         pub splits : {p j : ℕ} → found ≡ Pair p j → {v : State} → v ≡ charged s
             → u ≡ split (boardOf kind n m) budget (searchPart (boardOf kind n m) budget) (ofSets S) p j v → u ≡ searchPart (boardOf kind n m) budget (ofSets S) s
         unfolding expand boardOf
         splits {p} {j} e ev eu =
-            let told = place-told n m (ofSets S) (wires tables) p j (sym ep ∙ e) in
-            let t = test-no (compatible n m (ofSets S) (wires tables)) (told .0) in
+            let told = place-told n m (ofSets S) (wires ts) p j (sym ep ∙ e) in
+            let t = test-no (compatible n m (ofSets S) (wires ts)) (told .0) in
             eu ∙ ap (split (boardOf kind n m) budget (searchPart (boardOf kind n m) budget) (ofSets S) p j) ev
-            ∙ sym (step ∙ expands ∙ rw (← carried-tables h et, t, told .1, told .2))
+            ∙ sym (step ∙ expands ∙ rw (← carried-tables h, t, told .1, told .2))

@@ -1,3 +1,3 @@
 -- Meanings that only inner functions use: no public contract reaches them.
 pub mod Conflicts
-pub mod Tally
+pub mod States

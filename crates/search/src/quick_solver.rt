@@ -1,61 +1,74 @@
 // The first answer, one wire after the other (QuickSolver of source 001, section 6.2).
 // Inner functions: `search_sets` and `quick` meet what they require.
 use branch_bound::State;
-use parts::ranks::cells_of;
-use parts::ranks::table_of;
-use parts::wire_rank;
+use parts::boards::inputs_of;
+use parts::pairs::pair_of;
+use parts::picks::STATE;
+use parts::picks::whole_pick;
 use relation::patterns::agreeing;
 use sheet::Sheet;
 use table::picks::ENTRIES;
+use table::picks::LENT;
 ghost use mathlib.Core.Path.{_≡_};
 ghost use Prim.Native.Nat.{_<_};
+ghost use lib.ListN.{length, set as put};
 ghost use Rattle.sheet.specs.Limits.{maxWires};
+ghost use Rattle.nodes.specs.Counts.{mostInputs, countOf};
 ghost use Rattle.relation.specs.Tests.{ofSets};
 ghost use Rattle.branch_bound.specs.Search.{start};
 ghost use Rattle.branch_bound.specs.Boards.{boardOf};
-ghost use Rattle.parts.specs.Inner.Boards.{kindIn, boardInputs, Lent};
+ghost use Rattle.parts.specs.Inner.Boards.{lentKind, lentInputs, lentWires, Lent};
 ghost use Rattle.sheet.specs.Inner.Sized.{Sized};
-ghost use Rattle.parts.specs.Inner.Parts.{PartSets, rankOf};
+ghost use Rattle.parts.specs.Inner.Parts.{PartSets};
+ghost use Rattle.parts.specs.Inner.Picks.{tableOf};
+ghost use Rattle.parts.specs.Inner.States.{stateLength};
 
-// The rank of wire j's pick once the wires before it are chosen. Before the first wire nothing is: its pick is the whole relation's, which the caller has.
-fn rank_left(
-    e: &[u16; ENTRIES],
-    board: u8,
-    m: u8,
-    left: [u16; Sheet::MAX_PATTERNS],
+// Wire j's pick once the wires before it are chosen: its table is put in its place, and its cells are the result. Before the first wire nothing is chosen: its pick
+// is the whole relation's, which the caller has.
+fn pick_left(
+    e: &[u16; LENT],
+    left: &[u16; Sheet::MAX_PATTERNS],
     j: u8,
+    table: u64,
     first: u32,
+    tables: &mut [u64; Sheet::WIRES],
+    state: &mut [u64; STATE],
 ) -> u32
-    requires { ⌜ Lent board (now e) × Sized (boardInputs board) m × PartSets (boardInputs board) m left × (j < maxWires) × (j ≡ 0 → first ≡ rankOf (kindIn board) (boardInputs board) left 0) ⌝ }
-    ensures { λ r. ⌜ r ≡ rankOf (kindIn board) (boardInputs board) left j ⌝ }
+    requires { ⌜ Lent (now e) × Sized (mostInputs (lentKind (now e))) (lentInputs (now e)) (lentWires (now e)) × PartSets (lentInputs (now e)) (lentWires (now e)) (now left) × (j < maxWires)
+        × (j ≡ 0 → (table ≡ tableOf (lentKind (now e)) (lentInputs (now e)) (now left) 0) × (first ≡ countOf (lentKind (now e)) (lentInputs (now e)) table))
+        × (length (now tables) ≡ maxWires) × (length (now state) ≡ stateLength) ⌝ }
+    ensures { λ r. ⌜ (now (tables .exit) ≡ put (now (tables .entry)) j (tableOf (lentKind (now (e .entry))) (lentInputs (now (e .entry))) (now (left .entry)) j))
+        × (r ≡ countOf (lentKind (now (e .entry))) (lentInputs (now (e .entry))) (tableOf (lentKind (now (e .entry))) (lentInputs (now (e .entry))) (now (left .entry)) j))
+        × (length (now (state .exit)) ≡ stateLength) ⌝ }
 {
     if j == 0 {
-        first
-    } else {
-        wire_rank(e, board, m, left, j)
+        tables[0] = table;
+        return first;
     }
+    let pairs = pair_of(inputs_of(e[ENTRIES] as u8), left, j);
+    whole_pick(e, &pairs, j, tables, state)
 }
 
 pub fn quick(
-    e: &[u16; ENTRIES],
-    board: u8,
-    m: u8,
+    e: &[u16; LENT],
     sets: [u16; Sheet::MAX_PATTERNS],
+    table: u64,
     first: u32,
+    state: &mut [u64; STATE],
 ) -> State
-    requires { ⌜ Lent board (now e) × Sized (boardInputs board) m × PartSets (boardInputs board) m sets × (first ≡ rankOf (kindIn board) (boardInputs board) sets 0) ⌝ }
-    ensures { λ r. ⌜ r ≡ start (boardOf (kindIn board) (boardInputs board) m) (ofSets sets) ⌝ }
+    requires { ⌜ Lent (now e) × Sized (mostInputs (lentKind (now e))) (lentInputs (now e)) (lentWires (now e)) × PartSets (lentInputs (now e)) (lentWires (now e)) sets
+        × (table ≡ tableOf (lentKind (now e)) (lentInputs (now e)) sets 0) × (first ≡ countOf (lentKind (now e)) (lentInputs (now e)) table) × (length (now state) ≡ stateLength) ⌝ }
+    ensures { λ r. ⌜ (r ≡ start (boardOf (lentKind (now (e .entry))) (lentInputs (now (e .entry))) (lentWires (now (e .entry)))) (ofSets sets)) × (length (now (state .exit)) ≡ stateLength) ⌝ }
 {
+    let n = inputs_of(e[ENTRIES] as u8);
+    let m = e[ENTRIES + 1] as u8;
     let mut left = sets;
-    let mut tables = [0u16; Sheet::WIRES];
+    let mut tables = [0u64; Sheet::WIRES];
     let mut cells: u32 = 0;
     for j in 0..m {
-        let rank = rank_left(e, board, m, left, j, first);
-        let t = table_of(rank);
-        let next = agreeing(left, j, t);
+        cells += pick_left(e, &left, j, table, first, &mut tables, state);
+        let next = agreeing(n, left, j, tables[j as usize]);
         left = next;
-        tables[j as usize] = t;
-        cells += cells_of(rank);
     }
     State {
         tables,

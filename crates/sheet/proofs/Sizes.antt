@@ -24,15 +24,15 @@ pub count-fits : (x k : ℕ) → 1 ≤ x → x ≤ k → countOut x k ≡ false
 count-fits x k a b = rw (ne-eqb x 0 (λ e. omega arith), le-ltb k x b)
 
 -- the same of n and m
-pub sizes-in : (n m : ℕ) → sizesOut n m ≡ false → Sized n m
-sizes-in n m e =
-    let h = neither (countOut n maxInputs) (countOut m maxWires) e in
-    let a = count-in n maxInputs (h .0) in
+pub sizes-in : (most n m : ℕ) → sizesOut most n m ≡ false → Sized most n m
+sizes-in most n m e =
+    let h = neither (countOut n most) (countOut m maxWires) e in
+    let a = count-in n most (h .0) in
     let b = count-in m maxWires (h .1) in
     record { n-least = a .0; n-most = a .1; m-least = b .0; m-most = b .1 }
 
-pub sizes-fit : (n m : ℕ) → Sized n m → sizesOut n m ≡ false
-sizes-fit n m z = rw (count-fits n maxInputs (z .n-least) (z .n-most), count-fits m maxWires (z .m-least) (z .m-most))
+pub sizes-fit : (most n m : ℕ) → Sized most n m → sizesOut most n m ≡ false
+sizes-fit most n m z = rw (count-fits n most (z .n-least) (z .n-most), count-fits m maxWires (z .m-least) (z .m-most))
 
 -- a pattern of so many inputs, and a value of so many wires, where these are in range
 pub pattern-place : (n p : ℕ) → n ≤ maxInputs → p < 2 ^ n → p < maxPatterns

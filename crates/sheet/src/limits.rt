@@ -4,7 +4,7 @@ ghost use mathlib.Core.Path.{_≡_};
 ghost use Prim.Native.Nat.{_≤_, _^_, min};
 ghost use Rattle.sheet.specs.Limits.{maxInputs, maxWires, maxPatterns, maxValues, countOut, sizesOut, isBeyond, allOnes};
 
-// A set and a table are numbers of so many bits, 2 to the power of WORD_POWER.
+// A set of values is a number of so many bits, 2 to the power of WORD_POWER.
 const WORD_POWER: u8 = 4;
 
 const WORD_BITS: u8 = 1 << WORD_POWER;
@@ -31,7 +31,7 @@ pub fn values_of(m: u8) -> u8
     power(m, Sheet::MAX_WIRES)
 }
 
-// 2 to the k ones: the set of all values of k wires, and of k inputs the table of constant 1, as far as a number of a word has room.
+// 2 to the k ones: the set of all values of k wires, as far as a word has room.
 pub fn all_ones(k: u8) -> u16
     ensures { λ r. ⌜ r ≡ allOnes k ⌝ }
 {
@@ -45,7 +45,7 @@ pub fn beyond(k: u8, x: u16) -> bool
     if k < WORD_BITS { 1 <= x >> k } else { false }
 }
 
-// A number with a bit past the lowest 2 to the k: a set with a value that k wires do not have, a table with a pattern that k inputs do not have.
+// A set with a value that k wires do not have.
 pub fn bits_past(k: u8, x: u16) -> bool
     ensures { λ r. ⌜ r ≡ isBeyond (2 ^ k) x ⌝ }
 {
@@ -59,11 +59,11 @@ pub fn count_out(x: u8, most: u8) -> bool
     if x == 0 { true } else { most < x }
 }
 
-// Too few or too many inputs or wires.
-pub fn sizes_out(n: u8, m: u8) -> bool
-    ensures { λ r. ⌜ r ≡ sizesOut n m ⌝ }
+// Too few or too many inputs or wires, with at most so many inputs.
+pub fn sizes_out(most: u8, n: u8, m: u8) -> bool
+    ensures { λ r. ⌜ r ≡ sizesOut most n m ⌝ }
 {
-    if count_out(n, Sheet::MAX_INPUTS) {
+    if count_out(n, most) {
         true
     } else {
         count_out(m, Sheet::MAX_WIRES)

@@ -5,7 +5,7 @@ use mathlib.Core.List.{List, [], _∷_, map}
 use native.Mathlib.Omega.{arith}
 use lib.ListN.{length, take, length-append}
 use lib.Seq.{getD-take, length-take-le}
-use Rattle.sheet.specs.Limits.{maxInputs, maxWires}
+use Rattle.sheet.specs.Limits.{maxWires}
 use Rattle.table.specs.Bits.{sum}
 use Rattle.table.specs.Cells.{wires, total}
 use Rattle.table.specs.Drawing.{drawnCells}
@@ -29,12 +29,12 @@ total-taken count m tables h =
 module _ (F : StageForm) (L : FormLaws F) where
   -- the longest wire, and the longest stage sheet
   abbrev pub longestWire : ℕ
-  longestWire = L .frame + selectorBytes * L .most
+  longestWire = L .frame + selectorBytes * L .wireMost
 
   abbrev pub longestOf : ℕ
   longestOf = sheetFrame + maxWires * longestWire
 
-  pub wire-most : (n j : ℕ) (x : F .Shape) → n ≤ maxInputs → F .WellFormed n x → length (F .wireBytes j x) ≤ longestWire
+  pub wire-most : (n j : ℕ) (x : F .Shape) → n ≤ F .most → F .WellFormed n x → length (F .wireBytes j x) ≤ longestWire
   wire-most n j x s w = omega (arith, L .wire-length j x, L .few n x s w)
 
   -- what is written, where `count` tells the selectors that a table takes: its length by wires and selectors, and its bound where no table takes more than k
@@ -66,7 +66,7 @@ module _ (F : StageForm) (L : FormLaws F) where
       sheet-length-most k few = omega (arith, sheet-length, sum-bound m k (λ j. count (wires tables j)) (λ j _. few (wires tables j)))
 
   -- the cells of what is written
-  pub drawn-cells : (n m : ℕ) (tables : List ℕ) → n ≤ maxInputs → m ≤ length tables
+  pub drawn-cells : (n m : ℕ) (tables : List ℕ) → n ≤ F .most → m ≤ length tables
       → drawnCells (drawing F) (stageDrawn F n m tables) ≡ total (F .count n) m (wires tables)
   drawn-cells n m tables s h =
       ap (drawnCells (drawing F)) (drawn-least F L n m tables s)

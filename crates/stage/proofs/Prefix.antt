@@ -11,7 +11,7 @@ use lib.ListN.{length, take, drop, length-append, take-append-drop}
 use lib.Seq.{take-all, length-take-le}
 use Rattle.base.specs.Each.{Each}
 use Rattle.base.proofs.Tests.{decide, cond-has₂, test-no}
-use Rattle.sheet.specs.Limits.{maxInputs, maxWires, sizesOut}
+use Rattle.sheet.specs.Limits.{maxWires, sizesOut}
 use Rattle.sheet.proofs.Sizes.{sizes-in}
 use Rattle.table.specs.Drawing.{StageSheet, got, noStage}
 use Rattle.stage.specs.Steps.{Read, taken, fault, operand}
@@ -28,7 +28,7 @@ module _ (F : StageForm) (L : FormLaws F) where
   abbrev roomFor : ℕ → ℕ
   roomFor left = left * longestWire F L + 2
 
-  wires-more : (left n m j at : ℕ) (bytes q : List ℕ) → n ≤ maxInputs → roomFor left ≤ length bytes
+  wires-more : (left n m j at : ℕ) (bytes q : List ℕ) → n ≤ F .most → roomFor left ≤ length bytes
       → wiresAt F left n m j at (bytes ++ q) ≡ withMore q (wiresAt F left n m j at bytes)
   unfolding wiresAt withMore
   wires-more zero n m j at bytes q s h = refl
@@ -41,7 +41,7 @@ module _ (F : StageForm) (L : FormLaws F) where
       rw (wires-more left n m (suc j) next rest q s (omega arith)) (then-more q (wiresAt F left n m (suc j) next rest) _ (λ _ _ _ _. refl))))
 
   -- the wires leave two bytes to the end
-  wires-short : (n left j : ℕ) (xs : List (F .Shape)) → n ≤ maxInputs → length xs ≡ left → Each (F .WellFormed n) xs
+  wires-short : (n left j : ℕ) (xs : List (F .Shape)) → n ≤ F .most → length xs ≡ left → Each (F .WellFormed n) xs
       → length (wiresBytes F j xs) + 2 ≤ roomFor left
   unfolding wiresBytes
   wires-short n left j [] s e o = omega arith
@@ -60,7 +60,7 @@ module _ (F : StageForm) (L : FormLaws F) where
   end-more whole at (b ∷ d ∷ rest) q h =
       due-more (λ x y. x ≡ y) (F .known) noStage 0x2F at (nothingAfter noStage whole at) (λ _. refl) b (d ∷ rest) q refl
 
-  closed-more : (n m : ℕ) (bytes q : List ℕ) → n ≤ maxInputs → roomFor m ≤ length bytes → (y : Read (List (F .Shape))) → ToldWires F m n 0 3 bytes y
+  closed-more : (n m : ℕ) (bytes q : List ℕ) → n ≤ F .most → roomFor m ≤ length bytes → (y : Read (List (F .Shape))) → ToldWires F m n 0 3 bytes y
       → closed F n m (withMore q y) ≡ closed F n m y
   unfolding closed withMore
   closed-more n m bytes q s h (fault f) t = refl
@@ -89,9 +89,9 @@ module _ (F : StageForm) (L : FormLaws F) where
   enough (b ∷ n ∷ []) q h = absurd (omega arith)
   enough (b ∷ n ∷ m ∷ rest) q h =
       due-more (λ x y. x ≡ y) (F .known) noStage 0x20 0 _ (λ _. refl) b (n ∷ m ∷ rest) q
-      (cond-has₂ (λ x y. x ≡ y) (sizesOut n m) (λ _. refl)
+      (cond-has₂ (λ x y. x ≡ y) (sizesOut (F .most) n m) (λ _. refl)
       (λ o.
-      let z = sizes-in n m (test-no (sizesOut n m) o) in
+      let z = sizes-in (F .most) n m (test-no (sizesOut (F .most) n m) o) in
       let room : roomFor m ≤ length rest = omega (arith, room-most m (z .m-most)) in
       rw (wires-more m n m 0 3 rest q (z .n-most) room)
       (closed-more n m rest q (z .n-most) room (wiresAt F m n m 0 3 rest) (wires-told F L m n m 0 3 rest))))

@@ -8,7 +8,7 @@ use lib.Dec.{T, ltb, nltb→le}
 use lib.ListN.{length, getD, take}
 use lib.Seq.{take-at}
 use Rattle.base.specs.Cases.{Case, accepting, acceptedOutcome, isRefused}
-use Rattle.sheet.specs.Limits.{sizesOut, maxInputs, maxWires}
+use Rattle.sheet.specs.Limits.{sizesOut, maxWires}
 use Rattle.base.proofs.Tests.{cond-has, test-no}
 use Rattle.base.proofs.Tabulate.{take-entry}
 use Rattle.sheet.specs.Inner.Sized.{Sized}
@@ -28,7 +28,7 @@ use Rattle.stage.proofs.Written.{tables-in}
 
 -- what holds where the writer refuses nothing
 pub record Writes (F : StageForm) (n m : ℕ) (tables : List ℕ) (c : Case) : Type 0 where
-  pub sizes : Sized n m
+  pub sizes : Sized (F .most) n m
   pub within : m ≤ firstOut n m tables
   pub is : c ≡ accepting acceptedOutcome (length (stageOf F n m tables))
 
@@ -36,19 +36,19 @@ pub writes : (F : StageForm) (n m : ℕ) (tables : List ℕ) (room : ℕ) → T 
     → Writes F n m tables (writtenOf F n m tables room)
 unfolding writtenOf
 writes F n m tables room =
-    cond-has Claim (sizesOut n m) (λ _ h. absurd h)
+    cond-has Claim (sizesOut (F .most) n m) (λ _ h. absurd h)
     (λ a.
     cond-has Claim (ltb (firstOut n m tables) m) (λ _ h. absurd h)
     (λ b.
     cond-has Claim (ltb room (length (stageOf F n m tables))) (λ _ h. absurd h)
-    (λ _ _. record { sizes = sizes-in n m (test-no (sizesOut n m) a); within = nltb→le (firstOut n m tables) m b; is = refl })))
+    (λ _ _. record { sizes = sizes-in (F .most) n m (test-no (sizesOut (F .most) n m) a); within = nltb→le (firstOut n m tables) m b; is = refl })))
   where
     Claim : Case → Type 0
     Claim c = T (not (isRefused c)) → Writes F n m tables c
 
 module _ (F : StageForm) (L : FormLaws F) where
   -- the table of what is written for a table is that table
-  pub table-back : (n t : ℕ) → n ≤ maxInputs → t < 2 ^ (2 ^ n) → drawnTable (drawing F) n (F .reduced n t) ≡ t
+  pub table-back : (n t : ℕ) → n ≤ F .most → t < 2 ^ (2 ^ n) → drawnTable (drawing F) n (F .reduced n t) ≡ t
   unfolding drawnTable ofBits
   table-back n t s h =
       let x = L .fair n s .reduced t in
@@ -56,7 +56,7 @@ module _ (F : StageForm) (L : FormLaws F) where
       ∙ sum-cong (2 ^ n) (λ p. F .follow n p x * 2 ^ p) (λ p. bit t p * 2 ^ p) (λ p l. ap (λ b. b * 2 ^ p) (L .fair n s .reduced-follow t p h l))
       ∙ ofBits-bit (2 ^ n) t h
 
-  tables-back : (n : ℕ) → n ≤ maxInputs → (ts : List ℕ) → ((j : ℕ) → j < length ts → getD ts j 0 < 2 ^ (2 ^ n))
+  tables-back : (n : ℕ) → n ≤ F .most → (ts : List ℕ) → ((j : ℕ) → j < length ts → getD ts j 0 < 2 ^ (2 ^ n))
       → map (drawnTable (drawing F) n) (map (F .reduced n) ts) ≡ ts
   tables-back n s [] h = refl
   tables-back n s (t ∷ ts) h = ap₂ _∷_ (table-back n t s (h 0 (omega arith))) (tables-back n s ts (λ j l. h (suc j) (omega arith)))

@@ -56,6 +56,26 @@ pub a-written : (writtenOf treeForm 2 2 (3 ∷ 10 ∷ 0 ∷ 0 ∷ []) 15 ≡ ref
 unfolding writing
 a-written = (refl, refl, refl)
 
+-- document 02, E5: a stage of six inputs, whose wire is the last of them, written and read; its table has the patterns up to 63
+abbrev stage-six : List ℕ
+stage-six = 0x20 ∷ 0x06 ∷ 0x01 ∷ 0x21 ∷ 0x00 ∷ 0x22 ∷ 0x06 ∷ 0x23 ∷ 0x24 ∷ 0x2F ∷ []
+
+pub six-written : writtenOf treeForm 6 1 (0xAAAAAAAAAAAAAAAA ∷ 0 ∷ 0 ∷ 0 ∷ []) 10 ≡ accepting acceptedOutcome 10
+unfolding writing
+six-written = refl
+
+pub six-bytes : stageOf treeForm 6 1 (0xAAAAAAAAAAAAAAAA ∷ 0 ∷ 0 ∷ 0 ∷ []) ≡ stage-six
+unfolding writing
+six-bytes = refl
+
+pub six-read : readStage stage-six ≡ got 6 1 (sel 6 (con 0) (con 1) ∷ [])
+unfolding reading
+six-read = refl
+
+pub six-table : drawnTable treeDrawing 6 (sel 6 (con 0) (con 1)) ≡ 0xAAAAAAAAAAAAAAAA
+unfolding drawnTable ofBits sum follow bit
+six-table = refl
+
 -- the refusals of a stage sheet
 pub empty-sheet : readStage [] ≡ noStage (refusalAt cutShort 0)
 unfolding reading
@@ -69,7 +89,7 @@ pub lone-end : readStage (0x2F ∷ []) ≡ noStage (refusalAt outOfTurn 0)
 unfolding reading
 lone-end = refl
 
-pub sizes-range : readStage (0x20 ∷ 5 ∷ 1 ∷ []) ≡ noStage (refusalAt outOfRange 0)
+pub sizes-range : readStage (0x20 ∷ 7 ∷ 1 ∷ []) ≡ noStage (refusalAt outOfRange 0)
 unfolding reading
 sizes-range = refl
 

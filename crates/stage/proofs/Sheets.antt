@@ -28,7 +28,7 @@ use Rattle.stage.proofs.Written.{drawn-least}
 -- an accepted sheet is the bytes of its sizes and of one well-formed drawing for each wire
 pub record SheetOf (F : StageForm) (bytes : List ℕ) (n m : ℕ) (stage : List (F .Shape)) : Type 0 where
   pub is : bytes ≡ stageBytes F n m stage
-  pub sizes : Sized n m
+  pub sizes : Sized (F .most) n m
   pub one-each : length stage ≡ m
   pub formed : Each (F .WellFormed n) stage
 
@@ -88,7 +88,7 @@ module _ (F : StageForm) (L : FormLaws F) where
       go [] e = h e
       go (b ∷ q) e = tt
 
-  closed-told : (n m : ℕ) (bytes rest : List ℕ) → Sized n m → bytes ≡ 0x20 ∷ n ∷ m ∷ rest → (y : Read (List (F .Shape))) → ToldWires F m n 0 3 rest y
+  closed-told : (n m : ℕ) (bytes rest : List ℕ) → Sized (F .most) n m → bytes ≡ 0x20 ∷ n ∷ m ∷ rest → (y : Read (List (F .Shape))) → ToldWires F m n 0 3 rest y
       → ToldSheet F bytes (closed F n m y)
   unfolding closed stageBytes
   closed-told n m bytes rest z e (fault f) h = tt
@@ -108,30 +108,30 @@ module _ (F : StageForm) (L : FormLaws F) where
       sizes : (rest : List ℕ)
           → ToldSheet F (0x20 ∷ rest)
           (operand noStage 0
-          (λ n. operand noStage 0 (λ m rest. cond (sizesOut n m) (noStage (refusalAt outOfRange 0)) (closed F n m (wiresAt F m n m 0 3 rest))))
+          (λ n. operand noStage 0 (λ m rest. cond (sizesOut (F .most) n m) (noStage (refusalAt outOfRange 0)) (closed F n m (wiresAt F m n m 0 3 rest))))
           rest)
       sizes [] = tt
       sizes (n ∷ []) = tt
       sizes (n ∷ m ∷ rest) =
-          cond-has (ToldSheet F (0x20 ∷ n ∷ m ∷ rest)) (sizesOut n m) (λ _. tt)
+          cond-has (ToldSheet F (0x20 ∷ n ∷ m ∷ rest)) (sizesOut (F .most) n m) (λ _. tt)
           (λ o.
-          closed-told n m (0x20 ∷ n ∷ m ∷ rest) rest (sizes-in n m (test-no (sizesOut n m) o)) refl (wiresAt F m n m 0 3 rest) (wires-told m n m 0 3 rest))
+          closed-told n m (0x20 ∷ n ∷ m ∷ rest) rest (sizes-in (F .most) n m (test-no (sizesOut (F .most) n m) o)) refl (wiresAt F m n m 0 3 rest) (wires-told m n m 0 3 rest))
 
   -- (2) every accepted sheet is of that kind
   pub accepted : (bytes : List ℕ) (n m : ℕ) (stage : List (F .Shape)) → readSheet F bytes ≡ got n m stage → SheetOf F bytes n m stage
   accepted bytes n m stage e = subst (ToldSheet F bytes) e (sheet-told bytes)
 
   -- (1) the bytes of well-formed drawings, one for each wire, are read as those drawings
-  pub read-back : (n m : ℕ) (stage : List (F .Shape)) → Sized n m → length stage ≡ m → Each (F .WellFormed n) stage
+  pub read-back : (n m : ℕ) (stage : List (F .Shape)) → Sized (F .most) n m → length stage ≡ m → Each (F .WellFormed n) stage
       → readSheet F (stageBytes F n m stage) ≡ got n m stage
   unfolding readSheet due dueNumber operand stageBytes closed endAt nothingAfter
   read-back n m stage z l o =
       let w = wires-back stage n m 0 3 (0x2F ∷ []) (omega arith) o in
       let w′ : wiresAt F m n m 0 3 (wiresBytes F 0 stage ++ 0x2F ∷ []) ≡ taken stage (3 + length (wiresBytes F 0 stage)) (0x2F ∷ []) = rw l at w in
-      rw (sizes-fit n m z, w′)
+      rw (sizes-fit (F .most) n m z, w′)
 
   -- (3) what is written is read back as what was drawn (the whole round trip: proofs/RoundTrip)
-  module _ (n m : ℕ) (tables : List ℕ) (z : Sized n m) (fits : m ≤ length tables) (in-range : (j : ℕ) → j < m → getD tables j 0 < 2 ^ (2 ^ n)) where
+  module _ (n m : ℕ) (tables : List ℕ) (z : Sized (F .most) n m) (fits : m ≤ length tables) (in-range : (j : ℕ) → j < m → getD tables j 0 < 2 ^ (2 ^ n)) where
     -- the tables that are read are in range
     pub taken-in : (j : ℕ) → j < length (take m tables) → getD (take m tables) j 0 < 2 ^ (2 ^ n)
     taken-in j l = let h : j < m = rw (length-take-le m tables fits) at l in rw (getD-take m tables j 0 h) (in-range j h)

@@ -14,8 +14,8 @@ use Rattle.table.specs.Tree.{Tree, Ordered, selectors, reduced}
 use Rattle.table.specs.Inner.Drawing.{FairCount}
 use Rattle.table.proofs.Trees.{follow-lt, least-tree, reduced-cells, reduced-ordered, reduced-follow}
 use Rattle.stage.specs.Steps.{Read, taken, fault, unlessRefused, dueNumber, due, operand, turnNumber}
-use Rattle.stage.specs.Bytes.{sheetFrame, selectorBytes, mostSelectors}
-use Rattle.stage.specs.TreeBytes.{treeBytes, treeWireBytes, treeFrame}
+use Rattle.stage.specs.Bytes.{sheetFrame, selectorBytes}
+use Rattle.stage.specs.TreeBytes.{treeBytes, treeWireBytes, treeFrame, longestStage}
 use Rattle.stage.specs.TreeRead.{treeKnown, treeAt, treeWireAt}
 use Rattle.stage.specs.Trees.{treeForm, treeDrawing, readStage}
 use Rattle.stage.specs.Written.{stageOf}
@@ -71,7 +71,7 @@ tree-laws =
       frame = treeFrame;
       selectors = selectors;
       wire-length = λ j x. omega (arith, tree-length x);
-      most = maxPatterns - 1;
+      wireMost = maxPatterns - 1;
       few = λ n x s o. omega (arith, selectors-few n 0 x (omega arith) s o);
       told = wire-told;
       back = wire-back;
@@ -79,10 +79,6 @@ tree-laws =
       fair = λ n _. tree-counts n;
       reduces = λ n _. refl;
     }
-
--- the length of the longest stage of trees
-abbrev pub longestStage : ℕ
-longestStage = sheetFrame + treeFrame * maxWires + selectorBytes * mostSelectors
 
 -- no sheet that is accepted is longer, and reading looks at no byte past the one that would follow
 pub none-longer : (bytes : List ℕ) (n m : ℕ) (stage : List Tree) → readStage bytes ≡ got n m stage → length bytes ≤ longestStage

@@ -11,7 +11,7 @@ use lib.Seq.{sets}
 use borrow.Author.Tests.{lt-ltb, le-ltb}
 use Rattle.base.specs.Cases.{accepting, acceptedOutcome, refusedCase}
 use Rattle.base.specs.Refusals.{refusalAt, outOfRange, shortBuffer}
-use Rattle.sheet.specs.Limits.{maxInputs, sizesOut, isBeyond}
+use Rattle.sheet.specs.Limits.{sizesOut, isBeyond}
 use Rattle.base.specs.declared.Refusal.{Refusal}
 use Rattle.base.proofs.Tests.{decide}
 use Rattle.base.proofs.Lowest.{lowest-below}
@@ -23,18 +23,18 @@ use Rattle.stage.specs.Written.{stageDrawn, stageOf, firstOut, writtenOf
 use Rattle.stage.specs.Inner.Laws.{FormLaws}
 
 -- what is written is the least drawing of each table
-pub drawn-least : (F : StageForm) (L : FormLaws F) (n m : ℕ) (tables : List ℕ) (small : n ≤ maxInputs)
+pub drawn-least : (F : StageForm) (L : FormLaws F) (n m : ℕ) (tables : List ℕ) (small : n ≤ F .most)
     → stageDrawn F n m tables ≡ least (drawing F) n (F .count n) (L .fair n small) (take m tables)
 unfolding stageDrawn
 drawn-least F L n m tables small = ap (λ (f : ℕ → F .Shape). map f (take m tables)) (sym (L .reduces n small))
 
 -- what the writer answers, test by test
 module _ (F : StageForm) (n m : ℕ) (tables : List ℕ) (room : ℕ) where
-  pub sizes-refused : sizesOut n m ≡ true → writtenOf F n m tables room ≡ refusedCase (refusalAt outOfRange 0)
+  pub sizes-refused : sizesOut (F .most) n m ≡ true → writtenOf F n m tables room ≡ refusedCase (refusalAt outOfRange 0)
   unfolding writtenOf
   sizes-refused e = rw e
 
-  module _ (sizes : sizesOut n m ≡ false) where
+  module _ (sizes : sizesOut (F .most) n m ≡ false) where
     pub table-refused : firstOut n m tables < m → writtenOf F n m tables room ≡ refusedCase (refusalAt outOfRange (firstOut n m tables))
     unfolding writtenOf
     table-refused h = rw (sizes, lt-ltb _ _ h)

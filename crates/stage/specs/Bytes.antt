@@ -1,7 +1,6 @@
 -- Document 01, "Stage sheet": the bytes of a stage, over the form of its wires.
-use Prim.Native.Nat.{ℕ, suc, _-_, _*_}
+use Prim.Native.Nat.{ℕ, suc}
 use mathlib.Core.List.{List, [], _∷_, _++_}
-use Rattle.sheet.specs.Limits.{maxWires, maxPatterns}
 use Rattle.stage.specs.Form.{StageForm}
 
 module _ (F : StageForm) where
@@ -20,7 +19,3 @@ sheetFrame = 4
 
 abbrev pub selectorBytes : ℕ
 selectorBytes = 3
-
--- no stage that is written has more selectors, on either board: a table needs fewer than it has patterns
-abbrev pub mostSelectors : ℕ
-mostSelectors = maxWires * (maxPatterns - 1)

@@ -6,6 +6,8 @@ use mathlib.Core.List.{List}
 use Rattle.stage.specs.Steps.{Read}
 
 pub record StageForm : Type 1 where
+  -- the most inputs that a sheet has (document 02, E5)
+  pub most : ℕ
   -- what drives a wire, when it is well formed for n inputs, the bit that it drives on pattern p, and its cells (see `Drawing`)
   pub Shape : Type 0
   pub WellFormed : (n : ℕ) → Shape → Type 0

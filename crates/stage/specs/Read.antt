@@ -37,7 +37,7 @@ module _ (F : StageForm) where
       due (F .known) noStage 0x20 0
       (operand noStage 0
       (λ n. operand noStage 0
-      (λ m rest. cond (sizesOut n m) (noStage (refusalAt outOfRange 0)) (closed n m (wiresAt m n m 0 3 rest)))))
+      (λ m rest. cond (sizesOut (F .most) n m) (noStage (refusalAt outOfRange 0)) (closed n m (wiresAt m n m 0 3 rest)))))
 
   -- the drawings of the form, with what is read from its sheets
   abbrev pub drawing : Drawing

@@ -1,9 +1,11 @@
 -- Document 01, "Stage sheet": a wire that is a decision tree, as bytes.
-use Prim.Native.Nat.{ℕ}
+use Prim.Native.Nat.{ℕ, _+_, _*_, _-_}
 use mathlib.Core.Bool.{cond}
 use mathlib.Core.List.{List, [], _∷_, _++_}
 use lib.Dec.{eqb}
+use Rattle.sheet.specs.Limits.{maxWires, maxPatterns}
 use Rattle.table.specs.Tree.{Tree, con, sel}
+use Rattle.stage.specs.Bytes.{sheetFrame, selectorBytes}
 
 -- a constant is one byte
 abbrev pub constantByte : ℕ → ℕ
@@ -21,3 +23,11 @@ treeWireBytes j x = 0x21 ∷ j ∷ treeBytes x
 -- what a tree takes besides its selectors: it has one constant more than selectors
 abbrev pub treeFrame : ℕ
 treeFrame = 3
+
+-- no stage of trees has more selectors, whoever wrote it: an ordered tree has fewer than there are patterns
+abbrev pub mostSelectors : ℕ
+mostSelectors = maxWires * (maxPatterns - 1)
+
+-- and none is longer
+abbrev pub longestStage : ℕ
+longestStage = sheetFrame + treeFrame * maxWires + selectorBytes * mostSelectors

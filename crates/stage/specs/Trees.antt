@@ -1,6 +1,7 @@
 -- The stages of document 01's board: ordered trees, with the cells of document 02's E4, in its stage sheets.
 use Prim.Native.Nat.{ℕ}
 use mathlib.Core.List.{List}
+use Rattle.sheet.specs.Limits.{maxInputs}
 use Rattle.table.specs.Cells.{cells}
 use Rattle.table.specs.Drawing.{Drawing, StageSheet}
 use Rattle.table.specs.Tree.{Tree, Ordered, follow, treeCells, reduced}
@@ -12,6 +13,7 @@ use Rattle.stage.specs.TreeRead.{treeKnown, treeWireAt}
 abbrev pub treeForm : StageForm
 treeForm =
     record {
+      most = maxInputs;
       Shape = Tree;
       WellFormed = λ n x. Ordered n 0 x;
       follow = follow;

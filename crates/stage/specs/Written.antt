@@ -29,7 +29,7 @@ module _ (F : StageForm) where
   -- room that is needed. Otherwise the answer is the stage's length.
   unfoldable pub writtenOf : ℕ → ℕ → List ℕ → ℕ → Case
   writtenOf n m tables room =
-      cond (sizesOut n m) (refusedCase (refusalAt outOfRange 0))
+      cond (sizesOut (F .most) n m) (refusedCase (refusalAt outOfRange 0))
       (cond (ltb (firstOut n m tables) m) (refusedCase (refusalAt outOfRange (firstOut n m tables)))
       (fitted (stageOf n m tables) room))
 

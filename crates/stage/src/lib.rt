@@ -11,5 +11,10 @@ pub const SELECTOR_BYTES: usize = 3;
 // What a tree takes besides its selectors: 21 and the wire's number, and a byte, since it has one constant more than selectors.
 pub const TREE_FRAME: usize = 3;
 
-// What is written for a table has fewer selectors than there are patterns, so that no written stage has more than this.
-pub const MOST_SELECTORS: usize = Sheet::WIRES * (Sheet::MAX_PATTERNS - 1);
+// An ordered tree has fewer selectors than there are patterns, so that no stage of trees has more than this, whoever wrote it.
+const MOST_SELECTORS: usize = Sheet::WIRES * (Sheet::MAX_PATTERNS - 1);
+
+// No stage of trees has more bytes.
+pub const LONGEST_STAGE: usize = SHEET_FRAME
+    + TREE_FRAME * Sheet::WIRES
+    + SELECTOR_BYTES * MOST_SELECTORS;

@@ -9,7 +9,7 @@ use lib.ListN.{length, set, drop, replicate, length-drop, length-append}
 use Rattle.base.specs.Refusals.{refusalAt}
 use Rattle.base.specs.declared.Refusal.{Refusal}
 use Rattle.base.proofs.Tests.{below-suc}
-use Rattle.sheet.specs.Limits.{maxInputs, allOnes}
+use Rattle.table.specs.Cells.{full}
 use Rattle.stage.specs.Steps.{taken, fault, andThen}
 use Rattle.diagram.specs.Diagram.{Entry, nextNumber, mostEntries, entryPrice, entriesCells}
 use Rattle.diagram.specs.Bytes.{entryBytes, entriesBytes}
@@ -28,15 +28,14 @@ pub record Gathered (s : List ℕ) (n from k : ℕ) (tables inputs : List ℕ) (
   pub inputs-tell : InputsTell n entries inputs
   pub counted : cells ≡ entriesCells entries
 
-pub start : (s : List ℕ) (n from : ℕ) → n ≤ maxInputs
-    → Gathered s n from 0 (set (replicate mostNumbers 0) 1 (allOnes n)) (replicate mostNumbers (n + 1)) 0
+pub start : (s : List ℕ) (n from : ℕ) → Gathered s n from 0 (set (replicate mostNumbers 0) 1 (full n)) (replicate mostNumbers (n + 1)) 0
 unfolding entriesAt entriesCells
-start s n from h =
+start s n from =
     let e : from ≡ from + 3 * 0 = omega arith in
     record {
       entries = [];
       is = ap (λ (p : ℕ). taken [] p (drop p s)) e;
-      tables-tell = numbering.tables-start n h;
+      tables-tell = numbering.tables-start n;
       inputs-tell = numbering.inputs-start n;
       counted = refl;
     }

@@ -8,8 +8,8 @@ use lib.ListN.{length, getD, set, replicate, getD-replicate}
 use lib.Seq.{getD-set-same, getD-set-other}
 use borrow.Author.Tests.{eq-eqb, ne-eqb}
 use Rattle.base.proofs.Tests.{below-suc}
-use Rattle.sheet.specs.Limits.{maxInputs, allOnes}
 use Rattle.table.specs.Bits.{ofBits}
+use Rattle.table.specs.Cells.{full}
 use Rattle.table.specs.Drawing.{drawnTable}
 use Rattle.table.specs.Tree.{sel, Ordered, follow}
 use Rattle.table.proofs.Bits.{sum-cong}
@@ -44,11 +44,11 @@ module _ (n : ℕ) where
   unfolding inputAt
   inputs-start x l = getD-replicate mostNumbers x (n + 1) 0 (omega arith) ∙ omega arith
 
-  pub tables-start : n ≤ maxInputs → TablesTell n [] (set (replicate mostNumbers 0) 1 (allOnes n))
+  pub tables-start : TablesTell n [] (set (replicate mostNumbers 0) 1 (full n))
   unfolding treeOf
-  tables-start h zero l = sym (number-table n [] 0 ∙ table-zero n)
-  tables-start h (suc zero) l = table-one n h ∙ sym (number-table n [] 1)
-  tables-start h (suc (suc x)) l = absurd (omega arith)
+  tables-start zero l = sym (number-table n [] 0 ∙ table-zero n)
+  tables-start (suc zero) l = table-one n ∙ sym (number-table n [] 1)
+  tables-start (suc (suc x)) l = absurd (omega arith)
 
 -- the entry that follows: its own number, and every other
 module _ (n : ℕ) (es : List Entry) (e : Entry) where

@@ -97,14 +97,14 @@ module _ (F : StageForm) (s : List ℕ) (f : ℕ) (told : f ≡ dueNumber (F .kn
 
     module _ (there : 3 ≤ length s) where
       head-opens : readSheet F s
-          ≡ cond (sizesOut (getD s 1 0) (getD s 2 0)) (noStage (refusalAt outOfRange 0))
+          ≡ cond (sizesOut (F .most) (getD s 1 0) (getD s 2 0)) (noStage (refusalAt outOfRange 0))
           (closed F (getD s 1 0) (getD s 2 0) (wiresAt F (getD s 2 0) (getD s 1 0) (getD s 2 0) 0 3 (drop 3 s)))
       unfolding readSheet
       head-opens = due-goes (F .known) s 0x20 0 f told noStage _ due-there ∙ two-go noStage _ s 0 there
 
-      pub head-out : sizesOut (getD s 1 0) (getD s 2 0) ≡ true → readSheet F s ≡ noStage (refusalAt outOfRange 0)
+      pub head-out : sizesOut (F .most) (getD s 1 0) (getD s 2 0) ≡ true → readSheet F s ≡ noStage (refusalAt outOfRange 0)
       head-out e = head-opens ∙ rw e
 
-      pub head-goes : sizesOut (getD s 1 0) (getD s 2 0) ≡ false
+      pub head-goes : sizesOut (F .most) (getD s 1 0) (getD s 2 0) ≡ false
           → readSheet F s ≡ closed F (getD s 1 0) (getD s 2 0) (wiresAt F (getD s 2 0) (getD s 1 0) (getD s 2 0) 0 3 (drop 3 s))
       head-goes e = head-opens ∙ rw e

@@ -1,5 +1,5 @@
 -- Laws of truth tables as the stage reader makes them: of a constant, and of a selector from the tables of its trees.
-use Prim.Native.Nat.{ℕ, zero, suc, _*_, _^_, _-_, _<_, _≤_, min}
+use Prim.Native.Nat.{ℕ, zero, suc, _*_, _^_, _-_, _<_, _≤_}
 use mathlib.Core.Path.{_≡_, refl, sym, ap, ap₂, _∙_}
 use mathlib.Core.Logic.{_⊎_, inl, inr}
 use mathlib.Core.Bool.{cond}
@@ -9,8 +9,9 @@ use lib.Dec.{eqb}
 use lib.Bits.{bitAnd, bitXor, xor-lt, and-le-l}
 use lib.Pow.{pow-mono}
 use Rattle.base.proofs.Tests.{cond-has}
-use Rattle.sheet.specs.Limits.{maxInputs, maxPatterns, maxValues, allOnes}
+use Rattle.sheet.specs.Limits.{maxInputs, maxPatterns}
 use Rattle.table.specs.Bits.{bit, ofBits, sum}
+use Rattle.table.specs.Cells.{full}
 use Rattle.table.specs.Drawing.{drawnTable}
 use Rattle.table.specs.Tree.{Tree, con, sel, Ordered, follow}
 use Rattle.table.proofs.Bits.{bit-lt, bit-ext, bit-cases, bit-and, bit-xor, ofBits-lt, ofBits-ones, bit-ofBits, sum-cong}
@@ -27,12 +28,9 @@ pub table-zero : (n : ℕ) → tableOf n (con 0) ≡ 0
 unfolding drawnTable follow
 table-zero n = no-bits (2 ^ n)
 
-pub table-one : (n : ℕ) → n ≤ maxInputs → allOnes n ≡ tableOf n (con 1)
-unfolding drawnTable follow
-table-one n h =
-    let room : 2 ^ n ≤ maxValues = pow-mono {j = maxInputs} h in
-    let all : min maxValues (2 ^ n) ≡ 2 ^ n = omega arith in
-    ap (λ (k : ℕ). 2 ^ k - 1) all ∙ sym (ofBits-ones (2 ^ n))
+pub table-one : (n : ℕ) → full n ≡ tableOf n (con 1)
+unfolding full drawnTable follow
+table-one n = sym (ofBits-ones (2 ^ n))
 
 -- the selector's table by its trees' tables
 choice-lt : (p j a b : ℕ) → a < 2 → b < 2 → cond (eqb (bit p j) 0) a b < 2

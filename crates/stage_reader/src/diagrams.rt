@@ -8,9 +8,9 @@ use base::Refusal;
 use diagram::FIRST_NUMBER;
 use diagram::MOST_ENTRIES;
 use nodes::BoardKind;
-use sheet::limits::all_ones;
 use sheet::limits::count_out;
 use stage::SELECTOR_BYTES;
+use table::tables::full_table;
 ghost use mathlib.Core.Path.{_≡_};
 ghost use mathlib.Core.List.{List};
 ghost use Prim.Native.Nat.{ℕ, _+_, _<_, _≤_};
@@ -74,7 +74,7 @@ fn keep_entry(
     at: usize,
     n: u8,
     own: u8,
-    tables: &mut [u16; NUMBERS],
+    tables: &mut [u64; NUMBERS],
     inputs: &mut [u8; NUMBERS],
 )
     requires { ⌜ (n ≤ maxInputs) × (at + 3 ≤ length (now s)) × (own < mostNumbers) × Selects n own (now tables) (entryThere (now s) at) ⌝ }
@@ -103,7 +103,7 @@ fn count_entry(s: &[u8], at: usize, cells: u16) -> u16
 }
 
 // The top after the entries: a number that an entry or a constant has.
-fn read_top(s: &[u8], at: usize, next: u8, cells: u16, tables: &[u16; NUMBERS]) -> WireStep
+fn read_top(s: &[u8], at: usize, next: u8, cells: u16, tables: &[u64; NUMBERS]) -> WireStep
     requires { ⌜ next ≤ mostNumbers ⌝ }
     ensures { λ r. ⌜ ((n : ℕ) (es : List Entry) → nextNumber es ≡ next → TablesTell n es (now (tables .entry)) → cells ≡ entriesCells es
         → wireReply r ≡ stepOf diagramDrawing n (topAt es at (drop at (now (s .entry))))) ⌝ }
@@ -128,8 +128,8 @@ fn read_diagram(s: &[u8], from: usize, n: u8, count: u8) -> WireStep
     ensures { λ r. ⌜ wireReply r ≡ stepOf diagramDrawing n (andThen (entriesAt count n from (drop from (now (s .entry)))) topAt) ⌝ }
 {
     // Numbers 0 and 1 are the constants. They test no input, and so stand for one after all inputs.
-    let mut tables = [0u16; NUMBERS];
-    tables[1] = all_ones(n);
+    let mut tables = [0u64; NUMBERS];
+    tables[1] = full_table(n);
     let after_all = n + 1;
     let mut inputs = [after_all; NUMBERS];
     let mut cells: u16 = 0;

@@ -4,6 +4,7 @@ use base::Verdict;
 use diagrams::read_diagram_wire;
 use due::due_number;
 use nodes::BoardKind;
+use nodes::most_inputs;
 use sheet::Sheet;
 use sheet::limits::sizes_out;
 use steps::WireStep;
@@ -31,7 +32,7 @@ mod diagrams; // one wire's diagram
 pub struct StageRead {
     pub n: u8,
     pub m: u8,
-    pub tables: [u16; Sheet::WIRES],
+    pub tables: [u64; Sheet::WIRES],
     pub cells: u16,
     pub answer: Verdict,
 }
@@ -57,7 +58,7 @@ fn no_stage(f: Refusal) -> StageRead
     StageRead {
         n: 0,
         m: 0,
-        tables: [0u16; Sheet::WIRES],
+        tables: [0u64; Sheet::WIRES],
         cells: 0,
         answer: Verdict::Refused(f),
     }
@@ -79,7 +80,7 @@ fn read_wires(kind: BoardKind, s: &[u8], n: u8, m: u8) -> StageRead
     requires { ⌜ (n ≤ maxInputs) × (m ≤ maxWires) ⌝ }
     ensures { λ r. ⌜ stageReply r ≡ replyToStage (drawingOf kind) (closed (formOf kind) n m (wiresAt (formOf kind) m n m 0 3 (drop 3 (now (s .entry))))) ⌝ }
 {
-    let mut tables = [0u16; Sheet::WIRES];
+    let mut tables = [0u64; Sheet::WIRES];
     let mut cells: u16 = 0;
     let mut at: usize = 3;
     let mut j: u8 = 0;
@@ -125,7 +126,7 @@ pub fn read_on(kind: BoardKind, s: &[u8]) -> StageRead
     }
     let n = s[1];
     let m = s[2];
-    if sizes_out(n, m) {
+    if sizes_out(most_inputs(kind), n, m) {
         return no_stage(Refusal::at(Refusal::OUT_OF_RANGE, 0));
     }
     read_wires(kind, s, n, m)

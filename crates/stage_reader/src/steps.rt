@@ -3,6 +3,6 @@ use base::Refusal;
 
 // A wire that was read: its truth table over all inputs, its cells, and the place after it.
 pub enum WireStep {
-    Wire { table: u16, cells: u16, next: usize },
+    Wire { table: u64, cells: u16, next: usize },
     Refused(Refusal),
 }

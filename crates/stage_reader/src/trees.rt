@@ -8,8 +8,8 @@ use crate::tables::select;
 use base::Refusal;
 use base::byte_at;
 use nodes::BoardKind;
-use sheet::limits::all_ones;
 use sheet::limits::count_out;
+use table::tables::full_table;
 ghost use mathlib.Core.Path.{_≡_};
 ghost use mathlib.Core.Bool.{_&&_};
 ghost use Prim.Native.Nat.{_+_, _<_, _≤_};
@@ -39,7 +39,7 @@ fn read_tree(s: &[u8], at: usize, n: u8, k: u8) -> WireStep
             next: at + 1,
         },
         0x24 => WireStep::Wire {
-            table: all_ones(n),
+            table: full_table(n),
             cells: 0,
             next: at + 1,
         },

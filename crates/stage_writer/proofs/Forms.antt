@@ -2,18 +2,15 @@
 use Prim.Native.Nat.{ℕ, _+_, _*_, _≤_}
 use mathlib.Core.Path.{_≡_}
 use mathlib.Core.List.{List}
-use native.Mathlib.Omega.{arith}
 use lib.ListN.{length}
-use Rattle.sheet.specs.Limits.{maxInputs, maxWires}
 use Rattle.nodes.specs.declared.BoardKind.{BoardKind}
 use Rattle.nodes.specs.declared.BoardKind.the-variants.{Tree, Sharing}
 use Rattle.table.specs.Cells.{wires, total}
 use Rattle.stage.specs.Bytes.{sheetFrame, selectorBytes}
 use Rattle.stage.specs.Written.{stageOf}
-use Rattle.stage.proofs.TreeForm.{stage-length as trees-length, stage-length-most as trees-most}
-use Rattle.diagram.specs.Bytes.{longestShared}
+use Rattle.stage.proofs.TreeForm.{stage-length as trees-length}
 use Rattle.diagram.specs.Forms.{formOf}
-use Rattle.diagram.proofs.DiagramForm.{stage-length as diagrams-length, stage-length-most as diagrams-most}
+use Rattle.diagram.proofs.DiagramForm.{stage-length as diagrams-length}
 use Rattle.stage_writer.specs.Inner.Wires.{frameOf, selectorsOf}
 
 -- the length by wires and selectors
@@ -21,9 +18,3 @@ pub form-length : (kind : BoardKind) (n m : ℕ) (tables : List ℕ) → m ≤ l
     → length (stageOf (formOf kind) n m tables) ≡ sheetFrame + frameOf kind * m + selectorBytes * total (selectorsOf kind n) m (wires tables)
 form-length Tree n m tables h = trees-length n m tables h
 form-length Sharing n m tables h = diagrams-length n m tables h
-
--- no stage is longer than the longest of diagrams
-pub form-length-most : (kind : BoardKind) (n m : ℕ) (tables : List ℕ) → m ≤ length tables → n ≤ maxInputs → m ≤ maxWires
-    → length (stageOf (formOf kind) n m tables) ≤ longestShared
-form-length-most Tree n m tables h a b = omega (arith, trees-most n m tables h a b)
-form-length-most Sharing n m tables h a b = diagrams-most n m tables h a b

@@ -12,18 +12,18 @@ use lib.ListN.{length, getD, set}
 use lib.Seq.{getD-set-same, getD-set-other}
 use borrow.Author.Tests.{ne-eqb}
 use Rattle.base.proofs.Tests.{cond-has}
-use Rattle.table.specs.Inner.Ranks.{tableSpace}
+use Rattle.table.specs.Inner.Ranks.{narrowSpace}
 use Rattle.nodes.specs.Nodes.{Node, node, same, has}
 use Rattle.nodes.proofs.Lists.{same-eq, same-self}
 use Rattle.diagram.specs.Written.{nodeNumber}
 use Rattle.stage_writer.specs.Inner.Keys.{nodeOf, nodesIn}
 
 -- a key stands for its node, and for no other
-pub key-node : (r t : ℕ) → t < tableSpace → nodeOf (r * tableSpace + t) ≡ node r t
+pub key-node : (r t : ℕ) → t < narrowSpace → nodeOf (r * narrowSpace + t) ≡ node r t
 key-node r t h = ap₂ node (digits-div r h) (digits-mod r h)
 
 same-key : (x y : ℕ) → nodeOf x ≡ nodeOf y → x ≡ y
-same-key x y e = sym (div-add-mod' x tableSpace) ∙ ap (λ (k : Node). k .after * tableSpace + k .table) e ∙ div-add-mod' y tableSpace
+same-key x y e = sym (div-add-mod' x narrowSpace) ∙ ap (λ (k : Node). k .after * narrowSpace + k .table) e ∙ div-add-mod' y narrowSpace
 
 pub nodes-length : (keys : List ℕ) (k : ℕ) → length (nodesIn keys k) ≡ k
 unfolding nodesIn

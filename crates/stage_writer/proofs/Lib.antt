@@ -1,4 +1,5 @@
 pub mod Keys
+pub mod Narrow
 pub mod Halves
 pub mod Listing
 pub mod Storing

@@ -7,7 +7,8 @@ use lib.ListN.{length}
 use lib.Pow.{pow-pos}
 use Rattle.nodes.specs.Nodes.{node, listing}
 use Rattle.diagram.specs.Written.{nodeNumber}
-use Rattle.stage_writer.specs.Inner.Keys.{mostNodes, nodeOf, nodesIn, Added, Listed}
+use Rattle.diagram.specs.Bytes.{mostNodes}
+use Rattle.stage_writer.specs.Inner.Keys.{nodeOf, nodesIn, Added, Listed}
 use Rattle.stage_writer.proofs.Halves.{listing-same, listing-old, listing-new}
 
 -- a constant has no nodes

@@ -2,6 +2,7 @@
 use base::Refusal;
 use base::Written;
 use nodes::BoardKind;
+use nodes::most_inputs;
 use sheet::Sheet;
 use sheet::limits::sizes_out;
 use stores::put_sheet;
@@ -28,14 +29,14 @@ pub fn write_on(
     kind: BoardKind,
     n: u8,
     m: u8,
-    tables: [u16; Sheet::WIRES],
+    tables: [u64; Sheet::WIRES],
     buffer: &mut [u8],
 ) -> Written
     ensures { λ r.
         ⌜ (writtenCase r ≡ writtenOf (formOf kind) n m tables (length (now (buffer .entry))))
         × (now (buffer .exit) ≡ bufferAfter (formOf kind) n m tables (now (buffer .entry))) ⌝ }
 {
-    if sizes_out(n, m) {
+    if sizes_out(most_inputs(kind), n, m) {
         return Written::Refused(Refusal::at(Refusal::OUT_OF_RANGE, 0));
     }
     let wire = first_out(n, m, tables);
@@ -51,7 +52,7 @@ pub fn write_on(
 }
 
 // A stage of trees.
-pub fn write_stage(n: u8, m: u8, tables: [u16; Sheet::WIRES], buffer: &mut [u8]) -> Written
+pub fn write_stage(n: u8, m: u8, tables: [u64; Sheet::WIRES], buffer: &mut [u8]) -> Written
     ensures { λ r.
         ⌜ (writtenCase r ≡ writtenOf treeForm n m tables (length (now (buffer .entry)))) × (now (buffer .exit) ≡ bufferAfter treeForm n m tables (now (buffer .entry))) ⌝ }
 {
@@ -59,7 +60,7 @@ pub fn write_stage(n: u8, m: u8, tables: [u16; Sheet::WIRES], buffer: &mut [u8])
 }
 
 // A stage of diagrams (document 02, E2).
-pub fn write_shared(n: u8, m: u8, tables: [u16; Sheet::WIRES], buffer: &mut [u8]) -> Written
+pub fn write_shared(n: u8, m: u8, tables: [u64; Sheet::WIRES], buffer: &mut [u8]) -> Written
     ensures { λ r.
         ⌜ (writtenCase r ≡ writtenOf diagramForm n m tables (length (now (buffer .entry)))) × (now (buffer .exit) ≡ bufferAfter diagramForm n m tables (now (buffer .entry))) ⌝ }
 {

@@ -9,11 +9,11 @@ ghost use lib.ListN.{length};
 ghost use Rattle.sheet.specs.Limits.{maxInputs};
 ghost use Rattle.table.specs.Tree.{selectors, reduced};
 ghost use Rattle.stage.specs.TreeBytes.{constantByte, treeBytes, treeWireBytes};
-ghost use Rattle.diagram.specs.Bytes.{longestShared};
+ghost use Rattle.diagram.specs.Bytes.{longestWritten};
 ghost use Rattle.base.specs.Inner.Put.{Put};
 
 // How many selectors the reduced tree of a table of w inputs has, whatever number k of inputs stand before these.
-pub fn selector_count(w: u8, t: u16) -> u8
+pub fn selector_count(w: u8, t: u64) -> u8
     requires { ⌜ w ≤ maxInputs ⌝ }
     ensures { λ r. ⌜ ((k : ℕ) → r ≡ selectors (reduced w k t)) ⌝ }
 {
@@ -31,15 +31,15 @@ pub fn selector_count(w: u8, t: u16) -> u8
 }
 
 // The byte of a constant.
-fn constant(t: u16) -> u8
+fn constant(t: u64) -> u8
     ensures { λ r. ⌜ r ≡ constantByte t ⌝ }
 {
     if t == 0 { 0x23 } else { 0x24 }
 }
 
 // Writes the reduced tree of a table of w inputs, which stand after k others, and hands back the place after it.
-fn put_tree(buffer: &mut [u8], at: usize, w: u8, k: u8, t: u16) -> usize
-    requires { ⌜ (w + k ≤ maxInputs) × (at + length (treeBytes (reduced w k t)) ≤ longestShared) ⌝ }
+fn put_tree(buffer: &mut [u8], at: usize, w: u8, k: u8, t: u64) -> usize
+    requires { ⌜ (w + k ≤ maxInputs) × (at + length (treeBytes (reduced w k t)) ≤ longestWritten) ⌝ }
     ensures { λ r. ⌜ Put (now (buffer .entry)) at (treeBytes (reduced w k t)) (now (buffer .exit)) r ⌝ }
 {
     if w == 0 {
@@ -61,8 +61,8 @@ fn put_tree(buffer: &mut [u8], at: usize, w: u8, k: u8, t: u16) -> usize
 }
 
 // Writes wire j, and hands back the place after it.
-pub fn put_tree_wire(buffer: &mut [u8], at: usize, n: u8, j: u8, t: u16) -> usize
-    requires { ⌜ (n ≤ maxInputs) × (at + length (treeWireBytes j (reduced n 0 t)) ≤ longestShared) ⌝ }
+pub fn put_tree_wire(buffer: &mut [u8], at: usize, n: u8, j: u8, t: u64) -> usize
+    requires { ⌜ (n ≤ maxInputs) × (at + length (treeWireBytes j (reduced n 0 t)) ≤ longestWritten) ⌝ }
     ensures { λ r. ⌜ Put (now (buffer .entry)) at (treeWireBytes j (reduced n 0 t)) (now (buffer .exit)) r ⌝ }
 {
     let tree_at = put_with_operand(buffer, at, 0x21, j);

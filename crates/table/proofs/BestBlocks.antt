@@ -1,13 +1,14 @@
 -- Laws of a list of the least tables of a block, whatever they count for: it is tested entry by entry, and what stands at a place.
 use Prim.Native.Nat.{ℕ, _+_, _*_, _/_, _%_, _<_, _≤_}
-use mathlib.Core.Path.{_≡_, ap, ap₂, _∙_}
+use mathlib.Core.Path.{_≡_, sym, ap, ap₂, _∙_}
 use mathlib.Core.Bool.{Bool}
 use mathlib.Core.List.{List}
 use mathlib.Core.Option.{Option, none, some}
 use native.Mathlib.Omega.{arith}
 use lib.Arith.{digits-div, digits-mod}
 use lib.Dec.{T, eqb, eqb→eq}
-use lib.ListN.{length, getD}
+use lib.ListN.{length, getD, take, length-take}
+use lib.Seq.{getD-take}
 use Rattle.base.proofs.Table.{every, at}
 use Rattle.table.specs.Pick.{suits, least, leastOf}
 use Rattle.table.specs.Inner.Ranks.{masked}
@@ -16,17 +17,19 @@ use Rattle.table.specs.Inner.Blocks.{entries, noTable, noEntry, blockEnt
 use Rattle.table.proofs.Least.{Least, least-is}
 
 module _ (count : ℕ → ℕ) where
-  -- the rule of such a list is one test over all of its entries
+  -- the rule of such a list is one test over all of its entries; what stands past them is not asked for
   unfoldable pub right : ℕ → ℕ → Bool
   right k x = eqb x (bestAt count k)
 
-  pub tested : (list : List ℕ) → length list ≡ entries → T (every right 0 list) → BestBlocks count list
+  pub tested : (list : List ℕ) → entries ≤ length list → T (every right 0 (take entries list)) → BestBlocks count list
   unfolding right
   tested list long t =
       record {
         entry = λ zeros ones lz lo.
             let k = zeros * blockSpace + ones in
-            eqb→eq (getD list k 0) (bestAt count k) (at right list t k (omega arith)) ∙ ap₂ (bestBlock count) (digits-div zeros lo) (digits-mod zeros lo);
+            let l : k < entries = omega arith in
+            let r = at right (take entries list) t k (omega (arith, length-take entries list)) in
+            sym (getD-take entries list k 0 l) ∙ eqb→eq (getD (take entries list) k 0) (bestAt count k) r ∙ ap₂ (bestBlock count) (digits-div zeros lo) (digits-mod zeros lo);
       }
 
   -- where no table counts for as much as none

@@ -7,7 +7,7 @@ use native.Mathlib.Omega.{arith}
 use native.Mathlib.Nat.{not-suc-le-zero, le-of-suc-le-suc, lt-of-lt-of-le, le-dest, add-comm, pow-suc, mul-le-mul-right}
 use native.Mathlib.Nat.{mod-lt, mod-eq-of-lt, mod-add-div', div-eq-of-lt, div-lt-iff-lt-mul, add-mul-div-right, add-mul-mod-self-right}
 use lib.Dec.{eqb}
-use lib.Bits.{bitAnd, bitXor, and-shr, and-mod, xor-shr, xor-mod}
+use lib.Bits.{bitAnd, bitXor, and-shr, and-mod, xor-shr, xor-mod, bitOr, or-shr, or-mod}
 use lib.Pow.{pow-pos, pow-add, pow-mono, high, shr-shr, shl-exact}
 pub use Rattle.base.proofs.Tabulate.{tabulate-length, tabulate-at, tabulate-cong, tabulate-four}
 use Rattle.base.proofs.Tests.{below-suc}
@@ -95,6 +95,10 @@ bit-zero t h = omega arith
 pub bit-and : (a b v : ℕ) → bit (bitAnd a b) v ≡ bitAnd (bit a v) (bit b v)
 unfolding bit
 bit-and a b v = ap (λ x. x % 2) (and-shr a b v) ∙ and-mod (a / 2 ^ v) (b / 2 ^ v) 1
+
+pub bit-or : (a b v : ℕ) → bit (bitOr a b) v ≡ bitOr (bit a v) (bit b v)
+unfolding bit
+bit-or a b v = ap (λ z. z % 2) (or-shr a b v) ∙ or-mod (a / 2 ^ v) (b / 2 ^ v) 1
 
 pub bit-xor : (a b v : ℕ) → bit (bitXor a b) v ≡ bitXor (bit a v) (bit b v)
 unfolding bit

@@ -1,17 +1,20 @@
 -- What the entries of two blocks, or the numbers of two tables of three inputs, make together.
 use Prim.Native.Nat.{ℕ, suc, _+_, _*_, _^_, _/_, _%_, _<_, _≤_, min}
-use mathlib.Core.Path.{_≡_, ap, subst, _∙_}
+use mathlib.Core.Path.{_≡_, sym, ap, ap₂, subst, _∙_}
+use mathlib.Core.Logic.{⊎-elim}
 use mathlib.Core.Bool.{Bool, true, false, cond, _&&_}
 use mathlib.Core.Option.{Option, none, some}
 use native.Mathlib.Omega.{arith}
-use native.Mathlib.Nat.{le-refl, mul-le-mul-right}
+use native.Mathlib.Nat.{le-refl, mul-le-mul-right, mul-assoc, add-mul, le-div-iff-mul-le, two-pow-succ, zero-add, eq-or-lt-of-le, mod-lt, mul-mod-left}
 use lib.Arith.{digits-div, digits-mod}
 use lib.Bits.{bitAnd}
 use lib.Dec.{eqb}
+use lib.Pow.{pow-pos, pow-mono, pow-add}
 use Rattle.base.proofs.Tests.{cond-has₂}
+use Rattle.sheet.specs.Limits.{maxInputs}
 use Rattle.table.specs.Cells.{low, high, full, cells}
 use Rattle.table.specs.Pick.{Proj, leastOf}
-use Rattle.table.specs.Inner.Ranks.{masked, tableSpace, pickKey}
+use Rattle.table.specs.Inner.Ranks.{masked, narrowSpace, pickKey}
 use Rattle.table.specs.Inner.Pairs.{blockSpace}
 use Rattle.table.specs.Inner.Blocks.{threeSpace, noTable, blockEntry, bestBlock, blockOf, Shown, PickShown}
 use Rattle.table.specs.Inner.Lines.{line}
@@ -96,41 +99,96 @@ three-shown zeros ones a b c z lo ea eb ec ez =
     (pair P (upper 2 P) (leastOf k 2 (upper 2 P)) (leastOf k 2 P) a b (least-best k 2 (upper 2 P)) (least-best k 2 P)
     (ea ∙ ap (blockEntry k) (least-low 2 zeros ones k)) (eb ∙ ap (blockEntry k) (least-high 2 zeros ones k)))
 
--- four inputs, from three numbers that show the least tables of three: one of them twice, and two under a selector.
--- Two tables of three inputs fill tableSpace; of more than four inputs there is no such law.
-abbrev pub twiceShown : (c : ℕ) → ℕ
-twiceShown c = c * threeSpace + c % threeSpace
+-- One input more, from three numbers that show the least tables of r inputs: one of them twice, and two under a selector. w is above the tables of r inputs, and
+-- w times w above those of one input more.
+abbrev pub twiceShown : (w c : ℕ) → ℕ
+twiceShown w c = c * w + c % w
 
-abbrev pub pairShown : (a b : ℕ) → ℕ
-pairShown a b = a / threeSpace * tableSpace + a % threeSpace + b * threeSpace
+abbrev pub pairShown : (w a b : ℕ) → ℕ
+pairShown w a b = a / w * (w * w) + a % w + b * w
 
-twice3 : (P : Proj) (o : Option ℕ) (c : ℕ) → BestTable (pickKey 3) 3 P o → Shown (pickKey 3) threeSpace o c
-    → Shown (pickKey 4) tableSpace (joins 3 o o) (twiceShown c)
-unfolding joins join
-twice3 P none c b s = omega arith
-twice3 P (some t) c b s = let l : t < threeSpace = b .inside in omega (arith, counted-twice cells cells-halves 3 t (b .inside))
+-- a half twice has no more than none has, where the half has not
+pub twice-most : (w k c : ℕ) → 0 < w → c ≤ k * w → twiceShown w c ≤ k * (w * w)
+twice-most w k c pos h =
+    ⊎-elim (λ e. whole e) (λ l. omega (arith, mul-le-mul-right w l, add-mul c 1 w, mod-lt c pos, mul-assoc k w w)) (eq-or-lt-of-le h)
+  where
+    whole : c ≡ k * w → twiceShown w c ≤ k * (w * w)
+    whole e = let m : c % w ≡ 0 = ap (λ x. x % w) e ∙ mul-mod-left k w in omega (arith, ap (λ x. x * w) e, mul-assoc k w w)
 
-pair3 : (P Q : Proj) (h l : Option ℕ) (a b : ℕ) → BestTable (pickKey 3) 3 Q h → BestTable (pickKey 3) 3 P l → Shown (pickKey 3) threeSpace l a
-    → Shown (pickKey 3) threeSpace h b → ShownPair (pickKey 3) 0 3 tableSpace h l (pairShown a b)
-unfolding join
-pair3 P Q none none a b bh bl sa sb = omega arith
-pair3 P Q none (some l) a b bh bl sa sb = omega arith
-pair3 P Q (some h) none a b bh bl sa sb = omega arith
-pair3 P Q (some h) (some l) a b bh bl sa sb = let ll : l < threeSpace = bl .inside in let lh : h < threeSpace = bh .inside in omega arith
+-- the tables of r inputs are the numbers below this
+abbrev pub space : ℕ → ℕ
+space r = 2 ^ (2 ^ r)
 
-pub four-shown : (zeros ones a b c z : ℕ) → ones < tableSpace → PickShown 3 threeSpace (zeros % threeSpace) (ones % threeSpace) a
+pub space-more : (r : ℕ) → space (suc r) ≡ space r * space r
+space-more r = rw (two-pow-succ r) (pow-add 2 (2 ^ r) (2 ^ r))
+
+-- no table of up to six inputs has a key of as much as none
+few-keys : (n t : ℕ) → n ≤ maxInputs → pickKey n t < noTable
+few-keys n t h = omega (arith, cells-lt n t, pow-mono {i = n} {j = maxInputs} h)
+
+module _ (r : ℕ) where
+  abbrev w : ℕ
+  w = space r
+
+  abbrev v : ℕ
+  v = w * w
+
+  none-up : (x : ℕ) → noTable * w ≤ x → noTable * v ≤ x * w
+  none-up x h = omega (arith, mul-le-mul-right w h, mul-assoc noTable w w)
+
+  none-quotient : (x : ℕ) → noTable * w ≤ x → noTable * v ≤ x / w * v
+  none-quotient x h = mul-le-mul-right v (le-div-iff-mul-le {x = noTable} (pow-pos (2 ^ r)) .1 h)
+
+  twice-shown : (P : Proj) (o : Option ℕ) (c : ℕ) → BestTable (pickKey r) r P o → Shown (pickKey r) w o c
+      → Shown (pickKey (suc r)) v (joins r o o) (twiceShown w c)
+  unfolding joins join
+  twice-shown P none c b s = omega (arith, none-up c s)
+  twice-shown P (some t) c b s =
+      let m : c % w ≡ t = ap (λ x. x % w) s ∙ digits-mod (pickKey r t) (b .inside) in
+      let k : pickKey (suc r) (t * w + t) ≡ pickKey r t = ap (λ x. 1 + x) (counted-twice cells cells-halves r t (b .inside)) in
+      let e : c * w ≡ pickKey r t * v + t * w = ap (λ x. x * w) s ∙ spread (pickKey r t) t in
+      ap₂ _+_ e m ∙ regroup (pickKey r t * v) (t * w) t ∙ ap (λ x. x * v + (t * w + t)) (sym k)
+    where
+      spread : (k t : ℕ) → (k * w + t) * w ≡ k * v + t * w
+      spread k t = add-mul (k * w) t w ∙ ap (λ x. x + t * w) (mul-assoc k w w)
+
+      regroup : (a b c : ℕ) → a + b + c ≡ a + (b + c)
+      regroup a b c = omega arith
+
+  pair-shown : (P Q : Proj) (h l : Option ℕ) (a b : ℕ) → BestTable (pickKey r) r Q h → BestTable (pickKey r) r P l → Shown (pickKey r) w l a
+      → Shown (pickKey r) w h b → ShownPair (pickKey r) 0 r v h l (pairShown w a b)
+  unfolding join
+  pair-shown P Q none l a b bh bl sa sb = omega (arith, none-up b sb)
+  pair-shown P Q (some h) none a b bh bl sa sb = omega (arith, none-quotient a sa)
+  pair-shown P Q (some h) (some l) a b bh bl sa sb =
+      let da : a / w ≡ pickKey r l = ap (λ x. x / w) sa ∙ digits-div (pickKey r l) (bl .inside) in
+      let ma : a % w ≡ l = ap (λ x. x % w) sa ∙ digits-mod (pickKey r l) (bl .inside) in
+      let eb : b * w ≡ pickKey r h * v + h * w = ap (λ x. x * w) sb ∙ add-mul (pickKey r h * w) h w ∙ ap (λ x. x + h * w) (mul-assoc (pickKey r h) w w) in
+      ap₂ _+_ (ap₂ (λ x y. x * v + y) da ma) eb ∙ regroup (pickKey r l * v) l (pickKey r h * v) (h * w) ∙ ap (λ x. x + (h * w + l)) (sym (add-mul (pickKey r l) (pickKey r h) v) ∙ ap (λ x. x * v) (sym (zero-add (pickKey r l + pickKey r h))))
+    where
+      regroup : (a b c d : ℕ) → a + b + (c + d) ≡ a + c + (d + b)
+      regroup a b c d = omega arith
+
+  pub step-shown : suc r ≤ maxInputs → (zeros ones a b c z : ℕ) → ones < space (suc r) → PickShown r w (low r zeros) (low r ones) a
+      → PickShown r w (high r zeros) (high r ones) b
+      → PickShown r w (bitAnd (low r zeros) (high r zeros)) (bitAnd (low r ones) (high r ones)) c
+      → LineShown r v zeros ones z → PickShown (suc r) v zeros ones (min (min (twiceShown w c) z) (pairShown w a b))
+  step-shown six zeros ones a b c z lo sa sb sc ez =
+      let P = masked zeros ones in
+      let k = pickKey r in
+      lesser-shows pickKey 0 r (pick-key r) P v (rw (space-more r) (le-refl v)) (λ t _. few-keys (suc r) t six) (twiceShown w c) z (pairShown w a b)
+      (twice-shown (common r P) (leastOf k r (common r P)) c (least-best k r (common r P)) (shown c (least-common r zeros ones k) sc))
+      (line-shown r v zeros ones z lo ez)
+      (pair-shown P (upper r P) (leastOf k r (upper r P)) (leastOf k r P) a b (least-best k r (upper r P)) (least-best k r P)
+      (shown a (least-low r zeros ones k) sa) (shown b (least-high r zeros ones k) sb))
+    where
+      shown : {o q : Option ℕ} (x : ℕ) → o ≡ q → Shown (pickKey r) w o x → Shown (pickKey r) w q x
+      shown x e s = subst (λ o. Shown (pickKey r) w o x) e s
+
+-- four inputs, with their numbers
+pub four-shown : (zeros ones a b c z : ℕ) → ones < narrowSpace → PickShown 3 threeSpace (zeros % threeSpace) (ones % threeSpace) a
     → PickShown 3 threeSpace (zeros / threeSpace) (ones / threeSpace) b
     → PickShown 3 threeSpace (bitAnd (zeros % threeSpace) (zeros / threeSpace)) (bitAnd (ones % threeSpace) (ones / threeSpace)) c
-    → LineShown 3 tableSpace zeros ones z → PickShown 4 tableSpace zeros ones (min (min (twiceShown c) z) (pairShown a b))
+    → LineShown 3 narrowSpace zeros ones z → PickShown 4 narrowSpace zeros ones (min (min (twiceShown threeSpace c) z) (pairShown threeSpace a b))
 unfolding low high
-four-shown zeros ones a b c z lo sa sb sc ez =
-    let P = masked zeros ones in
-    let k = pickKey 3 in
-    lesser-shows pickKey 0 3 (pick-key 3) P tableSpace (omega arith) (λ t _. omega (arith, cells-lt 4 t)) (twiceShown c) z (pairShown a b)
-    (twice3 (common 3 P) (leastOf k 3 (common 3 P)) c (least-best k 3 (common 3 P)) (shown c (least-common 3 zeros ones k) sc))
-    (line-shown 3 tableSpace zeros ones z lo ez)
-    (pair3 P (upper 3 P) (leastOf k 3 (upper 3 P)) (leastOf k 3 P) a b (least-best k 3 (upper 3 P)) (least-best k 3 P)
-    (shown a (least-low 3 zeros ones k) sa) (shown b (least-high 3 zeros ones k) sb))
-  where
-    shown : {o q : Option ℕ} (x : ℕ) → o ≡ q → Shown (pickKey 3) threeSpace o x → Shown (pickKey 3) threeSpace q x
-    shown x e s = subst (λ o. Shown (pickKey 3) threeSpace o x) e s
+four-shown zeros ones a b c z lo sa sb sc ez = step-shown 3 (omega arith) zeros ones a b c z lo sa sb sc ez

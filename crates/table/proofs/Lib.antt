@@ -16,7 +16,9 @@ pub mod Repeated
 pub mod BestBlocks
 pub mod Entries
 pub mod Pairs
+pub mod Seats
 pub mod Places
 pub mod Widths
+pub mod SideBySide
 pub mod BitColumns
 pub mod Drawings

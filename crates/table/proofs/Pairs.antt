@@ -4,34 +4,33 @@ use mathlib.Core.Path.{_≡_, sym, ap, _∙_}
 use native.Mathlib.Omega.{arith}
 use native.Mathlib.Nat.{add-comm}
 use lib.Pow.{shr-shr}
-use Rattle.sheet.specs.Limits.{maxPatterns}
 use Rattle.table.specs.Bits.{bit}
 use Rattle.table.specs.Inner.Blocks.{entries, threeSpace}
-use Rattle.table.specs.Inner.Pairs.{blockPatterns, blockSpace, byteBits, pairBits, seat, zerosIn, onesIn}
-use Rattle.table.specs.Inner.Ranks.{tableSpace}
+use Rattle.table.specs.Inner.Pairs.{narrowPatterns, blockPatterns, blockSpace, byteBits, pairBits, seat, zerosIn, onesIn}
+use Rattle.table.specs.Inner.Ranks.{narrowSpace}
 use Rattle.table.proofs.Bits.{bit-lt, bit-mod, bit-div, bit-ext, bit-ofBits, ofBits-lt}
 
 -- a pattern in each mask
-pub ones-at : (w p : ℕ) → p < maxPatterns → bit (onesIn w) p ≡ bit w (seat p)
+pub ones-at : (w p : ℕ) → p < narrowPatterns → bit (onesIn w) p ≡ bit w (seat p)
 unfolding onesIn
-ones-at w p h = bit-ofBits (λ q. bit w (seat q)) maxPatterns (λ i l. bit-lt w (seat i)) p h
+ones-at w p h = bit-ofBits (λ q. bit w (seat q)) narrowPatterns (λ i l. bit-lt w (seat i)) p h
 
-pub zeros-at : (w p : ℕ) → p < maxPatterns → bit (zerosIn w) p ≡ bit w (seat p + blockPatterns)
+pub zeros-at : (w p : ℕ) → p < narrowPatterns → bit (zerosIn w) p ≡ bit w (seat p + blockPatterns)
 unfolding zerosIn
-zeros-at w p h = bit-ofBits (λ q. bit w (seat q + blockPatterns)) maxPatterns (λ i l. bit-lt w (seat i + blockPatterns)) p h
+zeros-at w p h = bit-ofBits (λ q. bit w (seat q + blockPatterns)) narrowPatterns (λ i l. bit-lt w (seat i + blockPatterns)) p h
 
 -- both masks have a bit for each pattern, as tables have
-pub ones-lt : (w : ℕ) → onesIn w < tableSpace
+pub ones-lt : (w : ℕ) → onesIn w < narrowSpace
 unfolding onesIn
-ones-lt w = ofBits-lt (λ q. bit w (seat q)) maxPatterns (λ i l. bit-lt w (seat i))
+ones-lt w = ofBits-lt (λ q. bit w (seat q)) narrowPatterns (λ i l. bit-lt w (seat i))
 
-pub zeros-lt : (w : ℕ) → zerosIn w < tableSpace
+pub zeros-lt : (w : ℕ) → zerosIn w < narrowSpace
 unfolding zerosIn
-zeros-lt w = ofBits-lt (λ q. bit w (seat q + blockPatterns)) maxPatterns (λ i l. bit-lt w (seat i + blockPatterns))
+zeros-lt w = ofBits-lt (λ q. bit w (seat q + blockPatterns)) narrowPatterns (λ i l. bit-lt w (seat i + blockPatterns))
 
 -- the blocks of a mask, which are the bytes of a pair
 abbrev blockCount : ℕ
-blockCount = maxPatterns / blockPatterns
+blockCount = narrowPatterns / blockPatterns
 
 -- a mask from block k on, and a pair from byte k on
 abbrev pub fromBlock : (k mask : ℕ) → ℕ
@@ -45,7 +44,7 @@ seat-at : (k i : ℕ) → i < blockPatterns → byteBits * k + i ≡ seat (block
 unfolding seat
 seat-at k i h = omega arith
 
-digit : (w m : ℕ) → ((p : ℕ) → p < maxPatterns → bit m p ≡ bit w (seat p))
+digit : (w m : ℕ) → ((p : ℕ) → p < narrowPatterns → bit m p ≡ bit w (seat p))
     → (k : ℕ) → k < blockCount → fromByte k w % blockSpace ≡ fromBlock k m % blockSpace
 digit w m f k h =
     let x = fromByte k w in
@@ -63,7 +62,7 @@ byte-place w k h =
     let x = fromByte k w in
     let s : fromByte k (w / blockSpace) ≡ x / blockSpace =
     shr-shr w blockPatterns (byteBits * k) ∙ ap (λ e. w / 2 ^ e) (add-comm blockPatterns (byteBits * k)) ∙ sym (shr-shr w (byteBits * k) blockPatterns) in
-    let up : (p : ℕ) → p < maxPatterns → bit (zerosIn w) p ≡ bit (w / blockSpace) (seat p) =
+    let up : (p : ℕ) → p < narrowPatterns → bit (zerosIn w) p ≡ bit (w / blockSpace) (seat p) =
     λ p l. zeros-at w p l ∙ ap (bit w) (add-comm (seat p) blockPatterns) ∙ sym (bit-div w blockPatterns (seat p)) in
     let z : x / blockSpace % blockSpace ≡ fromBlock k (zerosIn w) % blockSpace =
     ap (λ y. y % blockSpace) (sym s) ∙ digit (w / blockSpace) (zerosIn w) up k h in

@@ -15,7 +15,7 @@ use Rattle.base.proofs.Tests.{and-intro, and-left, and-right, eq-test, test-ext
 use Rattle.table.specs.Cells as Cells
 use Rattle.table.specs.Cells.{full}
 use Rattle.table.specs.Pick.{leastOf}
-use Rattle.table.specs.Inner.Ranks.{masked, tableSpace, pickKey}
+use Rattle.table.specs.Inner.Ranks.{masked, narrowSpace, pickKey}
 use Rattle.table.specs.Inner.Lines.{line, needsOfThree, needsOfFour, lineBy}
 use Rattle.table.specs.Inner.Blocks.{entries, threeSpace, noTable, noEntry, bestBlock, blockOf, blockAt, zerosAt, onesAt, Blocks, PickShown, HalvesShow}
 use Rattle.table.specs.Inner.Pairs.{blockPatterns, blockSpace, byteBits, pairBits, zerosIn, onesIn}
@@ -117,7 +117,7 @@ three-places w a b c ea eb ec =
     ∙ ap₂ (λ x y. cond (eqb x (fullBlock) && eqb y (fullBlock)) (threeSpace + line 2) noEntry) (sym zl) (sym oh))
 
 -- the lower half of a mask of four inputs and its upper half, bit by bit together, are what the halves have in common
-common-low : (x : ℕ) → x < tableSpace → bitAnd x (x / threeSpace) % threeSpace ≡ bitAnd (x % threeSpace) (x / threeSpace)
+common-low : (x : ℕ) → x < narrowSpace → bitAnd x (x / threeSpace) % threeSpace ≡ bitAnd (x % threeSpace) (x / threeSpace)
 common-low x l = and-mod x (x / threeSpace) (2 ^ 3) ∙ ap (bitAnd (x % threeSpace)) (mod-eq-of-lt (omega arith))
 
 -- a pair of three inputs tells its masks by its two bytes
@@ -183,7 +183,7 @@ needs-four w z o lw pk pl z′ o′ pm pn lo =
 pub four-places : (w a b c : ℕ) → w < 2 ^ pairBits → HalvesShow (w % entries) (fromByte 1 w % entries) a
     → HalvesShow (fromByte 2 w % entries) (fromByte 1 (fromByte 2 w) % entries) b
     → HalvesShow (bitAnd w (fromByte 2 w) % entries) (fromByte 1 (bitAnd w (fromByte 2 w)) % entries) c
-    → PickShown 4 tableSpace (zerosIn w) (onesIn w) (min (min (twiceShown c) (lineBy w needsOfFour (tableSpace + line 3) (noTable * tableSpace))) (pairShown a b))
+    → PickShown 4 narrowSpace (zerosIn w) (onesIn w) (min (min (twiceShown threeSpace c) (lineBy w needsOfFour (narrowSpace + line 3) (noTable * narrowSpace))) (pairShown threeSpace a b))
 unfolding Cells.low Cells.high full
 four-places w a b c h sa sb sc =
     let z = zerosIn w in
@@ -206,10 +206,10 @@ four-places w a b c h sa sb sc =
     let last : fromByte 1 (fromByte 2 w) % entries ≡ n = omega arith in
     let both = halves-both w h in
     let lo : o′ < threeSpace = omega (arith, ones-lt w) in
-    four-shown z o a b c (lineBy w needsOfFour (tableSpace + line 3) (noTable * tableSpace)) (ones-lt w)
+    four-shown z o a b c (lineBy w needsOfFour (narrowSpace + line 3) (noTable * narrowSpace)) (ones-lt w)
     (places-told z o (z % threeSpace) (o % threeSpace) k l a refl refl pk pl sa)
     (places-told z′ o′ z′ o′ m n b (mod-eq-of-lt (omega (arith, zeros-lt w))) (mod-eq-of-lt lo) pm pn (places-same refl last b sb))
     (places-told (bitAnd z z′) (bitAnd o o′) (bitAnd (z % threeSpace) z′) (bitAnd (o % threeSpace) o′) (bitAnd k m) (bitAnd l n) c
     (common-low z (zeros-lt w)) (common-low o (ones-lt w)) (place-and k m z o z′ o′ pk pm) (pc .0 ∙ high z z′, pc .1 ∙ high o o′)
     (places-same (both .0) (both .1) c sc))
-    (ap (λ t. cond t (tableSpace + line 3) (noTable * tableSpace)) (needs-four w z o h pk pl z′ o′ pm pn lo))
+    (ap (λ t. cond t (narrowSpace + line 3) (noTable * narrowSpace)) (needs-four w z o h pk pl z′ o′ pm pn lo))

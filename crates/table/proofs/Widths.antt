@@ -4,11 +4,10 @@ use mathlib.Core.Path.{_≡_, ap, ap₂, subst, _∙_}
 use mathlib.Core.Option.{some}
 use native.Mathlib.Omega.{arith}
 use lib.Arith.{digits-mod}
-use Rattle.sheet.specs.Limits.{maxInputs}
 use Rattle.table.specs.Cells.{cells}
 use Rattle.table.specs.Pick.{leastOf}
-use Rattle.table.specs.Inner.Ranks.{masked, pickOf, rank, tableSpace, pickKey}
-use Rattle.table.specs.Inner.Pairs.{blockSpace, pairBits, zerosIn, onesIn}
+use Rattle.table.specs.Inner.Ranks.{masked, pickOf, rank, narrowSpace, pickKey}
+use Rattle.table.specs.Inner.Pairs.{narrowInputs, blockSpace, pairBits, zerosIn, onesIn}
 use Rattle.table.specs.Inner.Blocks.{oneSpace, threeSpace, entries, blockEntry, bestBlock, blockOf, blockAt, Shown, PickShown, HalvesShow, Covered}
 use Rattle.table.proofs.Count.{repeated}
 use Rattle.table.proofs.Halving.{BestTable, least-best, least-more}
@@ -23,7 +22,7 @@ use Rattle.table.proofs.Places.{pair-told}
 -- what a pick asks of the table lent to it and of a pair, at n inputs
 abbrev pub Asked : (Lent : Type 0) (n w : ℕ) → Type 0
 Asked Lent n w =
-    Lent × (1 ≤ n) × (n ≤ maxInputs) × (zerosIn w < 2 ^ (2 ^ n)) × (onesIn w < 2 ^ (2 ^ n)) × Covered n (zerosIn w) (onesIn w)
+    Lent × (1 ≤ n) × (n ≤ narrowInputs) × (zerosIn w < 2 ^ (2 ^ n)) × (onesIn w < 2 ^ (2 ^ n)) × Covered n (zerosIn w) (onesIn w)
 
 -- the pair's masks are of k inputs and cover every pattern
 abbrev pub WidthFits : (k w : ℕ) → Type 0
@@ -41,11 +40,11 @@ rankIn n w = rank (cells n) (pickOf (cells n) n (zerosIn w) (onesIn w))
 pub rank-at : {Lent : Type 0} {n k x : ℕ} (w : ℕ) → n ≡ k → Asked Lent n w → (WidthFits k w → x ≡ rankIn k w) → x ≡ rankIn n w
 rank-at w e h f = rw e (f (fit w e h))
 
-inside : (n zeros ones : ℕ) → Covered n zeros ones → pickOf (cells n) n zeros ones < 2 ^ (2 ^ n)
+pub inside : (n zeros ones : ℕ) → Covered n zeros ones → pickOf (cells n) n zeros ones < 2 ^ (2 ^ n)
 inside n zeros ones h = subst (λ o. BestTable (cells n) n (masked zeros ones) o) (pick-some (cells n) n zeros ones h) (least-best (cells n) n (masked zeros ones)) .inside
 
 -- the least by the key that picks are found by is the pick
-picked : (n zeros ones : ℕ) → Covered n zeros ones → leastOf (pickKey n) n (masked zeros ones) ≡ some (pickOf (cells n) n zeros ones)
+pub picked : (n zeros ones : ℕ) → Covered n zeros ones → leastOf (pickKey n) n (masked zeros ones) ≡ some (pickOf (cells n) n zeros ones)
 picked n zeros ones h = least-more 1 (cells n) n (masked zeros ones) ∙ pick-some (cells n) n zeros ones h
 
 -- one input, looked up as two: each mask stands twice in its half of the place
@@ -53,7 +52,7 @@ pub one-place : (w : ℕ) → w < 2 ^ pairBits → WidthFits 1 w → w * (oneSpa
 one-place w l f = omega (arith, one-byte w l (omega (arith, f .0)) (omega (arith, f .1)), f .0, f .1)
 
 rank-one : (zeros ones x : ℕ) → zeros < oneSpace → ones < oneSpace → Covered 1 zeros ones → x ≡ blockOf (zeros * (oneSpace + 1)) (ones * (oneSpace + 1))
-    → (x / threeSpace - 1) * tableSpace + x % oneSpace ≡ rank (cells 1) (pickOf (cells 1) 1 zeros ones)
+    → (x / threeSpace - 1) * narrowSpace + x % oneSpace ≡ rank (cells 1) (pickOf (cells 1) 1 zeros ones)
 unfolding bestBlock blockEntry rank join
 rank-one zeros ones x lz lo h e =
     let t = pickOf (cells 1) 1 zeros ones in
@@ -72,7 +71,7 @@ rank-one zeros ones x lz lo h e =
     omega (arith, d .0, ap (λ y. y % oneSpace) f ∙ digits-mod (pickKey 1 t * 64 + t * 21) lt)
 
 pub one-input : (w x : ℕ) → w < 2 ^ pairBits → x ≡ blockAt (w * (oneSpace + 1)) → WidthFits 1 w
-    → (x / threeSpace - 1) * tableSpace + x % oneSpace ≡ rankIn 1 w
+    → (x / threeSpace - 1) * narrowSpace + x % oneSpace ≡ rankIn 1 w
 one-input w x l e f =
     let b = one-byte w l (omega (arith, f .0)) (omega (arith, f .1)) in
     let z : w * (oneSpace + 1) / blockSpace ≡ zerosIn w * (oneSpace + 1) = omega (arith, b, f .0, f .1) in
@@ -84,7 +83,7 @@ pub two-place : (w : ℕ) → w < 2 ^ pairBits → WidthFits 2 w → w < entries
 two-place w l f = omega (arith, one-byte w l (f .0) (f .1), f .0, f .1)
 
 pub two-inputs : (w x : ℕ) → w < 2 ^ pairBits → x ≡ blockAt w → WidthFits 2 w
-    → (x / threeSpace - 1) * tableSpace + x % blockSpace ≡ rankIn 2 w
+    → (x / threeSpace - 1) * narrowSpace + x % blockSpace ≡ rankIn 2 w
 unfolding bestBlock blockEntry rank
 two-inputs w x l e f =
     let b = one-byte w l (f .0) (f .1) in
@@ -97,7 +96,7 @@ two-inputs w x l e f =
 
 -- three inputs: the pair is two places
 pub three-inputs : (w x : ℕ) → w < 2 ^ pairBits → HalvesShow (w % entries) (w / entries % entries) x → WidthFits 3 w
-    → (x / threeSpace - 1) * tableSpace + x % threeSpace ≡ rankIn 3 w
+    → (x / threeSpace - 1) * narrowSpace + x % threeSpace ≡ rankIn 3 w
 unfolding rank
 three-inputs w x l s f =
     let t = pickOf (cells 3) 3 (zerosIn w) (onesIn w) in
@@ -107,9 +106,9 @@ three-inputs w x l s f =
     omega arith
 
 -- four inputs: the number that shows the pick is its rank and a key more
-pub four-inputs : (w x : ℕ) → PickShown 4 tableSpace (zerosIn w) (onesIn w) x → WidthFits 4 w → x - tableSpace ≡ rankIn 4 w
+pub four-inputs : (w x : ℕ) → PickShown 4 narrowSpace (zerosIn w) (onesIn w) x → WidthFits 4 w → x - narrowSpace ≡ rankIn 4 w
 unfolding rank
 four-inputs w x s f =
     let t = pickOf (cells 4) 4 (zerosIn w) (onesIn w) in
-    let k : x ≡ pickKey 4 t * tableSpace + t = subst (λ o. Shown (pickKey 4) tableSpace o x) (picked 4 (zerosIn w) (onesIn w) (f .2)) s in
+    let k : x ≡ pickKey 4 t * narrowSpace + t = subst (λ o. Shown (pickKey 4) narrowSpace o x) (picked 4 (zerosIn w) (onesIn w) (f .2)) s in
     omega arith

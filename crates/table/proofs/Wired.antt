@@ -1,9 +1,10 @@
 -- The constant 1 and the table that is its first input, over the width.
-use Prim.Native.Nat.{ℕ, zero, suc, _*_, _-_, _^_, _+_, _<_, _≤_}
+use Prim.Native.Nat.{ℕ, zero, suc, _*_, _-_, _^_, _+_, _/_, _<_, _≤_}
 use mathlib.Core.Path.{_≡_, refl, sym, ap, ap₂, _∙_}
 use mathlib.Core.Bool.{Bool, true, false, not}
 use native.Mathlib.Omega.{arith}
 use native.Mathlib.Nat.{two-pow-succ}
+use lib.Arith.{digits-div}
 use lib.Dec.{T, T-not, eqb, eqb→eq}
 use lib.Pow.{pow-pos, pow-add, pow-mono}
 use Rattle.base.proofs.Tests.{cond-has, and-intro, and-left, and-right, eq-test}
@@ -38,6 +39,19 @@ full-some r = let h = pow-mono {i = 1} {j = 2 ^ r} (pow-pos r) in omega arith
 pub full-bit : (r p : ℕ) → p < 2 ^ r → bit (full r) p ≡ 1
 unfolding full
 full-bit r p l = ones-bit (2 ^ r) p l
+
+-- all ones of k bits, with the bits below the upper j shifted out
+pub ones-shifted : (k j : ℕ) → j ≤ k → (2 ^ k - 1) / 2 ^ (k - j) ≡ 2 ^ j - 1
+ones-shifted k j h =
+    let e : k ≡ k - j + j = omega arith in
+    let w = 2 ^ (k - j) in
+    let some = pow-pos (k - j) in
+    let below : w - 1 < w = omega arith in
+    ap (λ x. (2 ^ x - 1) / w) e ∙ ap (λ x. (x - 1) / w) (pow-add 2 (k - j) j) ∙ ap (λ x. x / w) (ones w (2 ^ j) some (pow-pos j)) ∙ digits-div (2 ^ j - 1) below
+  where
+    ones : (w x : ℕ) → 0 < w → 0 < x → w * x - 1 ≡ (x - 1) * w + (w - 1)
+    ones w zero h l = absurd (omega arith)
+    ones w (suc x) h l = let e : suc x - 1 ≡ x = omega arith in rw e (omega arith)
 
 pub full-twice : (r : ℕ) → full (suc r) ≡ join r (full r) (full r)
 unfolding full join

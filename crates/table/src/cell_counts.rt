@@ -3,8 +3,8 @@
 use crate::picks::THREE_SPACE;
 ghost use mathlib.Core.Path.{_≡_};
 ghost use Prim.Native.Nat.{_<_, _≤_, _^_};
-ghost use Rattle.sheet.specs.Limits.{maxInputs};
 ghost use Rattle.table.specs.Cells.{cells};
+ghost use Rattle.table.specs.Inner.Pairs.{narrowInputs};
 
 // The tables of three inputs are the numbers below this.
 const SPACE: u16 = THREE_SPACE as u16;
@@ -287,7 +287,7 @@ pub fn count8(t: u8) -> u8
 // The cells of a table of one to four inputs, and no more. Four inputs take two look-ups, one for each half, and none where the table is input 1, whose line
 // is soldered through; a smaller table is repeated up to three inputs, which adds no cell. An inner function: who calls it has tested the size and the table.
 pub fn count(n: u8, t: u16) -> u8
-    requires { ⌜ (1 ≤ n) × (n ≤ maxInputs) × (t < 2 ^ (2 ^ n)) ⌝ }
+    requires { ⌜ (1 ≤ n) × (n ≤ narrowInputs) × (t < 2 ^ (2 ^ n)) ⌝ }
     ensures { λ r. ⌜ r ≡ cells n t ⌝ }
 {
     if n == 1 {

@@ -4,15 +4,18 @@
 // up in a table that the caller lends, since a constant is copied by every function that names it. Each byte of the pair is the place of a block in that
 // table, so no place has to be made.
 use crate::cell_counts::INPUT_ONE;
-use sheet::Sheet;
 ghost use mathlib.Core.Path.{_≡_};
 ghost use Prim.Native.Nat.{_+_, _*_, _/_, _%_, _^_, _<_, _≤_, min};
-ghost use Rattle.sheet.specs.Limits.{maxInputs};
 ghost use Rattle.table.specs.Cells.{cells};
-ghost use Rattle.table.specs.Inner.Ranks.{pickOf, rank, tableSpace};
-ghost use Rattle.table.specs.Inner.Blocks.{entries, threeSpace, noEntry, blockAt, Blocks, HalvesShow, PickShown, Covered};
+ghost use Rattle.table.specs.Inner.Ranks.{pickOf, rank, narrowSpace};
+ghost use Rattle.table.specs.Inner.Blocks.{entries, threeSpace, noTable, noEntry, blockAt, Blocks, HalvesShow, PickShown, Covered};
 ghost use Rattle.table.specs.Inner.Lines.{lineBy};
-ghost use Rattle.table.specs.Inner.Pairs.{zerosIn, onesIn};
+ghost use Rattle.table.specs.Inner.Pairs.{narrowInputs, zerosIn, onesIn};
+
+// Up to so many inputs the masks of a wire are one number, and a pick is one number.
+pub const NARROW_INPUTS: u8 = 4;
+
+pub const NARROW_PATTERNS: usize = 1 << NARROW_INPUTS;
 
 // A block is of two inputs: so many patterns.
 pub const BLOCK_PATTERNS: u8 = 4;
@@ -24,13 +27,16 @@ pub const BLOCK_SPACE: u32 = 1 << BLOCK_PATTERNS;
 
 pub const THREE_SPACE: u32 = 256;
 
-// Above every table: tables have at most so many bits as there are patterns.
-pub const TABLE_SPACE: u32 = 1 << Sheet::MAX_PATTERNS;
+// Above every table of so few inputs: a bit for each pattern.
+pub const NARROW_SPACE: u32 = 1 << NARROW_PATTERNS;
 
 // A pair of masks of a block is a byte, the place of its entry: so many places.
 pub const PLACES: u32 = BLOCK_SPACE * BLOCK_SPACE;
 
 pub const ENTRIES: usize = PLACES as usize;
+
+// The length of the table that is lent for picks: two places more than entries, where the search keeps the number of its board and of its wires.
+pub const LENT: usize = ENTRIES + 2;
 
 // What the lowest bits of the third and of the fourth byte of a pair count for.
 pub const THIRD_BYTE: u32 = PLACES * PLACES;
@@ -41,138 +47,139 @@ pub const FOURTH_BYTE: u32 = THIRD_BYTE * PLACES;
 // of the upper half.
 const LINE_OF_THREE: u32 = THREE_SPACE + 0xf0;
 
-const LINE_OF_FOUR: u32 = TABLE_SPACE + INPUT_ONE as u32;
+const LINE_OF_FOUR: u32 = NARROW_SPACE + INPUT_ONE as u32;
 
 const NEEDS_OF_THREE: u32 = 0x0ff0;
 
 const NEEDS_OF_FOUR: u32 = 0x0f0ff0f0;
 
 // Where no table suits: more than any table counts for.
-pub const NO_TABLE: u32 = 64;
+pub const NO_TABLE: u32 = 128;
 
 // The pick of each pair of masks of two inputs, at zeros * BLOCK_SPACE + ones: its key, one more than its cells, times THREE_SPACE, and table * 17, the table
-// twice side by side. Where some pattern is in no mask there is none: NO_TABLE for its key.
-const BLOCKS: [u16; ENTRIES] = [
-    0x4000,
-    0x4000,
-    0x4000,
-    0x4000,
-    0x4000,
-    0x4000,
-    0x4000,
-    0x4000,
-    0x4000,
-    0x4000,
-    0x4000,
-    0x4000,
-    0x4000,
-    0x4000,
-    0x4000,
+// twice side by side. Where some pattern is in no mask there is none: NO_TABLE for its key. The places past
+// the entries are the search's.
+const BLOCKS: [u16; LENT] = [
+    0x8000,
+    0x8000,
+    0x8000,
+    0x8000,
+    0x8000,
+    0x8000,
+    0x8000,
+    0x8000,
+    0x8000,
+    0x8000,
+    0x8000,
+    0x8000,
+    0x8000,
+    0x8000,
+    0x8000,
     0x01ff,
-    0x4000,
-    0x4000,
-    0x4000,
-    0x4000,
-    0x4000,
-    0x4000,
-    0x4000,
-    0x4000,
-    0x4000,
-    0x4000,
-    0x4000,
-    0x4000,
-    0x4000,
-    0x4000,
+    0x8000,
+    0x8000,
+    0x8000,
+    0x8000,
+    0x8000,
+    0x8000,
+    0x8000,
+    0x8000,
+    0x8000,
+    0x8000,
+    0x8000,
+    0x8000,
+    0x8000,
+    0x8000,
     0x02ee,
     0x01ff,
-    0x4000,
-    0x4000,
-    0x4000,
-    0x4000,
-    0x4000,
-    0x4000,
-    0x4000,
-    0x4000,
-    0x4000,
-    0x4000,
-    0x4000,
-    0x4000,
-    0x4000,
+    0x8000,
+    0x8000,
+    0x8000,
+    0x8000,
+    0x8000,
+    0x8000,
+    0x8000,
+    0x8000,
+    0x8000,
+    0x8000,
+    0x8000,
+    0x8000,
+    0x8000,
     0x03dd,
-    0x4000,
+    0x8000,
     0x01ff,
-    0x4000,
-    0x4000,
-    0x4000,
-    0x4000,
-    0x4000,
-    0x4000,
-    0x4000,
-    0x4000,
-    0x4000,
-    0x4000,
-    0x4000,
-    0x4000,
+    0x8000,
+    0x8000,
+    0x8000,
+    0x8000,
+    0x8000,
+    0x8000,
+    0x8000,
+    0x8000,
+    0x8000,
+    0x8000,
+    0x8000,
+    0x8000,
     0x01cc,
     0x01cc,
     0x01cc,
     0x01cc,
-    0x4000,
-    0x4000,
-    0x4000,
-    0x4000,
-    0x4000,
-    0x4000,
-    0x4000,
-    0x4000,
-    0x4000,
-    0x4000,
-    0x4000,
+    0x8000,
+    0x8000,
+    0x8000,
+    0x8000,
+    0x8000,
+    0x8000,
+    0x8000,
+    0x8000,
+    0x8000,
+    0x8000,
+    0x8000,
     0x02bb,
-    0x4000,
-    0x4000,
-    0x4000,
+    0x8000,
+    0x8000,
+    0x8000,
     0x01ff,
-    0x4000,
-    0x4000,
-    0x4000,
-    0x4000,
-    0x4000,
-    0x4000,
-    0x4000,
-    0x4000,
-    0x4000,
-    0x4000,
+    0x8000,
+    0x8000,
+    0x8000,
+    0x8000,
+    0x8000,
+    0x8000,
+    0x8000,
+    0x8000,
+    0x8000,
+    0x8000,
     0x01aa,
     0x01aa,
-    0x4000,
-    0x4000,
+    0x8000,
+    0x8000,
     0x01aa,
     0x01aa,
-    0x4000,
-    0x4000,
-    0x4000,
-    0x4000,
-    0x4000,
-    0x4000,
-    0x4000,
-    0x4000,
-    0x4000,
+    0x8000,
+    0x8000,
+    0x8000,
+    0x8000,
+    0x8000,
+    0x8000,
+    0x8000,
+    0x8000,
+    0x8000,
     0x0399,
-    0x4000,
+    0x8000,
     0x02bb,
-    0x4000,
+    0x8000,
     0x0399,
-    0x4000,
+    0x8000,
     0x01ff,
-    0x4000,
-    0x4000,
-    0x4000,
-    0x4000,
-    0x4000,
-    0x4000,
-    0x4000,
-    0x4000,
+    0x8000,
+    0x8000,
+    0x8000,
+    0x8000,
+    0x8000,
+    0x8000,
+    0x8000,
+    0x8000,
     0x0288,
     0x0288,
     0x01aa,
@@ -181,117 +188,117 @@ const BLOCKS: [u16; ENTRIES] = [
     0x01cc,
     0x01aa,
     0x01aa,
-    0x4000,
-    0x4000,
-    0x4000,
-    0x4000,
-    0x4000,
-    0x4000,
-    0x4000,
+    0x8000,
+    0x8000,
+    0x8000,
+    0x8000,
+    0x8000,
+    0x8000,
+    0x8000,
     0x0377,
-    0x4000,
-    0x4000,
-    0x4000,
-    0x4000,
-    0x4000,
-    0x4000,
-    0x4000,
+    0x8000,
+    0x8000,
+    0x8000,
+    0x8000,
+    0x8000,
+    0x8000,
+    0x8000,
     0x01ff,
-    0x4000,
-    0x4000,
-    0x4000,
-    0x4000,
-    0x4000,
-    0x4000,
+    0x8000,
+    0x8000,
+    0x8000,
+    0x8000,
+    0x8000,
+    0x8000,
     0x0366,
     0x0366,
-    0x4000,
-    0x4000,
-    0x4000,
-    0x4000,
-    0x4000,
-    0x4000,
+    0x8000,
+    0x8000,
+    0x8000,
+    0x8000,
+    0x8000,
+    0x8000,
     0x02ee,
     0x01ff,
-    0x4000,
-    0x4000,
-    0x4000,
-    0x4000,
-    0x4000,
+    0x8000,
+    0x8000,
+    0x8000,
+    0x8000,
+    0x8000,
     0x0255,
-    0x4000,
+    0x8000,
     0x0255,
-    0x4000,
-    0x4000,
-    0x4000,
-    0x4000,
-    0x4000,
+    0x8000,
+    0x8000,
+    0x8000,
+    0x8000,
+    0x8000,
     0x0255,
-    0x4000,
+    0x8000,
     0x01ff,
-    0x4000,
-    0x4000,
-    0x4000,
-    0x4000,
+    0x8000,
+    0x8000,
+    0x8000,
+    0x8000,
     0x0344,
     0x0255,
     0x0344,
     0x0255,
-    0x4000,
-    0x4000,
-    0x4000,
-    0x4000,
+    0x8000,
+    0x8000,
+    0x8000,
+    0x8000,
     0x01cc,
     0x01cc,
     0x01cc,
     0x01cc,
-    0x4000,
-    0x4000,
-    0x4000,
+    0x8000,
+    0x8000,
+    0x8000,
     0x0233,
-    0x4000,
-    0x4000,
-    0x4000,
+    0x8000,
+    0x8000,
+    0x8000,
     0x0233,
-    0x4000,
-    0x4000,
-    0x4000,
+    0x8000,
+    0x8000,
+    0x8000,
     0x0233,
-    0x4000,
-    0x4000,
-    0x4000,
+    0x8000,
+    0x8000,
+    0x8000,
     0x01ff,
-    0x4000,
-    0x4000,
+    0x8000,
+    0x8000,
     0x0222,
     0x0222,
-    0x4000,
-    0x4000,
+    0x8000,
+    0x8000,
     0x0222,
     0x0222,
-    0x4000,
-    0x4000,
+    0x8000,
+    0x8000,
     0x01aa,
     0x01aa,
-    0x4000,
-    0x4000,
+    0x8000,
+    0x8000,
     0x01aa,
     0x01aa,
-    0x4000,
+    0x8000,
     0x0311,
-    0x4000,
+    0x8000,
     0x0233,
-    0x4000,
+    0x8000,
     0x0255,
-    0x4000,
+    0x8000,
     0x0233,
-    0x4000,
+    0x8000,
     0x0311,
-    0x4000,
+    0x8000,
     0x0233,
-    0x4000,
+    0x8000,
     0x0255,
-    0x4000,
+    0x8000,
     0x01ff,
     0x0100,
     0x0100,
@@ -309,10 +316,12 @@ const BLOCKS: [u16; ENTRIES] = [
     0x0100,
     0x0100,
     0x0100,
+    0,
+    0,
 ];
 
 // The table of blocks, to be lent to the functions below.
-pub fn blocks() -> [u16; ENTRIES]
+pub fn blocks() -> [u16; LENT]
     ensures { λ r. ⌜ Blocks r ⌝ }
 {
     BLOCKS
@@ -325,7 +334,7 @@ pub fn lesser(a: u32, b: u32) -> u32
 }
 
 // Two inputs: an entry of the table.
-fn block(e: &[u16; ENTRIES], at: u32) -> u32
+fn block(e: &[u16; LENT], at: u32) -> u32
     requires { ⌜ Blocks (now e) × (at < entries) ⌝ }
     ensures { λ r. ⌜ (r ≡ blockAt at) × (threeSpace ≤ r) × (r ≤ noEntry) ⌝ }
 {
@@ -342,7 +351,7 @@ fn line_or(pair: u32, needed: u32, line: u32, other: u32) -> u32
 // Three inputs, from the lower two bytes of a pair, which are the places of the lower and the upper half: key * THREE_SPACE + table. Two places, bit by bit
 // together, are the place of what both blocks have. Keys have one more than the cells, so that those of two halves add up to that of both under a selector.
 // Where the line suits it is less than any two halves.
-fn pick3(e: &[u16; ENTRIES], pair: u32) -> u32
+fn pick3(e: &[u16; LENT], pair: u32) -> u32
     requires { ⌜ Blocks (now e) ⌝ }
     ensures { λ r. ⌜ HalvesShow (pair % entries) (pair / entries % entries) r × (threeSpace ≤ r) × (r ≤ noEntry) ⌝ }
 {
@@ -355,17 +364,17 @@ fn pick3(e: &[u16; ENTRIES], pair: u32) -> u32
     lesser(c, line_or(pair, NEEDS_OF_THREE, LINE_OF_THREE, two))
 }
 
-// Four inputs, and no more: key * TABLE_SPACE + table. The four bytes of the pair are the places of its blocks, and two tables of three inputs side by side
-// fill TABLE_SPACE.
-fn pick4(e: &[u16; ENTRIES], pair: u32) -> u32
+// Four inputs, and no more: key * NARROW_SPACE + table. The four bytes of the pair are the places of its blocks, and two tables of three inputs side by side
+// fill NARROW_SPACE.
+pub fn pick4(e: &[u16; LENT], pair: u32) -> u32
     requires { ⌜ Blocks (now e) ⌝ }
-    ensures { λ r. ⌜ PickShown 4 tableSpace (zerosIn pair) (onesIn pair) r × (tableSpace ≤ r) ⌝ }
+    ensures { λ r. ⌜ PickShown 4 narrowSpace (zerosIn pair) (onesIn pair) r × (narrowSpace ≤ r) × (r ≤ noTable * narrowSpace) ⌝ }
 {
     let upper = pair / THIRD_BYTE;
     let a = pick3(e, pair);
     let b = pick3(e, upper);
     let c = pick3(e, pair & upper);
-    let two = a / THREE_SPACE * TABLE_SPACE + a % THREE_SPACE + b * THREE_SPACE;
+    let two = a / THREE_SPACE * NARROW_SPACE + a % THREE_SPACE + b * THREE_SPACE;
     lesser(
         c * THREE_SPACE + c % THREE_SPACE,
         line_or(pair, NEEDS_OF_FOUR, LINE_OF_FOUR, two),
@@ -375,24 +384,24 @@ fn pick4(e: &[u16; ENTRIES], pair: u32) -> u32
 // The rank of the pick between the two masks of a pair, among the tables of n inputs. The search calls it with the masks of a wire, which cover every
 // pattern. There is an arm for each number of inputs up to four. The cells are one less than the key.
 // One input is looked up as two: times 5, the two patterns of each mask stand there twice.
-pub fn pick(e: &[u16; ENTRIES], n: u8, pair: u32) -> u32
-    requires { ⌜ Blocks (now e) × (1 ≤ n) × (n ≤ maxInputs) × (zerosIn pair < 2 ^ (2 ^ n)) × (onesIn pair < 2 ^ (2 ^ n))
+pub fn pick(e: &[u16; LENT], n: u8, pair: u32) -> u32
+    requires { ⌜ Blocks (now e) × (1 ≤ n) × (n ≤ narrowInputs) × (zerosIn pair < 2 ^ (2 ^ n)) × (onesIn pair < 2 ^ (2 ^ n))
         × Covered n (zerosIn pair) (onesIn pair) ⌝ }
     ensures { λ r. ⌜ r ≡ rank (cells n) (pickOf (cells n) n (zerosIn pair) (onesIn pair)) ⌝ }
 {
     match n {
         1 => {
             let x = block(e, pair * 5);
-            (x / THREE_SPACE - 1) * TABLE_SPACE + x % ONE_SPACE
+            (x / THREE_SPACE - 1) * NARROW_SPACE + x % ONE_SPACE
         }
         2 => {
             let x = block(e, pair);
-            (x / THREE_SPACE - 1) * TABLE_SPACE + x % BLOCK_SPACE
+            (x / THREE_SPACE - 1) * NARROW_SPACE + x % BLOCK_SPACE
         }
         3 => {
             let x = pick3(e, pair);
-            (x / THREE_SPACE - 1) * TABLE_SPACE + x % THREE_SPACE
+            (x / THREE_SPACE - 1) * NARROW_SPACE + x % THREE_SPACE
         }
-        _ => pick4(e, pair) - TABLE_SPACE,
+        _ => pick4(e, pair) - NARROW_SPACE,
     }
 }

@@ -5,7 +5,7 @@ use base::Verdict;
 use base::Written;
 use base::byte_at;
 use clean::LONGEST_COPY;
-use diagram::LONGEST_SHARED;
+use diagram::LONGEST_WRITTEN;
 use nodes::BoardKind;
 use quote::Audited;
 use quote::Quoted;
@@ -36,15 +36,13 @@ use text::put_text;
 ghost use Prim.Native.Nat.{_+_, _≤_};
 ghost use lib.ListN.{length};
 ghost use Rattle.base.specs.Inner.Put.{lastPlace};
-ghost use Rattle.clean.specs.Copy.{longestCopy};
+ghost use Rattle.diagram.specs.Bytes.{longestWritten};
 ghost use Rattle.report.specs.Lines.{longestPairs, longestWord};
 ghost use Rattle.samples.specs.Inner.Lengths.{longestKept, longestNumberLine, longestRecord, longestReply};
+ghost use Rattle.trials.specs.Inner.Window.{mostRoom};
 
-// The most bytes of a buffer that is lent for a stage, whose length is a number of one byte.
-const MOST_ROOM: usize = 255;
-
-// The most bytes of one that is lent for a copy: above the longest copy. A larger number counts as this.
-const MOST_COPY_ROOM: usize = 320;
+// The most bytes of a buffer that is lent: above the longest stage and the longest copy. A larger number counts as this.
+const MOST_ROOM: usize = 800;
 
 // The first `k` bytes of a buffer, a stage or a copy of at most so many, as pairs, and the end of their line.
 fn put_shown(out: &mut [u8], at: usize, buffer: &[u8], k: usize, most: usize) -> usize
@@ -71,7 +69,7 @@ fn put_quote_line(out: &mut [u8], at: usize, q: Quoted, word: &[u8], buffer: &[u
 {
     let counts = put_counts(out, at, q.cells, q.floor, q.visits);
     let line = put_text(out, counts, word);
-    put_shown(out, line, buffer, q.length, LONGEST_SHARED)
+    put_shown(out, line, buffer, q.length, LONGEST_WRITTEN)
 }
 
 // The lines of a quote.
@@ -103,14 +101,22 @@ fn put_quote_into(
     put_quoted(out, at, q, buffer)
 }
 
-// Quote: budget (4 bytes), buffer length (1), sheet length (2), sheet.
+// The bytes of a buffer that is to be lent, told by a number of two bytes.
+fn room_at(s: &[u8], at: usize) -> usize
+    requires { ⌜ at + 2 ≤ lastPlace ⌝ }
+    ensures { λ r. ⌜ r ≤ mostRoom ⌝ }
+{
+    lower_of(length_at(s, at), MOST_ROOM)
+}
+
+// Quote: budget (4 bytes), buffer length (2), sheet length (2), sheet.
 fn put_quote(kind: BoardKind, out: &mut [u8], at: usize, s: &[u8], from: usize) -> usize
     requires { ⌜ (at + longestReply ≤ lastPlace) × (from + longestRecord ≤ lastPlace) ⌝ }
     ensures { λ r. ⌜ r ≤ at + longestReply ⌝ }
 {
     let budget = u32_at(s, from + 1);
-    let room = byte_at(s, from + 5) as usize;
-    let sheet = part(s, from + 8, length_at(s, from + 6));
+    let room = room_at(s, from + 5);
+    let sheet = part(s, from + 9, length_at(s, from + 7));
     let mut space = [FILL; MOST_ROOM];
     put_quote_into(kind, out, at, sheet, budget, &mut space[0..room])
 }
@@ -159,7 +165,7 @@ fn put_found(out: &mut [u8], at: usize, answer: search::Answer, word: &[u8]) -> 
     put_text(out, mark, word)
 }
 
-// Search: n (1), m (1), budget (4), sixteen sets (2 each).
+// Search: n (1), m (1), budget (4), 64 sets (2 each).
 fn put_search(kind: BoardKind, out: &mut [u8], at: usize, s: &[u8], from: usize) -> usize
     requires { ⌜ (at + longestReply ≤ lastPlace) × (from + longestRecord ≤ lastPlace) ⌝ }
     ensures { λ r. ⌜ r ≤ at + longestReply ⌝ }
@@ -178,7 +184,7 @@ fn put_search(kind: BoardKind, out: &mut [u8], at: usize, s: &[u8], from: usize)
 
 // The line of what was written to a buffer, a stage or a copy of at most so many bytes, or of the refusal.
 fn put_written(out: &mut [u8], at: usize, written: Written, buffer: &[u8], most: usize) -> usize
-    requires { ⌜ (at + longestReply ≤ lastPlace) × (most ≤ longestCopy) ⌝ }
+    requires { ⌜ (at + longestReply ≤ lastPlace) × (most ≤ longestWritten) ⌝ }
     ensures { λ r. ⌜ r ≤ at + longestReply ⌝ }
 {
     match written {
@@ -197,23 +203,23 @@ fn put_write_into(
     at: usize,
     n: u8,
     m: u8,
-    tables: [u16; Sheet::WIRES],
+    tables: [u64; Sheet::WIRES],
     buffer: &mut [u8],
 ) -> usize
     requires { ⌜ at + longestReply ≤ lastPlace ⌝ }
     ensures { λ r. ⌜ r ≤ at + longestReply ⌝ }
 {
     let written = write_on(kind, n, m, tables, buffer);
-    put_written(out, at, written, buffer, LONGEST_SHARED)
+    put_written(out, at, written, buffer, LONGEST_WRITTEN)
 }
 
-// Write a stage: n (1), m (1), buffer length (1), four tables (2 each).
+// Write a stage: n (1), m (1), buffer length (2), four tables (8 each).
 fn put_write(kind: BoardKind, out: &mut [u8], at: usize, s: &[u8], from: usize) -> usize
     requires { ⌜ (at + longestReply ≤ lastPlace) × (from + longestRecord ≤ lastPlace) ⌝ }
     ensures { λ r. ⌜ r ≤ at + longestReply ⌝ }
 {
-    let room = byte_at(s, from + 3) as usize;
-    let tables = tables_at(s, from + 4);
+    let room = room_at(s, from + 3);
+    let tables = tables_at(s, from + 5);
     let mut space = [FILL; MOST_ROOM];
     put_write_into(
         kind,
@@ -266,9 +272,9 @@ fn put_clean(out: &mut [u8], at: usize, s: &[u8], from: usize) -> usize
     requires { ⌜ (at + longestReply ≤ lastPlace) × (from + longestRecord ≤ lastPlace) ⌝ }
     ensures { λ r. ⌜ r ≤ at + longestReply ⌝ }
 {
-    let room = lower_of(length_at(s, from + 1), MOST_COPY_ROOM);
+    let room = room_at(s, from + 1);
     let sheet = part(s, from + 5, length_at(s, from + 3));
-    let mut space = [FILL; MOST_COPY_ROOM];
+    let mut space = [FILL; MOST_ROOM];
     put_clean_into(out, at, sheet, &mut space[0..room])
 }
 

@@ -15,7 +15,7 @@ use Rattle.relation.specs.Handed.{checkOf}
 use Rattle.sheet.specs.declared.Sheet.{Sheet}
 use Rattle.sheet.specs.Commands.{inputsOf, wiresOf, outputsOf}
 use Rattle.sheet.specs.Gathered.{gathered, rowMark}
-use Rattle.sheet.specs.Limits.{maxPatterns, maxValues}
+use Rattle.sheet.specs.Limits.{maxInputs, maxPatterns, maxValues}
 use Rattle.sheet.proofs.Fields.{inputs-field, wires-field, outputs-field, output-field}
 use Rattle.unit.specs.Gates.{outputsFor}
 use Rattle.unit.specs.Relation.{sameList}
@@ -94,5 +94,5 @@ module _ {sheet : Sheet} (a b : WasRead sheet) where
   pub same-formed : formedOf (a .bytes) ≡ formedOf (b .bytes)
   same-formed =
       sym (after-check (a .bytes) (a .commands) (a .held))
-      ∙ ap (λ (r : Relation). checkedReply r (checkOf r)) same-relation
+      ∙ ap (λ (r : Relation). checkedReply r (checkOf maxInputs r)) same-relation
       ∙ after-check (b .bytes) (b .commands) (b .held)

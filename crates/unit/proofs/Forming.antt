@@ -9,6 +9,7 @@ use Rattle.base.specs.declared.Refusal.{Refusal}
 use Rattle.base.specs.Refusals.{refusalAt, empty}
 use Rattle.base.specs.Cases.{acceptedCase}
 use Rattle.base.proofs.Tests.{decide}
+use Rattle.sheet.specs.Limits.{maxInputs}
 use Rattle.relation.specs.Handed.{checkOf}
 use Rattle.sheet.specs.declared.Command.{Command}
 use Rattle.sheet.specs.Commands.{inputsOf}
@@ -36,10 +37,11 @@ module _ (bytes : List ℕ) where
     formed-whole l = rw (e, le-ltb (emptyIn cs) (2 ^ inputsOf cs) l)
 
     -- what the test of the relation gives is what forming it gives
-    pub after-check : checkedReply (relationIn cs) (checkOf (relationIn cs)) ≡ formedOf bytes
+    pub after-check : checkedReply (relationIn cs) (checkOf maxInputs (relationIn cs)) ≡ formedOf bytes
     after-check =
         let s = sound bytes cs e in
+        let few = s .sizes .n-most in
         let p = emptyIn cs in
-        ⊎-elim (λ t. let l = ltb→lt p (2 ^ inputsOf cs) t in rw (refused-empty cs s l) (sym (formed-empty l)))
-        (λ t. let l = nltb→le p (2 ^ inputsOf cs) t in rw (passes-whole cs s l) (sym (formed-whole l)))
+        ⊎-elim (λ t. let l = ltb→lt p (2 ^ inputsOf cs) t in rw (refused-empty cs s maxInputs few l) (sym (formed-empty l)))
+        (λ t. let l = nltb→le p (2 ^ inputsOf cs) t in rw (passes-whole cs s maxInputs few l) (sym (formed-whole l)))
         (decide (ltb p (2 ^ inputsOf cs)))

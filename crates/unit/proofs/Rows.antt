@@ -1,11 +1,12 @@
 -- What forming a relation computes by, and rows computed so. The starred rows of document 01, "Bench sheets", stand together in the program's crate.
 use mathlib.Core.Path.{_≡_, refl}
 use mathlib.Core.List.{List, [], _∷_}
-use Prim.Native.Nat.{ℕ}
+use Prim.Native.Nat.{ℕ, _-_}
 use Rattle.base.specs.Cases.{acceptedCase}
 use Rattle.base.specs.Lowest.{lowest}
 use Rattle.table.specs.Bits.{bit, any, sum, ofBits, tabulate, isOne}
 use Rattle.relation.specs.Tests.{emptyPattern}
+use Rattle.sheet.specs.Limits.{maxPatterns}
 use Rattle.sheet.specs.Commands.{collect}
 use Rattle.reader.specs.Reader.{nextOf}
 use Rattle.sheet.specs.Judged.{judged, ending}
@@ -32,6 +33,6 @@ abbrev pub limitsOnly : List ℕ
 limitsOnly = 1 ∷ 1 ∷ 1 ∷ 2 ∷ 0 ∷ 0 ∷ 3 ∷ 1 ∷ 6 ∷ 0 ∷ 3 ∷ 0 ∷ 6 ∷ 0 ∷ 2 ∷ 0 ∷ 6 ∷ 1 ∷ 1 ∷ 0 ∷ 0 ∷ []
 
 pub limits-only : formedOf limitsOnly
-    ≡ record { relation = record { n = 1; m = 1; sets = 2 ∷ 1 ∷ 0 ∷ 0 ∷ 0 ∷ 0 ∷ 0 ∷ 0 ∷ 0 ∷ 0 ∷ 0 ∷ 0 ∷ 0 ∷ 0 ∷ 0 ∷ 0 ∷ [] }; answer = acceptedCase }
+    ≡ record { relation = record { n = 1; m = 1; sets = 2 ∷ 1 ∷ tabulate (maxPatterns - 2) (λ _. 0) }; answer = acceptedCase }
 unfolding opened
 limits-only = refl

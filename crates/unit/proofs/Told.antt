@@ -28,6 +28,7 @@ use Rattle.base.proofs.Tabulate.{tabulate-entry, take-entry}
 use Rattle.relation.proofs.Fits.{Fit, check-none, check-passed}
 use Rattle.sheet.specs.declared.Command.{Command}
 use Rattle.sheet.specs.Commands.{inputsOf, wiresOf}
+use Rattle.sheet.specs.Inner.Sized.{Sized}
 use Rattle.sheet.proofs.Sizes.{sizes-fit}
 use Rattle.reader.proofs.Sound.{Sound}
 use Rattle.unit.specs.Relation.{unitRelation}
@@ -60,7 +61,9 @@ module _ (cs : List Command) (s : Sound cs) where
   pub set-entry : (p : ℕ) → getD (relationIn cs .sets) p 0 ≡ cond (ltb p (2 ^ inputsOf cs)) (setOn cs p) 0
   unfolding relationIn
   set-entry p =
-      tabulate-entry maxPatterns (λ p. cond (ltb p (2 ^ inputsOf cs)) (setOn cs p) 0) p
+      let held : getD (relationIn cs .sets) p 0 ≡ cond (ltb p maxPatterns) (cond (ltb p (2 ^ inputsOf cs)) (setOn cs p) 0) 0 =
+      tabulate-entry maxPatterns (λ p. cond (ltb p (2 ^ inputsOf cs)) (setOn cs p) 0) p in
+      held
       ∙ ⊎-elim (λ (l : T (ltb p maxPatterns)). rw (test-yes (ltb p maxPatterns) l))
       (λ l.
       let b : 2 ^ inputsOf cs ≤ p = omega (arith, nltb→le p maxPatterns l, patterns-fit) in
@@ -105,10 +108,6 @@ module _ (cs : List Command) (s : Sound cs) where
       lowest-cong (2 ^ inputsOf cs) (λ p. not (any (2 ^ wiresOf cs) (relationOf (relationIn cs) p))) (λ p. not (any (2 ^ wiresOf cs) (unitRelation cs p)))
       (λ p l. ap not (any-cong (2 ^ wiresOf cs) (relationOf (relationIn cs) p) (unitRelation cs p) (λ v b. set-told p v l b)))
 
-  -- the test of the relation as numbers
-  sizes-pass : sizesOut (inputsOf cs) (wiresOf cs) ≡ false
-  sizes-pass = sizes-fit (inputsOf cs) (wiresOf cs) (s .sizes)
-
   entry-below : (p : ℕ) → getD (relationIn cs .sets) p 0 < 2 ^ (2 ^ wiresOf cs)
   entry-below p =
       subst (λ x. x < 2 ^ (2 ^ wiresOf cs)) (sym (set-entry p))
@@ -121,22 +120,29 @@ module _ (cs : List Command) (s : Sound cs) where
       (λ p l. not-T (leb (2 ^ (2 ^ wiresOf cs)) (getD (relationIn cs .sets) p 0))
       (λ t. omega (arith, leb→le (2 ^ (2 ^ wiresOf cs)) (getD (relationIn cs .sets) p 0) t, entry-below p)))
 
-  pub refused-empty : emptyIn cs < 2 ^ inputsOf cs
-      → checkOf (relationIn cs) ≡ refusedCase (refusalAt empty (emptyIn cs))
-  unfolding relationIn
-  refused-empty l =
-      check-none (relationIn cs) sizes-pass (omega (arith, none-wide)) (subst (λ x. x < 2 ^ inputsOf cs) (sym empty-told) l)
-      ∙ ap (λ p. refusedCase (refusalAt empty p)) empty-told
+  -- the test of the relation as numbers, with a limit on the inputs that those of the sheet keep
+  module _ (most : ℕ) (few : inputsOf cs ≤ most) where
+    sized : Sized most (inputsOf cs) (wiresOf cs)
+    sized = record { n-least = s .sizes .n-least; n-most = few; m-least = s .sizes .m-least; m-most = s .sizes .m-most }
 
-  pub passes-whole : 2 ^ inputsOf cs ≤ emptyIn cs → checkOf (relationIn cs) ≡ acceptedCase
-  unfolding relationIn
-  passes-whole l = check-passed (relationIn cs) sizes-pass (omega (arith, none-wide)) (subst (λ x. 2 ^ inputsOf cs ≤ x) (sym empty-told) l)
+    sizes-pass : sizesOut most (inputsOf cs) (wiresOf cs) ≡ false
+    sizes-pass = sizes-fit most (inputsOf cs) (wiresOf cs) sized
 
-  -- a relation with no empty pattern is fit for the search
-  pub fit-told : WellDefined (inputsOf cs) (wiresOf cs) (unitRelation cs) → Fit (relationIn cs)
-  unfolding relationIn
-  fit-told w = record {
-    sizes = s .sizes;
-    small = λ p _. entry-below p;
-    well-defined = well-defined-told .1 w;
-  }
+    pub refused-empty : emptyIn cs < 2 ^ inputsOf cs → checkOf most (relationIn cs) ≡ refusedCase (refusalAt empty (emptyIn cs))
+    unfolding relationIn
+    refused-empty l =
+        check-none most (relationIn cs) sizes-pass (omega (arith, none-wide)) (subst (λ x. x < 2 ^ inputsOf cs) (sym empty-told) l)
+        ∙ ap (λ p. refusedCase (refusalAt empty p)) empty-told
+
+    pub passes-whole : 2 ^ inputsOf cs ≤ emptyIn cs → checkOf most (relationIn cs) ≡ acceptedCase
+    unfolding relationIn
+    passes-whole l = check-passed most (relationIn cs) sizes-pass (omega (arith, none-wide)) (subst (λ x. 2 ^ inputsOf cs ≤ x) (sym empty-told) l)
+
+    -- a relation with no empty pattern is fit for the search
+    pub fit-told : WellDefined (inputsOf cs) (wiresOf cs) (unitRelation cs) → Fit most (relationIn cs)
+    unfolding relationIn
+    fit-told w = record {
+      sizes = sized;
+      small = λ p _. entry-below p;
+      well-defined = well-defined-told .1 w;
+    }

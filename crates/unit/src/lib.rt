@@ -5,6 +5,7 @@ use base::Verdict;
 use relation::Relation;
 use sheet::Sheet;
 ghost use mathlib.Core.Path.{_≡_};
+ghost use Rattle.sheet.specs.Limits.{maxInputs};
 ghost use Rattle.relation.specs.Handed.{checkOf};
 ghost use Rattle.unit.specs.Cases.{formedReply};
 ghost use Rattle.unit.specs.Formed.{turnedAway, formedOf};
@@ -33,11 +34,11 @@ fn turned_away(f: Refusal) -> Formed
     }
 }
 
-// A relation with an empty pattern is refused: 10.
+// A relation with an empty pattern is refused: 10. Its inputs are those of a sheet.
 fn judge(relation: Relation) -> Formed
-    ensures { λ r. ⌜ formedReply r ≡ checkedReply relation (checkOf relation) ⌝ }
+    ensures { λ r. ⌜ formedReply r ≡ checkedReply relation (checkOf maxInputs relation) ⌝ }
 {
-    let checked = relation.check();
+    let checked = relation.check(Sheet::MAX_INPUTS);
     match checked {
         Verdict::Accepted => Formed {
             relation,

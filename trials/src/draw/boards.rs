@@ -3,6 +3,7 @@
 use super::damage::{damage_by, LIKELY};
 use super::{diagram_faults, diagrams, stage_faults, stages};
 use crate::board::Board;
+use crate::cells::Tables;
 use crate::random::Random;
 
 /// Bytes that are likely to mean something in a stage of lists.
@@ -24,7 +25,7 @@ pub fn stage(board: Board, rng: &mut Random, n: u8, m: u8) -> Vec<u8> {
 }
 
 /// A stage of those tables, seldom the smallest.
-pub fn padded(board: Board, rng: &mut Random, n: u8, m: u8, tables: &[u16; 4]) -> Vec<u8> {
+pub fn padded(board: Board, rng: &mut Random, n: u8, m: u8, tables: &Tables) -> Vec<u8> {
     match board {
         Board::Tree => stages::padded(rng, n, m, tables),
         Board::Shared => diagrams::padded(rng, n, m, tables),
@@ -32,7 +33,7 @@ pub fn padded(board: Board, rng: &mut Random, n: u8, m: u8, tables: &[u16; 4]) -
 }
 
 /// The same with one constant turned round.
-pub fn turned(board: Board, rng: &mut Random, n: u8, m: u8, tables: &[u16; 4]) -> Vec<u8> {
+pub fn turned(board: Board, rng: &mut Random, n: u8, m: u8, tables: &Tables) -> Vec<u8> {
     match board {
         Board::Tree => {
             let mut stage = stages::padded(rng, n, m, tables);

@@ -1,6 +1,6 @@
 //! Lists of entries drawn by chance that are in order, and stages of them.
 
-use crate::cells::{full, halves};
+use crate::cells::{full, halves, Tables};
 use crate::diagram::{bytes_of_lists, Diagram, Entry, FIRST, MOST_ENTRIES};
 use crate::random::Random;
 
@@ -80,7 +80,7 @@ struct Padder<'a> {
     rng: &'a mut Random,
     n: u8,
     /// The parts listed so far: inputs left, table, name.
-    met: Vec<(u8, u16, u8)>,
+    met: Vec<(u8, u64, u8)>,
     list: Diagram,
 }
 
@@ -93,7 +93,7 @@ impl Padder<'_> {
     /// The name of a part. A constant or a part with equal halves may get a
     /// selector, a part that is listed may be listed again, and now and then
     /// an entry comes that nobody names.
-    fn visit(&mut self, left: u8, part: u16) -> u8 {
+    fn visit(&mut self, left: u8, part: u64) -> u8 {
         let constant = part == 0 || part == full(left.into());
         if left == 0 || constant && !self.rng.once_in(8) {
             return u8::from(part != 0);
@@ -120,23 +120,23 @@ impl Padder<'_> {
 }
 
 /// A list of that table, seldom the smallest.
-pub fn padded_list(rng: &mut Random, n: u8, table: u16) -> Diagram {
+pub fn padded_list(rng: &mut Random, n: u8, table: u64) -> Diagram {
     let mut padder = Padder { rng, n, met: Vec::new(), list: EMPTY };
     padder.list.top = padder.visit(n, table);
     padder.list
 }
 
-fn padded_lists(rng: &mut Random, n: u8, m: u8, tables: &[u16; 4]) -> Vec<Diagram> {
+fn padded_lists(rng: &mut Random, n: u8, m: u8, tables: &Tables) -> Vec<Diagram> {
     tables[..usize::from(m)].iter().map(|&table| padded_list(rng, n, table)).collect()
 }
 
 /// A stage of those tables, seldom the smallest.
-pub fn padded(rng: &mut Random, n: u8, m: u8, tables: &[u16; 4]) -> Vec<u8> {
+pub fn padded(rng: &mut Random, n: u8, m: u8, tables: &Tables) -> Vec<u8> {
     bytes_of_lists(n, &padded_lists(rng, n, m, tables))
 }
 
 /// The same with one constant turned round, where some wire names one.
-pub fn turned(rng: &mut Random, n: u8, m: u8, tables: &[u16; 4]) -> Vec<u8> {
+pub fn turned(rng: &mut Random, n: u8, m: u8, tables: &Tables) -> Vec<u8> {
     let mut lists = padded_lists(rng, n, m, tables);
     let names = lists.iter_mut().flat_map(|list| {
         let branches = list.entries.iter_mut().flat_map(|it| [&mut it.zero, &mut it.one]);
@@ -197,7 +197,7 @@ mod tests {
         let (mut unreached, mut repeated, mut idle, mut large) = (0, 0, 0, 0);
         for _ in 0..2_000 {
             let it = list(&mut rng, 4, 12);
-            let table = (0..16).fold(0, |table, p| table | u16::from(it.follow(4, p)) << p);
+            let table = (0..16).fold(0, |table, p| table | u64::from(it.follow(4, p)) << p);
             unreached += usize::from(reached(&it) < it.entries.len());
             repeated += usize::from((1..12).any(|i| it.entries[..i].contains(&it.entries[i])));
             idle += usize::from(it.entries.iter().any(|e| e.zero == e.one));

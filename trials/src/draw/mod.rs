@@ -8,6 +8,7 @@ pub mod limits;
 pub mod relations;
 pub mod sheet_faults;
 pub mod sheets;
+pub mod six;
 pub mod stage_faults;
 pub mod stages;
 pub mod straight;
@@ -31,11 +32,20 @@ pub fn too_large(rng: &mut Random, limit: u8) -> u8 {
     }
 }
 
-/// A size outside 1 to 4.
+/// The sets that relations had before document 02, E5, brought 64.
+pub const NARROW: usize = 16;
+
+/// A size outside 1 to 4. As a number of inputs it may still be in range: those
+/// that were drawn before document 02, E5, are no longer all refused.
 pub fn bad_size(rng: &mut Random) -> u8 {
+    size_above(rng, 4)
+}
+
+/// A size that is 0 or above that one.
+pub fn size_above(rng: &mut Random, most: u8) -> u8 {
     match rng.below(4) {
         0 => 0,
-        _ => too_large(rng, 5),
+        _ => too_large(rng, most + 1),
     }
 }
 

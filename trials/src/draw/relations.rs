@@ -1,17 +1,17 @@
 //! Relations drawn by chance, handed straight to the search.
 
-use super::{bad_size, high_bit, sheets};
+use super::{bad_size, high_bit, sheets, size_above};
 use crate::random::Random;
-use crate::relation::Relation;
-use crate::sheet::all_values;
+use crate::relation::{Relation, Sets};
+use crate::sheet::{all_values, MOST_PATTERNS};
 
-/// Well-defined sets of those sizes.
-pub fn sets(rng: &mut Random, n: u8, m: u8) -> [u16; 16] {
+/// Well-defined sets of those sizes, up to four inputs.
+pub fn sets(rng: &mut Random, n: u8, m: u8) -> Sets {
     let all = all_values(m.into());
     let style = rng.below(9);
     let density = rng.within(1, 15);
     let functions: Vec<u16> = (0..16).map(|_| rng.word()).collect();
-    let mut sets = [0; 16];
+    let mut sets = [0; MOST_PATTERNS];
     if style >= 7 {
         // A unit's relation, parities among them.
         let draft = if style == 8 { sheets::hard_draft_of(rng, n, m) } else { sheets::draft_of(rng, n, m) };
@@ -45,7 +45,7 @@ pub fn thin(rng: &mut Random, density: usize) -> u16 {
 
 /// Half of all values, as the benchmark draws them.
 pub fn half_dense(rng: &mut Random, n: u32, m: u32) -> Relation {
-    let mut sets = [0; 16];
+    let mut sets = [0; MOST_PATTERNS];
     for set in sets.iter_mut().take(1 << n) {
         while *set == 0 {
             *set = rng.word() & all_values(m);
@@ -55,19 +55,29 @@ pub fn half_dense(rng: &mut Random, n: u32, m: u32) -> Relation {
 }
 
 /// What is past the last pattern is not read: anything may stand there.
-pub fn junk_past_the_last(rng: &mut Random, n: u8, sets: &mut [u16; 16]) {
-    for set in sets.iter_mut().skip(1 << n) {
+pub fn junk_past_the_last(rng: &mut Random, n: u8, sets: &mut [u16]) {
+    junk(rng, sets.get_mut(1 << n..).unwrap_or_default());
+}
+
+/// Sets that would be refused if they were read, most of them.
+pub fn junk(rng: &mut Random, sets: &mut [u16]) {
+    for set in sets {
         let any = rng.word();
         *set = rng.of(&[0, 1, 0xFFFF, any]);
     }
 }
 
-/// Sizes or sets that are refused: sizes, wide sets, empty sets, or several
-/// of these at once.
-pub fn malformed(rng: &mut Random, n: u8, m: u8) -> (u8, u8, [u16; 16]) {
-    let mut sets = sets(rng, n, m);
+/// Sizes or sets that are refused, of up to four inputs: sizes, wide sets, empty
+/// sets, or several of these at once.
+pub fn malformed(rng: &mut Random, n: u8, m: u8) -> (u8, u8, Sets) {
+    let sets = sets(rng, n, m);
+    spoilt(rng, (n, m), sets, 4)
+}
+
+/// The same of any sets of up to so many inputs.
+pub fn spoilt(rng: &mut Random, (n, m): (u8, u8), mut sets: Sets, most: u8) -> (u8, u8, Sets) {
     if rng.once_in(2) {
-        junk_past_the_last(rng, n, &mut sets);
+        junk_past_the_last(rng, n, &mut sets[..1 << most]);
     }
     // 1: empty sets, 2: wide sets, 4: sizes.
     let what = rng.of(&[1, 1, 1, 2, 2, 2, 3, 3, 3, 4, 5, 6, 7]);
@@ -85,8 +95,8 @@ pub fn malformed(rng: &mut Random, n: u8, m: u8) -> (u8, u8, [u16; 16]) {
         return (n, m, sets);
     }
     match rng.below(3) {
-        0 => (bad_size(rng), m, sets),
+        0 => (size_above(rng, most), m, sets),
         1 => (n, bad_size(rng), sets),
-        _ => (bad_size(rng), bad_size(rng), sets),
+        _ => (size_above(rng, most), bad_size(rng), sets),
     }
 }

@@ -2,23 +2,29 @@
 //! the list of commands, so that one sheet can get several.
 
 use super::damage::small;
-use super::{bad_size, high_bit, too_large, Commands};
+use super::{bad_size, high_bit, size_above, too_large, Commands};
 use crate::random::Random;
 use crate::sheet::all_values;
 
-/// Plants a fault that leads to that refusal, if no earlier one is there.
+/// Plants a fault that leads to that refusal, if no earlier one is there, in a
+/// sheet of up to four inputs.
 pub fn plant(rng: &mut Random, number: u8, sheet: &mut Commands) {
+    plant_up_to(rng, 4, number, sheet);
+}
+
+/// The same in a sheet of up to so many inputs.
+pub fn plant_up_to(rng: &mut Random, most: u8, number: u8, sheet: &mut Commands) {
     match number {
         1 => cut(rng, sheet),
         2 => unknown(rng, sheet),
-        3 => range(rng, sheet),
-        4 => trailing(rng, sheet),
-        5 => turn(rng, sheet),
-        6 => signal(rng, sheet),
-        7 => repeat(rng, sheet),
-        8 => many(rng, sheet),
+        3 => range(rng, most, sheet),
+        4 => trailing(rng, most, sheet),
+        5 => turn(rng, most, sheet),
+        6 => signal(rng, most, sheet),
+        7 => repeat(rng, most, sheet),
+        8 => many(rng, most, sheet),
         9 => missing(rng, sheet),
-        10 => empty(rng, sheet),
+        10 => empty(rng, most, sheet),
         _ => unreachable!("sheets have refusals 1 to 10"),
     }
 }
@@ -37,16 +43,16 @@ fn insert(rng: &mut Random, sheet: &mut Commands, command: Vec<u8>) {
     sheet.insert(at, command);
 }
 
-fn size_of(sheet: &Commands) -> (u8, u8) {
+fn size_of(most: u8, sheet: &Commands) -> (u8, u8) {
     match sheet.first().map(Vec::as_slice) {
-        Some([0x01, n @ 1..=4, m @ 1..=4]) => (*n, *m),
-        _ => (4, 4),
+        Some([0x01, n, m @ 1..=4]) if (1..=most).contains(n) => (*n, *m),
+        _ => (most, 4),
     }
 }
 
 /// Any command that would be in range, with signals among the wires.
-fn any_command(rng: &mut Random, sheet: &Commands) -> Vec<u8> {
-    let (n, m) = size_of(sheet);
+fn any_command(rng: &mut Random, most: u8, sheet: &Commands) -> Vec<u8> {
+    let (n, m) = size_of(most, sheet);
     let p = rng.below(1 << n) as u8;
     let wire = rng.below(m.into()) as u8;
     match rng.below(6) {
@@ -93,17 +99,17 @@ fn unknown(rng: &mut Random, sheet: &mut Commands) {
 }
 
 /// 3: one operand (or two) outside its range.
-fn range(rng: &mut Random, sheet: &mut Commands) {
-    let (n, m) = size_of(sheet);
+fn range(rng: &mut Random, most: u8, sheet: &mut Commands) {
+    let (n, m) = size_of(most, sheet);
     let bad_p = too_large(rng, 1 << n);
     let bad_v = too_large(rng, 1 << m);
     let p = rng.below(1 << n) as u8;
     let v = rng.below(1 << m) as u8;
     let good = all_values(m.into());
     let command = match rng.below(13) {
-        0 => return sheet[0] = vec![0x01, bad_size(rng), m],
+        0 => return sheet[0] = vec![0x01, size_above(rng, most), m],
         1 => return sheet[0] = vec![0x01, n, bad_size(rng)],
-        2 => return sheet[0] = vec![0x01, bad_size(rng), bad_size(rng)],
+        2 => return sheet[0] = vec![0x01, size_above(rng, most), bad_size(rng)],
         3 | 4 => vec![0x02, bad_p, v],
         5 | 6 => vec![0x02, p, bad_v],
         7 => vec![0x02, bad_p, bad_v],
@@ -126,18 +132,18 @@ fn range(rng: &mut Random, sheet: &mut Commands) {
 }
 
 /// 4: bytes after the end.
-fn trailing(rng: &mut Random, sheet: &mut Commands) {
+fn trailing(rng: &mut Random, most: u8, sheet: &mut Commands) {
     let more = match rng.below(3) {
         0 => vec![0x00],
-        1 => any_command(rng, sheet),
+        1 => any_command(rng, most, sheet),
         _ => (0..rng.within(1, 4)).map(|_| rng.byte()).collect(),
     };
     sheet.push(more);
 }
 
 /// 5: another command first, or 01 once more; cut short or not.
-fn turn(rng: &mut Random, sheet: &mut Commands) {
-    let mut command = if rng.once_in(2) { any_command(rng, sheet) } else { vec![0x01] };
+fn turn(rng: &mut Random, most: u8, sheet: &mut Commands) {
+    let mut command = if rng.once_in(2) { any_command(rng, most, sheet) } else { vec![0x01] };
     if command[0] == 0x01 {
         command = match rng.below(3) {
             0 => sheet[0].clone(),
@@ -164,15 +170,15 @@ fn turn(rng: &mut Random, sheet: &mut Commands) {
 }
 
 /// The number of signals made before a place.
-fn made(sheet: &Commands, at: usize) -> u8 {
+fn made(most: u8, sheet: &Commands, at: usize) -> u8 {
     let gates = sheet[..at].iter().filter(|c| c[0] == 0x04).count();
-    size_of(sheet).1 + gates as u8
+    size_of(most, sheet).1 + gates as u8
 }
 
 /// 6: a signal that is not made yet.
-fn signal(rng: &mut Random, sheet: &mut Commands) {
+fn signal(rng: &mut Random, most: u8, sheet: &mut Commands) {
     let at = place(rng, sheet);
-    let made = made(sheet, at);
+    let made = made(most, sheet, at);
     let bad = too_large(rng, made);
     let good = rng.below(made.into()) as u8;
     let kind = rng.below(6) as u8;
@@ -186,8 +192,8 @@ fn signal(rng: &mut Random, sheet: &mut Commands) {
 }
 
 /// 7: a pattern that already has 02 or 03.
-fn repeat(rng: &mut Random, sheet: &mut Commands) {
-    let (_, m) = size_of(sheet);
+fn repeat(rng: &mut Random, most: u8, sheet: &mut Commands) {
+    let (_, m) = size_of(most, sheet);
     let row = |c: &Vec<u8>| matches!(c[0], 0x02 | 0x03) && c.len() > 1;
     let rows: Vec<usize> = (0..sheet.len()).filter(|&i| row(&sheet[i])).collect();
     if rows.is_empty() {
@@ -207,8 +213,8 @@ fn repeat(rng: &mut Random, sheet: &mut Commands) {
 }
 
 /// 8: the 33rd gate or the 9th output; 3 and 6 are tested before it.
-fn many(rng: &mut Random, sheet: &mut Commands) {
-    let (_, m) = size_of(sheet);
+fn many(rng: &mut Random, most: u8, sheet: &mut Commands) {
+    let (_, m) = size_of(most, sheet);
     let wire = |rng: &mut Random| rng.below(m.into()) as u8;
     let gates = rng.once_in(4);
     let (first, limit) = if gates { (0x04, 32) } else { (0x05, 8) };
@@ -221,7 +227,7 @@ fn many(rng: &mut Random, sheet: &mut Commands) {
     let last = sheet.iter().rposition(|c| c[0] == first).expect("filled up");
     let latest = (sheet.len() - 1).max(last + 1);
     let at = rng.within(last + 1, latest);
-    let bad = too_large(rng, made(sheet, at));
+    let bad = too_large(rng, made(most, sheet, at));
     let odd = rng.once_in(3);
     let command = match (gates, odd) {
         (true, false) => vec![0x04, rng.below(6) as u8, wire(rng), wire(rng)],
@@ -245,8 +251,8 @@ fn missing(rng: &mut Random, sheet: &mut Commands) {
 }
 
 /// 10: limits that leave nothing.
-fn empty(rng: &mut Random, sheet: &mut Commands) {
-    let (n, m) = size_of(sheet);
+fn empty(rng: &mut Random, most: u8, sheet: &mut Commands) {
+    let (n, m) = size_of(most, sheet);
     let all = all_values(m.into());
     for _ in 0..rng.of(&[1, 1, 1, 2]) {
         let p = rng.below(1 << n) as u8;
@@ -266,12 +272,18 @@ fn empty(rng: &mut Random, sheet: &mut Commands) {
     }
 }
 
-/// Commands one after another with operands of every kind, mostly in range.
+/// Commands one after another with operands of every kind, mostly in range, of up
+/// to four inputs.
 pub fn soup(rng: &mut Random) -> Vec<u8> {
-    let (n, m) = super::sizes(rng);
+    let size = super::sizes(rng);
+    soup_up_to(rng, 4, size)
+}
+
+/// The same of those sizes, with up to so many inputs.
+pub fn soup_up_to(rng: &mut Random, most: u8, (n, m): (u8, u8)) -> Vec<u8> {
     let mut sheet = vec![vec![0x01, n, m]];
     for _ in 0..rng.within(1, 14) {
-        let mut command = any_command(rng, &sheet);
+        let mut command = any_command(rng, most, &sheet);
         if command.len() > 1 && rng.once_in(6) {
             let i = rng.within(1, command.len() - 1);
             command[i] = if rng.once_in(2) { rng.below(20) as u8 } else { rng.byte() };
@@ -284,7 +296,7 @@ pub fn soup(rng: &mut Random) -> Vec<u8> {
 #[cfg(test)]
 mod tests {
     use super::*;
-    use crate::draw::sheets::draft;
+    use crate::draw::sheets::draft_of;
     use crate::relation::of_unit;
     use crate::sheet::read;
 
@@ -292,15 +304,16 @@ mod tests {
     #[test]
     fn faults_are_met() {
         let mut rng = Random::new(99);
-        for number in 1..=10 {
+        for (most, number) in [4, 6].into_iter().flat_map(|most| (1..=10).map(move |number| (most, number))) {
             let mut met = 0;
             for _ in 0..300 {
-                let mut sheet = draft(&mut rng).commands(&mut rng);
-                plant(&mut rng, number, &mut sheet);
+                let (n, m) = (rng.within(most - 3, most) as u8, rng.within(1, 4) as u8);
+                let mut sheet = draft_of(&mut rng, n, m).commands(&mut rng);
+                plant_up_to(&mut rng, most as u8, number, &mut sheet);
                 let reply = read(&sheet.concat()).and_then(|unit| of_unit(&unit));
                 met += usize::from(matches!(reply, Err(r) if r.number == number));
             }
-            assert!(met > 200, "refusal {number}: {met} of 300");
+            assert!(met > 170, "refusal {number}: {met} of 300");
         }
     }
 }

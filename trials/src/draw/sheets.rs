@@ -2,7 +2,8 @@
 
 use super::{sizes, Commands};
 use crate::random::Random;
-use crate::sheet::{all_values, Gate, Unit, MOST_GATES, MOST_OUTPUTS};
+use crate::relation::Sets;
+use crate::sheet::{all_values, Gate, Unit, MOST_GATES, MOST_OUTPUTS, MOST_PATTERNS};
 use crate::unit::{answer, gate};
 
 /// What is to be said, before an order is chosen.
@@ -46,16 +47,21 @@ pub fn hard_draft_of(rng: &mut Random, n: u8, m: u8) -> Draft {
     it
 }
 
-/// As much as a sheet can say: a value and a limit for each pattern of four
-/// inputs, and no gate or output more.
+/// As much as a sheet of four inputs can say.
 pub fn longest_draft(rng: &mut Random) -> Draft {
+    longest_draft_of(rng, 4)
+}
+
+/// As much as a sheet can say: a value and a limit for each pattern of n inputs,
+/// and no gate or output more.
+pub fn longest_draft_of(rng: &mut Random, n: u8) -> Draft {
     let m = rng.within(1, 4) as u8;
     let gates = gates(rng, m, MOST_GATES, MOST_GATES, &ALL);
     let made = m + gates.len() as u8;
     let outputs = (0..MOST_OUTPUTS).map(|_| signal(rng, made)).collect();
-    let rows = (0..16).map(|_| Some(rng.below(1 << m) as u8)).collect();
-    let limits = (0..16).map(|p| (p, all_values(m.into()) & !(1 << rng.below(1 << m)))).collect();
-    Draft { n: 4, m, gates, outputs, rows, limits }
+    let rows = (0..1 << n).map(|_| Some(rng.below(1 << m) as u8)).collect();
+    let limits = (0..1 << n).map(|p| (p, all_values(m.into()) & !(1 << rng.below(1 << m)))).collect();
+    Draft { n, m, gates, outputs, rows, limits }
 }
 
 type SecondStage = (Vec<[u8; 3]>, Vec<u8>);
@@ -193,8 +199,8 @@ impl Draft {
 
     /// The relation told by the draft alone, as a rival is told: each value is
     /// tried on the gates from the outputs backward.
-    pub fn sets(&self) -> [u16; 16] {
-        let mut sets = [0; 16];
+    pub fn sets(&self) -> Sets {
+        let mut sets = [0; MOST_PATTERNS];
         for p in 0..self.rows.len() {
             for v in 0..1u8 << self.m {
                 let permitted = self.limits.iter().all(|&(q, w)| usize::from(q) != p || w >> v & 1 == 1);

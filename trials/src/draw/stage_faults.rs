@@ -1,19 +1,24 @@
 //! Faults planted in stage sheets, one function for each refusal.
 
 use super::stages::stage;
-use super::{bad_size, too_large, Commands};
+use super::{bad_size, size_above, too_large, Commands};
 use crate::random::Random;
 
 /// The refusals the stage reader has.
 pub const NUMBERS: [u8; 6] = [1, 2, 3, 4, 5, 11];
 
-/// A stage of those sizes with a fault of that number, mostly.
+/// A stage of those sizes, up to four inputs, with a fault of that number, mostly.
 pub fn faulty(rng: &mut Random, number: u8, n: u8, m: u8) -> Commands {
+    faulty_up_to(rng, 4, number, n, m)
+}
+
+/// The same with up to so many inputs.
+pub fn faulty_up_to(rng: &mut Random, most: u8, number: u8, n: u8, m: u8) -> Commands {
     let mut all = if number == 11 { loose_stage(rng, n, m) } else { stage(rng, n, m) };
     match number {
         1 => cut(rng, &mut all),
         2 => unknown(rng, &mut all),
-        3 => range(rng, &mut all, n, m),
+        3 => range(rng, &mut all, most, n, m),
         4 => trailing(rng, &mut all),
         5 => turn(rng, &mut all, m),
         _ => {}
@@ -45,11 +50,11 @@ fn unknown(rng: &mut Random, all: &mut Commands) {
 }
 
 /// Refusal 3, in one of its three places: the sizes, a wire, a selector.
-fn range(rng: &mut Random, all: &mut Commands, n: u8, m: u8) {
+fn range(rng: &mut Random, all: &mut Commands, most: u8, n: u8, m: u8) {
     let of = |first: u8, all: &Commands| -> Vec<usize> { (0..all.len()).filter(|&i| all[i][0] == first).collect() };
     let selectors = of(0x22, all);
     match rng.below(6) {
-        0 => all[0][1] = bad_size(rng),
+        0 => all[0][1] = size_above(rng, most),
         1 => all[0][2] = bad_size(rng),
         2 | 3 => {
             let wires = of(0x21, all);
@@ -146,11 +151,11 @@ mod tests {
     #[test]
     fn faults_are_met() {
         let mut rng = Random::new(31);
-        for number in NUMBERS {
+        for (most, number) in [4, 6].into_iter().flat_map(|most| NUMBERS.map(|number| (most, number))) {
             let mut met = 0;
             for _ in 0..400 {
-                let (n, m) = crate::draw::sizes(&mut rng);
-                let reply = read(&faulty(&mut rng, number, n, m).concat());
+                let (n, m) = (rng.within(most - 3, most) as u8, rng.within(1, 4) as u8);
+                let reply = read(&faulty_up_to(&mut rng, most as u8, number, n, m).concat());
                 met += usize::from(matches!(reply, Err(r) if r.number == number));
             }
             assert!(met > 180, "refusal {number}: {met} of 400");

@@ -1,6 +1,7 @@
 //! Stage sheets drawn by chance that read well.
 
 use super::Commands;
+use crate::cells::{full, halves, Tables};
 use crate::random::Random;
 
 /// An ordered tree, reduced or not; `more` sets how large it grows.
@@ -29,16 +30,14 @@ pub fn stage(rng: &mut Random, n: u8, m: u8) -> Commands {
 
 /// A tree of that table with selectors it could do without. `k` is the input
 /// whose bit is highest among those left.
-fn padded_tree(rng: &mut Random, n: u8, k: u8, table: u16, out: &mut Vec<u8>) {
-    let width = 1u32 << (n + 1 - k);
-    let all = ((1u32 << width) - 1) as u16;
-    let constant = table == 0 || table == all;
+fn padded_tree(rng: &mut Random, n: u8, k: u8, table: u64, out: &mut Vec<u8>) {
+    let left = u32::from(n + 1 - k);
+    let constant = table == 0 || table == full(left);
     if k > n || constant && !rng.once_in(5) {
         out.push(if table == 0 { 0x23 } else { 0x24 });
         return;
     }
-    let half = width / 2;
-    let (zero, one) = (table & ((1u32 << half) - 1) as u16, table >> half);
+    let (zero, one) = halves(left, table);
     if zero == one && !rng.once_in(3) {
         padded_tree(rng, n, k + 1, zero, out);
     } else {
@@ -49,7 +48,7 @@ fn padded_tree(rng: &mut Random, n: u8, k: u8, table: u16, out: &mut Vec<u8>) {
 }
 
 /// A stage of those tables, seldom the smallest.
-pub fn padded(rng: &mut Random, n: u8, m: u8, tables: &[u16; 4]) -> Vec<u8> {
+pub fn padded(rng: &mut Random, n: u8, m: u8, tables: &Tables) -> Vec<u8> {
     let mut out = vec![0x20, n, m];
     for j in 0..m {
         out.extend([0x21, j]);
@@ -67,14 +66,14 @@ pub fn turn_a_constant(rng: &mut Random, stage: &mut [u8]) {
     }
 }
 
-/// A table of n inputs: any, or one of a simple make.
-pub fn table(rng: &mut Random, n: u32) -> u16 {
-    let all = crate::cells::full(n);
+/// A table of n inputs, up to four: any, or one of a simple make.
+pub fn table(rng: &mut Random, n: u32) -> u64 {
+    let all = full(n);
     match rng.below(6) {
         0 => rng.of(&[0, all]),
         1 => rng.of(&[0xAAAA, 0xCCCC, 0xF0F0, 0xFF00, 0x6666, 0x9669, 0xE8E8]) & all,
-        2 => rng.word() & rng.word() & all,
-        _ => rng.word() & all,
+        2 => u64::from(rng.word() & rng.word()) & all,
+        _ => u64::from(rng.word()) & all,
     }
 }
 

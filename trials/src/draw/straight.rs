@@ -4,20 +4,21 @@
 use super::diagrams::name_above;
 use super::sheets::{draft_of, hard_draft_of, Draft};
 use crate::board::Board;
-use crate::cells::full;
+use crate::cells::{full, Tables};
 use crate::diagram::{bytes_of_lists, Diagram, Entry};
 use crate::random::Random;
+use crate::relation::Sets;
 use crate::search::value_at;
-use crate::sheet::all_values;
+use crate::sheet::{all_values, MOST_PATTERNS};
 
 /// Input k of n, as a table.
-pub fn input(n: u32, k: u32) -> u16 {
-    [0xFF00, 0xF0F0, 0xCCCC, 0xAAAA][(3 + k - n) as usize] & full(n)
+pub fn input(n: u32, k: u32) -> u64 {
+    (0..1u32 << n).fold(0, |table, p| table | u64::from(p >> (n - k) & 1) << p)
 }
 
-/// A table that is an input, inverted or not, or a constant, or put together of
-/// halves like that; now and then any.
-pub fn table(rng: &mut Random, n: u32) -> u16 {
+/// A table of up to four inputs that is an input, inverted or not, or a constant,
+/// or put together of halves like that; now and then any.
+pub fn table(rng: &mut Random, n: u32) -> u64 {
     let all = full(n);
     if n == 0 {
         return rng.of(&[0, all]);
@@ -27,13 +28,13 @@ pub fn table(rng: &mut Random, n: u32) -> u16 {
         0 => rng.of(&[0, all]),
         1..=3 => input,
         4 => !input & all,
-        5 => rng.word() & all,
+        5 => u64::from(rng.word()) & all,
         _ => table(rng, n - 1) | table(rng, n - 1) << (1 << (n - 1)),
     }
 }
 
 /// Tables for so many wires; 0 past them.
-pub fn tables(rng: &mut Random, n: u8, m: u8) -> [u16; 4] {
+pub fn tables(rng: &mut Random, n: u8, m: u8) -> Tables {
     let mut tables = [0; 4];
     for it in tables.iter_mut().take(m.into()) {
         *it = table(rng, n.into());
@@ -141,14 +142,14 @@ fn entry(rng: &mut Random, n: u8, list: &Diagram) -> Entry {
 /// Well-defined sets that such tables fit: up to three stages of them laid over
 /// each other, or what a second stage would leave of one, where a value has
 /// others for company; and at times a few values more.
-pub fn sets(rng: &mut Random, n: u8, m: u8) -> [u16; 16] {
+pub fn sets(rng: &mut Random, n: u8, m: u8) -> Sets {
     const EVEN: u16 = 0x9669;
     let count = rng.of(&[0, 0, 1, 2, 3]);
-    let stages: Vec<[u16; 4]> = (0..count.max(1)).map(|_| tables(rng, n, m)).collect();
+    let stages: Vec<Tables> = (0..count.max(1)).map(|_| tables(rng, n, m)).collect();
     let turned = rng.within(1, (1 << m) - 1);
     let parity = rng.once_in(2);
     let more = rng.of(&[0, 0, 0, 1, 3]);
-    let mut sets = [0; 16];
+    let mut sets = [0; MOST_PATTERNS];
     for (p, set) in sets.iter_mut().enumerate().take(1 << n) {
         let values = stages.iter().map(|tables| value_at(m.into(), tables, p));
         *set = match (count, parity) {
@@ -171,7 +172,7 @@ pub fn draft_of_limits(rng: &mut Random, n: u8, m: u8) -> Draft {
 }
 
 /// A unit whose present stage has these tables, which its limits leave it.
-pub fn draft_of_stage(rng: &mut Random, n: u8, m: u8, tables: &[u16; 4]) -> Draft {
+pub fn draft_of_stage(rng: &mut Random, n: u8, m: u8, tables: &Tables) -> Draft {
     let impossible = rng.of(&[0, 0, 1, 3]);
     let limited = rng.of(&[0, 0, 1, 4]);
     let mut it = if rng.once_in(3) { draft_of(rng, n, m) } else { hard_draft_of(rng, n, m) };
@@ -194,7 +195,7 @@ mod tests {
 
     #[test]
     fn inputs_are_inputs() {
-        for n in 1..=4 {
+        for n in 1..=6 {
             assert!(is_straight(n, input(n, 1)));
             for k in 1..=n {
                 let bits = (0..1 << n).filter(|p| input(n, k) >> p & 1 == 1);

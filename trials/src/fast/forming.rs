@@ -4,8 +4,9 @@
 //! Words have 16 bits also where there are fewer values. What stands in the bits
 //! from 2^m up is never asked for: no permitted or present value is there.
 
-use super::{lane, WIRES};
-use crate::sheet::{Row, Unit, MOST_GATES, MOST_OUTPUTS};
+use super::lanes::{lane, WIRES};
+use crate::relation::Sets;
+use crate::sheet::{Row, Unit, MOST_GATES, MOST_OUTPUTS, MOST_PATTERNS};
 
 const MOST_SIGNALS: usize = 4 + MOST_GATES;
 
@@ -56,9 +57,9 @@ fn alike(outputs: &[u16; MOST_OUTPUTS], u: u8) -> u16 {
 }
 
 /// The sets R(p), empty ones among them.
-pub fn sets_of(unit: &Unit) -> [u16; 16] {
+pub fn sets_of(unit: &Unit) -> Sets {
     let outputs = outputs(unit);
-    let mut sets = [0; 16];
+    let mut sets = [0; MOST_PATTERNS];
     for p in 0..unit.patterns() {
         sets[p] = match unit.rows[p] {
             Row::Drives(u) => unit.permitted[p] & alike(&outputs, u),

@@ -17,11 +17,11 @@
 //! costs nothing, shared or not.
 //!
 //! With one table, and masks that leave the quarters no inverted half, a visit
-//! of (4,4) took 59 to 85 ns in place of 57 to 80; so did looking first whether
-//! the pick has an inverted half at all.
+//! of (4,4) took 3 to 6 % more; so did looking first whether the pick has an
+//! inverted half at all.
 
-use super::masks::{quarters, straight, BOTH_HALVES, LOWER_HALF, UPPER_HALF, WHOLE};
-use super::{tree, Count, CELL, NONE};
+use super::masks::{straight_or, BOTH_HALVES, LOWER_HALF, UPPER_HALF, WHOLE};
+use super::{tree, Count, Pick, CELL, NONE};
 
 /// The keys of the quarters by their masks. A key has a cell where the quarter
 /// needs a selector on input 3, above its function four times.
@@ -75,15 +75,13 @@ fn least_of_four(all: &Quarters, masks: u32) -> u32 {
         .min(class(a & c & d, 0xFF0F) + qb)
         .min(class(b & c & d, 0xFFF0) + qa);
     // A half without a selector on input 2, input 2 itself, or with one.
-    let lower = ab.min(straight(masks, LOWER_HALF, 0x00F0)).min(CELL + qa + qb);
-    let upper = cd.min(straight(masks, UPPER_HALF, 0xF000)).min(CELL + qc + qd);
+    let lower = ab.min(straight_or(CELL + qa + qb, masks, LOWER_HALF, 0x00F0));
+    let upper = cd.min(straight_or(CELL + qc + qd, masks, UPPER_HALF, 0xF000));
     // All alike; input 2 or input 1 itself; halves alike; halves that differ;
     // three alike; then what is alike across the halves.
     class(a & b & c & d, 0xFFFF)
-        .min(straight(masks, BOTH_HALVES, 0xF0F0))
-        .min(straight(masks, WHOLE, 0xFF00))
-        .min(CELL + ac + bd)
-        .min(CELL + lower + upper)
+        .min(straight_or(CELL + ac + bd, masks, BOTH_HALVES, 0xF0F0))
+        .min(straight_or(CELL + lower + upper, masks, WHOLE, 0xFF00))
         .min(2 * CELL + three)
         .min(3 * CELL + ac.min(qa + qc) + bd.min(qb + qd))
         .min(3 * CELL + ad.min(qa + qd) + bc.min(qb + qc))
@@ -93,7 +91,7 @@ fn least_of_four(all: &Quarters, masks: u32) -> u32 {
 #[inline(always)]
 fn least_of_two(all: &Quarters, masks: u32) -> u32 {
     let (a, b) = (masks, masks >> 8);
-    class(all, a & b, 0xFF).min(straight(masks, LOWER_HALF, 0xF0)).min(CELL + class(all, a, 0x0F) + class(all, b, 0xF0))
+    class(all, a & b, 0xFF).min(straight_or(CELL + class(all, a, 0x0F) + class(all, b, 0xF0), masks, LOWER_HALF, 0xF0))
 }
 
 /// The lesser of two keys: the inverted input is there and costs a cell, or is
@@ -108,12 +106,12 @@ pub struct Cells;
 
 impl Count for Cells {
     #[inline(always)]
-    fn pick<const N: usize>(zeros: u16, ones: u16) -> u32 {
+    fn pick<const N: usize>(block: impl Fn(usize) -> u32) -> Pick {
         match N {
             // Up to two inputs nothing can be shared.
-            1 | 2 => tree::Cells::pick::<N>(zeros, ones),
-            3 => least_choice(quarters(zeros, ones), least_of_two),
-            _ => least_choice(quarters(zeros, ones), least_of_four),
+            1 | 2 => tree::Cells::pick::<N>(block),
+            3 => Pick::of(least_choice(block(0), least_of_two)),
+            _ => Pick::of(least_choice(block(0) | block(1) << 16, least_of_four)),
         }
     }
 }

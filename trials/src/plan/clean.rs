@@ -2,7 +2,7 @@
 
 use super::{Planner, LONGEST};
 use crate::case::Case;
-use crate::clean::{copy, LONGEST_COPY};
+use crate::clean::copy;
 use crate::draw::damage::damage;
 use crate::draw::limits::{limits_leaving, permitted};
 use crate::draw::sheets::{draft, longest_draft, Draft};
@@ -17,7 +17,9 @@ const LONG: usize = 16;
 const FAULTY: usize = 1_700;
 const DAMAGED: usize = 400;
 
-/// No buffer of a case is longer.
+/// The longest copy of up to four inputs; no buffer of these cases is longer than
+/// the other.
+const LONGEST_NARROW: usize = 260;
 const MOST_ROOM: usize = 320;
 
 pub fn cases(planner: &mut Planner) -> Vec<Case> {
@@ -74,8 +76,8 @@ impl Planner {
     /// A buffer length around the copy's; any where there is no copy.
     fn copy_room(&mut self, sheet: &[u8]) -> u16 {
         let room = match sheet::read(sheet) {
-            Ok(unit) => self.room_around(copy(&unit).len(), LONGEST_COPY, MOST_ROOM),
-            Err(_) => self.rng.of(&[0, 1, 28, LONGEST_COPY, MOST_ROOM]),
+            Ok(unit) => self.room_around(copy(&unit).len(), LONGEST_NARROW, MOST_ROOM),
+            Err(_) => self.rng.of(&[0, 1, 28, LONGEST_NARROW, MOST_ROOM]),
         };
         room as u16
     }

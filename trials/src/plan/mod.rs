@@ -5,23 +5,27 @@
 mod clean;
 mod selectors;
 mod shared;
+mod six;
 mod straight;
 
 use crate::board::Board;
 use crate::case::Case;
+use crate::cells::Tables;
 use crate::draw::boards;
 use crate::draw::damage::damage;
-use crate::draw::relations::{half_dense, junk_past_the_last, malformed, sets, thin};
+use crate::draw::relations::{half_dense, junk, junk_past_the_last, malformed, sets, thin};
 use crate::draw::sheet_faults::{plant, soup};
 use crate::draw::sheets::{draft, draft_of, hard_draft, hard_draft_of, Draft};
-use crate::draw::{bad_size, high_bit, sizes, stages};
+use crate::draw::{bad_size, high_bit, sizes, stages, NARROW};
 use crate::fast::Answer;
 use crate::random::Random;
-use crate::relation::{handed, of_unit, Relation};
+use crate::relation::{handed, of_unit, Relation, Sets};
 use crate::rows::rows;
-use crate::sheet;
+use crate::sheet::{self, MOST_PATTERNS};
 
 const SEED: u64 = 0x5EED_2013_0F57_A6E5;
+/// Apart from the draw, for the sets that E5 added to earlier records.
+const SEED_PAST_SIXTEEN: u64 = 0x0A57_51C7_EE45_E75D;
 
 /// How many of each are drawn.
 const GOOD_QUOTES: usize = 3_000;
@@ -38,8 +42,13 @@ const WRITES: usize = 3_000;
 const READS: usize = 2_400;
 const FAULTY_READS: usize = 3_200;
 
-/// The longest sheet or stage of a case, but for a few stages of long lists.
+/// The longest sheet or stage of a case, but for a few stages of long lists, and
+/// for what E5 brought.
 const LONGEST: usize = 400;
+/// The longest stage of up to four inputs on either board, and the longest buffer
+/// that was lent before E5.
+const LONGEST_NARROW: [usize; 2] = [196, 200];
+const MOST_NARROW_ROOM: usize = 255;
 
 /// A search that takes more visits than this is long. There are few of them,
 /// so that all cases run in seconds.
@@ -71,11 +80,26 @@ pub fn cases() -> Vec<Case> {
     cases.extend(clean::cases(&mut planner));
     cases.extend(shared::cases(&mut planner));
     cases.extend(straight::cases(&mut planner));
+    fill_past_sixteen(&mut cases);
+    cases.extend(six::cases(&mut planner));
     cases
 }
 
-fn well_defined(n: u8, m: u8, sets: &[u16; 16]) -> Relation {
-    handed(n, m, sets).expect("drawn to be well defined")
+/// With E5 a relation brings 64 sets. What comes behind the sixteen of earlier
+/// records is not read, where it has no more than four inputs: anything stands
+/// there. (Some of those that were drawn to be refused for their inputs have five
+/// or six; those are in range now, and these sets are theirs.)
+fn fill_past_sixteen(cases: &mut [Case]) {
+    let mut rng = Random::new(SEED_PAST_SIXTEEN);
+    for case in cases {
+        if let Case::Search { sets, .. } = case {
+            junk(&mut rng, &mut sets[NARROW..]);
+        }
+    }
+}
+
+fn well_defined(n: u8, m: u8, sets: &Sets) -> Relation {
+    handed(Board::Tree, n, m, sets).expect("drawn to be well defined")
 }
 
 struct Planner {
@@ -126,8 +150,8 @@ impl Planner {
     }
 
     /// A buffer length around a stage's.
-    fn room(&mut self, need: usize) -> u8 {
-        self.room_around(need, self.board.longest(), 255) as u8
+    fn room(&mut self, need: usize) -> u16 {
+        self.room_around(need, LONGEST_NARROW[self.board as usize], MOST_NARROW_ROOM) as u16
     }
 
     /// A buffer length around the need; `longest` is the longest need there is.
@@ -173,7 +197,7 @@ impl Planner {
             let Ok(r) = sheet::read(&sheet).and_then(|unit| of_unit(&unit)) else { continue };
             if (LONG + 1..=10_000).contains(&self.search_of(&r, MOST_VISITS).visits) {
                 let budget = self.rng.of(&[10_000, u32::MAX]);
-                return Case::Quote { board: self.board, budget, room: 255, sheet };
+                return Case::Quote { board: self.board, budget, room: MOST_NARROW_ROOM as u16, sheet };
             }
         }
     }
@@ -306,10 +330,10 @@ impl Planner {
     }
 
     /// Any function compatible with the relation.
-    fn compatible(&mut self, r: &Relation) -> [u16; 4] {
+    fn compatible(&mut self, r: &Relation) -> Tables {
         let mut tables = [0; 4];
         for p in 0..r.patterns() {
-            let values: Vec<u16> = (0..16).filter(|v| r.sets[p] >> v & 1 == 1).collect();
+            let values: Vec<u64> = (0..16).filter(|v| r.sets[p] >> v & 1 == 1).collect();
             let v = self.rng.of(&values);
             for (j, table) in tables.iter_mut().enumerate() {
                 *table |= (v >> j & 1) << p;
@@ -341,7 +365,7 @@ impl Planner {
         }
         let budget = self.budget(&r);
         if self.rng.once_in(2) {
-            junk_past_the_last(&mut self.rng, n, &mut drawn);
+            junk_past_the_last(&mut self.rng, n, &mut drawn[..NARROW]);
         }
         Case::Search { board: self.board, n, m, budget, sets: drawn }
     }
@@ -372,8 +396,8 @@ impl Planner {
     /// A search that, by selectors, is stopped at 10,000 visits.
     fn stopped_search(&mut self) -> Case {
         loop {
-            let mut sets = [0; 16];
-            for set in &mut sets {
+            let mut sets = [0; MOST_PATTERNS];
+            for set in &mut sets[..NARROW] {
                 while *set == 0 {
                     *set = thin(&mut self.rng, 5);
                 }
@@ -389,7 +413,7 @@ impl Planner {
         let n = self.rng.of(&[1, 2, 3, 3, 4, 4, 4]);
         let m = self.rng.of(&[1, 2, 3, 4]);
         let (n, m, sets) = malformed(&mut self.rng, n, m);
-        let budget = match handed(n, m, &sets) {
+        let budget = match handed(self.board, n, m, &sets) {
             Ok(r) => self.budget(&r),
             Err(_) => self.any_budget(),
         };
@@ -405,14 +429,14 @@ impl Planner {
         if self.rng.once_in(2) {
             // Past wire m-1 anything may stand.
             for table in tables.iter_mut().skip(m.into()) {
-                *table = self.rng.word();
+                *table = self.rng.word().into();
             }
         }
         let mut room = self.room(need);
         if self.rng.once_in(10) && n < 4 {
             for _ in 0..self.rng.of(&[1, 1, 2]) {
                 let j = self.rng.below(m.into());
-                tables[j] |= high_bit(&mut self.rng, 1 << n);
+                tables[j] |= u64::from(high_bit(&mut self.rng, 1 << n));
             }
             room = self.rng.of(&[0, room, 255]);
         }
@@ -427,7 +451,7 @@ impl Planner {
     }
 
     /// Tables for so many wires; 0 past them.
-    fn tables(&mut self, n: u8, m: u8) -> [u16; 4] {
+    fn tables(&mut self, n: u8, m: u8) -> Tables {
         let mut tables = [0; 4];
         for table in tables.iter_mut().take(m.into()) {
             *table = stages::table(&mut self.rng, n.into());
@@ -463,7 +487,9 @@ impl Planner {
 mod tests {
     use super::*;
     use crate::case::read_records;
-    use crate::tally::tallied;
+    use crate::check::Wide;
+    use crate::refusal::TOO_LONG;
+    use crate::tally::{tallied, NUMBERS};
 
     /// Every case holds; there are enough cases, and enough of every refusal
     /// that the calls have.
@@ -471,26 +497,28 @@ mod tests {
     fn every_case_holds() {
         let (tally, checked) = tallied();
         assert!(tally.cases() >= 20_000);
-        for number in 0..14 {
+        for number in (0..NUMBERS).filter(|&number| number != TOO_LONG.into()) {
             assert!(tally.refusals(number) >= 100, "refusal {number}: {}", tally.refusals(number));
         }
         // What each call that a request added has, and at least how often; 0
         // is what it accepts.
         for (kind, numbers, least) in [
             (b'C', &[0, 1, 2, 3, 4, 5, 6, 7, 8, 9, 12][..], 50),
-            (b'q', &[0, 1, 2, 3, 4, 5, 6, 7, 8, 9, 10, 12], 10),
+            (b'q', &[0, 1, 2, 3, 4, 5, 6, 7, 8, 9, 10, 12, 15], 10),
             (b'a', &[0, 1, 2, 3, 4, 5, 6, 7, 8, 9, 10, 11, 13], 3),
             (b's', &[0, 3, 10], 50),
             (b'w', &[0, 3, 12], 80),
             (b'r', &[0, 1, 2, 3, 4, 5, 6, 11], 80),
         ] {
-            for number in 0..14 {
+            for number in 0..NUMBERS {
                 let met = tally.refusals_of(kind, number);
                 let met_enough = if numbers.contains(&number) { met >= least } else { met == 0 };
                 assert!(met_enough, "refusal {number} of {}: {met}", char::from(kind));
             }
         }
         assert!(checked.held[0] > 5_000 && checked.held[1] > 1_500);
+        let Wide { sums, parts, stopped_left, best_left, every_function } = checked.wide;
+        assert!(sums > 400 && parts > 200 && stopped_left < 200 && best_left < 5 && every_function > 400);
         assert!(checked.copies > 1_500 && checked.stages > 5_000 && checked.written > 10_000);
     }
 
@@ -503,5 +531,21 @@ mod tests {
         }
         assert_eq!(read_records(&input), cases);
         assert_eq!(self::cases(), cases);
+    }
+
+    /// Where a relation has fewer than six inputs, something stands past its last
+    /// pattern that would be refused if it were read, and is not.
+    #[test]
+    fn sets_past_the_last_pattern() {
+        let mut met = [[0; 7]; 2];
+        for case in cases() {
+            let Case::Search { board, n: n @ 1..=6, m: m @ 1..=4, sets, .. } = case else { continue };
+            let mut cut = sets;
+            cut[1 << n..].fill(1);
+            assert_eq!(handed(board, n, m, &sets), handed(board, n, m, &cut));
+            met[board as usize][usize::from(n)] += usize::from(sets[1 << n..].contains(&0));
+        }
+        assert!(met[0][1..=5].iter().all(|&met| met >= 150), "{met:?}");
+        assert!(met[1][1..=4].iter().all(|&met| met >= 150), "{met:?}");
     }
 }

@@ -4,10 +4,11 @@
 //! as long. Those cases stay as they are, and so does what they are drawn by.
 
 use crate::board::Board;
-use crate::fast::{search_by, Answer, Count, CELL, NONE};
+use crate::fast::{search_by, Answer, Count, Pick, CELL, NONE};
+use crate::relation::Sets;
 
 /// What such a search finds; its cells are selectors.
-pub fn search(board: Board, n: u32, sets: &[u16; 16], budget: u32) -> Answer {
+pub fn search(board: Board, n: u32, sets: &Sets, budget: u32) -> Answer {
     match board {
         Board::Tree => search_by::<Trees>(n, sets, budget),
         Board::Shared => search_by::<Lists>(n, sets, budget),
@@ -58,9 +59,9 @@ const fn in_lists(nodes: usize) -> [u32; 16] {
     all
 }
 
-/// The masks of the four quarters.
-fn quarters(zeros: u16, ones: u16) -> [usize; 4] {
-    [0, 4, 8, 12].map(|at| usize::from((zeros >> at & 15) << 4 | ones >> at & 15))
+/// The masks of the four quarters, of those that there are.
+fn quarters(block: impl Fn(usize) -> u32) -> [usize; 4] {
+    [block(0) & 255, block(0) >> 8, block(1) & 255, block(1) >> 8].map(|masks| masks as usize)
 }
 
 /// Equal halves, or two halves and a selector more.
@@ -95,23 +96,23 @@ fn across(blocks: &Blocks, [a, b, c, d]: [usize; 4]) -> u32 {
 struct Trees;
 
 impl Count for Trees {
-    fn pick<const N: usize>(zeros: u16, ones: u16) -> u32 {
-        let [a, b, c, d] = quarters(zeros, ones);
-        match N {
+    fn pick<const N: usize>(block: impl Fn(usize) -> u32) -> Pick {
+        let [a, b, c, d] = quarters(&block);
+        Pick::of(match N {
             // One input is the lower of a block's two, twice over.
             1 => TREES[a * 5] & !12,
             2 => TREES[a],
             3 => three(&TREES, [a, b]),
             _ => four(&TREES, [a, b, c, d]),
-        }
+        })
     }
 }
 
 struct Lists;
 
 impl Count for Lists {
-    fn pick<const N: usize>(zeros: u16, ones: u16) -> u32 {
-        let all = quarters(zeros, ones);
+    fn pick<const N: usize>(block: impl Fn(usize) -> u32) -> Pick {
+        let all = quarters(&block);
         let with = |nodes: usize| {
             let blocks = &LISTS[nodes];
             let least = match N {
@@ -122,8 +123,8 @@ impl Count for Lists {
         };
         match N {
             // Up to two inputs nothing can be shared.
-            1 | 2 => Trees::pick::<N>(zeros, ones),
-            _ => with(0).min(with(1)).min(with(2)).min(with(3)),
+            1 | 2 => Trees::pick::<N>(block),
+            _ => Pick::of(with(0).min(with(1)).min(with(2)).min(with(3))),
         }
     }
 }
@@ -133,7 +134,7 @@ mod tests {
     use super::*;
     use crate::board::BOARDS;
     use crate::cells::full;
-    use crate::fast::tests::key_by;
+    use crate::fast::tests::pick_by;
     use crate::pick::{fits, Projection};
     use crate::random::Random;
 
@@ -143,18 +144,17 @@ mod tests {
         let mut rng = Random::new(17);
         for (board, n) in BOARDS.into_iter().flat_map(|board| (1..=4).map(move |n| (board, n))) {
             let all = full(n);
-            let mut tables: Vec<u32> =
-                (0..=all).map(|table| board.selectors(n, table) * CELL + u32::from(table)).collect();
+            let mut tables: Vec<u32> = (0..=all).map(|table| board.selectors(n, table) * CELL + table as u32).collect();
             tables.sort_unstable();
             for _ in 0..5_000 {
-                let (table, free) = (rng.word(), rng.word());
+                let (table, free) = (u64::from(rng.word()), u64::from(rng.word()));
                 let it = Projection { n, zeros: (!table | free) & all, ones: (table | free) & all };
-                let least = *tables.iter().find(|&&key| fits(&it, key as u16)).expect("some table fits");
+                let least = *tables.iter().find(|&&key| fits(&it, (key % CELL).into())).expect("some table fits");
                 let found = match board {
-                    Board::Tree => key_by::<Trees>(&it),
-                    Board::Shared => key_by::<Lists>(&it),
+                    Board::Tree => pick_by::<Trees>(&it),
+                    Board::Shared => pick_by::<Lists>(&it),
                 };
-                assert_eq!(found, least, "{board:?} {it:?}");
+                assert_eq!(found, Pick::of(least), "{board:?} {it:?}");
             }
         }
     }

@@ -165,7 +165,7 @@ mod tests {
     fn the_boards_differ() {
         let differ = |case: &Case| {
             let (budget, r) = match case {
-                Case::Search { n, m, budget, sets, .. } => (*budget, relation::handed(*n, *m, sets)),
+                Case::Search { board, n, m, budget, sets } => (*budget, relation::handed(*board, *n, *m, sets)),
                 Case::Quote { budget, sheet, .. } => {
                     (*budget, sheet::read(sheet).and_then(|unit| relation::of_unit(&unit)))
                 }

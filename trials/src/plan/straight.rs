@@ -59,8 +59,8 @@ impl Planner {
     }
 
     /// Room for any stage, for one of so many selectors, or for a byte less.
-    fn room_for(&mut self, m: u8, selectors: u32) -> u8 {
-        let length = self.board.length(m.into(), selectors) as u8;
+    fn room_for(&mut self, m: u8, selectors: u32) -> u16 {
+        let length = self.board.length(m.into(), selectors) as u16;
         self.rng.of(&[255, length, length, length - 1])
     }
 
@@ -262,7 +262,7 @@ mod tests {
     /// What a search or a quote works on: the board, the budget, the relation.
     fn searched(case: &Case) -> Option<(Board, u32, Relation)> {
         let (board, budget, r) = match case {
-            Case::Search { board, n, m, budget, sets } => (*board, *budget, handed(*n, *m, sets)),
+            Case::Search { board, n, m, budget, sets } => (*board, *budget, handed(*board, *n, *m, sets)),
             Case::Quote { board, budget, sheet, .. } => (*board, *budget, read(sheet).and_then(|unit| of_unit(&unit))),
             _ => return None,
         };

@@ -2,10 +2,13 @@
 //! document 02 makes of those sheets.
 
 pub mod shared;
+pub mod six;
 pub mod straight;
 
 use crate::board::Board;
 use crate::case::Case;
+use crate::cells::Tables;
+use crate::sheet::MOST_PATTERNS;
 
 /// Sheet A.
 pub const A: [u8; 28] = [
@@ -48,7 +51,7 @@ pub fn rows() -> Vec<(&'static str, Case)> {
         ("table 96", write(3, 1, 196, [0x96, 0, 0, 0])),
         ("empty sheet", quote(PROGRAM, 196, &[])),
         ("lone 00", quote(PROGRAM, 196, &[0x00])),
-        ("01 05 01", quote(PROGRAM, 196, &[0x01, 0x05, 0x01])),
+        ("01 07 01", quote(PROGRAM, 196, &[0x01, 0x07, 0x01])),
         ("01 04 04", quote(PROGRAM, 196, &[0x01, 0x04, 0x04])),
         ("A with 15 bytes", quote(PROGRAM, 15, &A)),
         ("A with 16 bytes", quote(PROGRAM, 16, &A)),
@@ -93,7 +96,7 @@ const A_PRESENT: [u8; 22] = [
     0x23, 0x24, 0x2F,
 ];
 
-fn quote(budget: u32, room: u8, sheet: &[u8]) -> Case {
+fn quote(budget: u32, room: u16, sheet: &[u8]) -> Case {
     Case::Quote { board: Board::Tree, budget, room, sheet: sheet.to_vec() }
 }
 
@@ -105,7 +108,7 @@ fn read(stage: &[u8]) -> Case {
     Case::Read { board: Board::Tree, stage: stage.to_vec() }
 }
 
-fn write(n: u8, m: u8, room: u8, tables: [u16; 4]) -> Case {
+fn write(n: u8, m: u8, room: u16, tables: Tables) -> Case {
     Case::Write { board: Board::Tree, n, m, room, tables }
 }
 
@@ -114,7 +117,7 @@ fn clean(room: u16, sheet: &[u8]) -> Case {
 }
 
 fn search(n: u8, m: u8, budget: u32, few: &[u16]) -> Case {
-    let mut sets = [0; 16];
+    let mut sets = [0; MOST_PATTERNS];
     sets[..few.len()].copy_from_slice(few);
     Case::Search { board: Board::Tree, n, m, budget, sets }
 }
@@ -215,7 +218,7 @@ mod tests {
     fn refused_rows() {
         assert_eq!(reply("empty sheet"), "refused 1 at 0 +\n");
         assert_eq!(reply("lone 00"), "refused 5 at 0 +\n");
-        assert_eq!(reply("01 05 01"), "refused 3 at 0 +\n");
+        assert_eq!(reply("01 07 01"), "refused 3 at 0 +\n");
         assert_eq!(reply("01 04 04"), "refused 1 at 3 +\n");
         assert_eq!(reply("empty sheet cleaned"), "refused 1 at 0 +\n");
         assert_eq!(reply("lone 00 cleaned"), "refused 5 at 0 +\n");

@@ -28,7 +28,7 @@ pub(super) fn one_wire(n: u8, entries: &[[u8; 3]], top: u8) -> Vec<u8> {
 /// The rows by name; the expected replies stand in the tests below. Document
 /// 01's come first; their stages are trees, which this board does not know.
 pub fn shared_rows() -> Vec<(&'static str, Case)> {
-    let room = LONGEST_SHARED as u8;
+    let room = LONGEST_SHARED as u16;
     let own = [
         ("A with 17 bytes", quote(PROGRAM, 17, &A)),
         ("A with 18 bytes", quote(PROGRAM, 18, &A)),
@@ -151,7 +151,7 @@ mod tests {
     fn refused_sheets() {
         assert_eq!(reply("empty sheet"), "refused 1 at 0 +\n");
         assert_eq!(reply("lone 00"), "refused 5 at 0 +\n");
-        assert_eq!(reply("01 05 01"), "refused 3 at 0 +\n");
+        assert_eq!(reply("01 07 01"), "refused 3 at 0 +\n");
         assert_eq!(reply("01 04 04"), "refused 1 at 3 +\n");
     }
 

@@ -5,6 +5,7 @@ use super::shared::one_wire;
 use super::{audit, limits_only, quote, read, search, write, A, A_STAGE, PROGRAM};
 use crate::board::Board;
 use crate::case::Case;
+use crate::cells::{full, Tables};
 
 /// A stage of one wire and two inputs.
 fn one_tree(tree: &[u8]) -> Vec<u8> {
@@ -12,7 +13,7 @@ fn one_tree(tree: &[u8]) -> Vec<u8> {
 }
 
 /// The inputs of a box of four.
-const INPUTS: [u16; 4] = [0xFF00, 0xF0F0, 0xCCCC, 0xAAAA];
+const INPUTS: Tables = [0xFF00, 0xF0F0, 0xCCCC, 0xAAAA];
 
 /// Sheet A's stage with input 2 chosen from twice.
 const A_CHOSEN: [u8; 22] = [
@@ -71,7 +72,7 @@ fn lists() -> Vec<(&'static str, Case)> {
 /// What both boards are asked.
 fn both(board: Board) -> Vec<(&'static str, Case)> {
     let name = |tree, list| if board == Board::Tree { tree } else { list };
-    let (length, inverted) = (board.length(4, 4) as u8, INPUTS.map(|input| !input));
+    let (length, inverted) = (board.length(4, 4) as u16, INPUTS.map(|input| !input & full(4)));
     // Wire 0 follows input 2, wire 1 input 1; then both turned round.
     let (follow, turn) = ([1, 2, 4, 8], [8, 4, 2, 1]);
     let rows = vec![

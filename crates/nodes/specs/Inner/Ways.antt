@@ -4,14 +4,14 @@ use mathlib.Core.Bool.{cond}
 use mathlib.Core.List.{List, [], _∷_}
 use lib.Bits.{bitAnd, bitOr}
 use lib.Dec.{eqb}
-use Rattle.table.specs.Inner.Ranks.{tableSpace}
+use Rattle.table.specs.Inner.Ranks.{narrowSpace}
 use Rattle.table.specs.Inner.Pairs.{blockSpace, byteBits, pairBits}
 use Rattle.table.specs.Inner.Blocks.{entries, threeSpace, noTable, noEntry, bestAt}
 use Rattle.nodes.specs.Inner.Tops.{topPrice}
 
 -- a selector, in a rank
 abbrev pub oneNode : ℕ
-oneNode = tableSpace
+oneNode = narrowSpace
 
 -- the places of quarters in a table of four inputs: digits to the base blockSpace
 abbrev pub placeOf : ℕ → ℕ

@@ -1,33 +1,57 @@
 -- A board and its inputs as one number, and the table that picks on it are made from.
--- The number goes down the whole search in place of the inputs: one number more a call costs the search a tenth of its time.
-use Prim.Native.Nat.{ℕ, _+_, _*_, _%_, _<_}
+-- The number stands behind the entries of that table and goes with it down the whole search: one number more a call costs the search a tenth of its time.
+use Prim.Native.Nat.{ℕ, _+_, _%_, _≤_}
+use mathlib.Core.Path.{_≡_}
 use mathlib.Core.Bool.{cond}
 use mathlib.Core.List.{List}
-use lib.Dec.{ltb}
+use lib.Dec.{ltb, leb}
+use lib.ListN.{getD}
 use Rattle.nodes.specs.declared.BoardKind.{BoardKind}
 use Rattle.nodes.specs.declared.BoardKind.the-variants.{Tree, Sharing}
-use Rattle.table.specs.Inner.Blocks.{Blocks}
+use Rattle.nodes.specs.Counts.{mostInputs}
+use Rattle.table.specs.Inner.Pairs.{narrowInputs}
+use Rattle.table.specs.Inner.Blocks.{entries, Blocks}
 use Rattle.nodes.specs.Inner.Tops.{Tops}
 
--- above the inputs of every board
+-- what marks the board that shares: above the inputs of every board
 abbrev pub sharingMark : ℕ
 sharingMark = 8
 
+-- what marks a board of trees with more inputs than the masks of one number have: above every number of the other boards
+abbrev pub wideMark : ℕ
+wideMark = 16
+
 unfoldable pub boardNumber : BoardKind → ℕ → ℕ
-boardNumber Tree n = n
+boardNumber Tree n = cond (leb n narrowInputs) n (wideMark + n)
 boardNumber Sharing n = sharingMark + n
 
 unfoldable pub kindIn : ℕ → BoardKind
-kindIn board = cond (ltb board sharingMark) Tree Sharing
+kindIn board = cond (ltb board sharingMark) Tree (cond (ltb board wideMark) Sharing Tree)
 
 unfoldable pub boardInputs : ℕ → ℕ
 boardInputs board = board % sharingMark
 
--- the table that is lent for picks
+-- the board of a table that is lent for picks: its number stands behind the entries, and behind that the number of wires
+unfoldable pub boardIn : List ℕ → ℕ
+boardIn e = getD e entries 0
+
+unfoldable pub lentWires : List ℕ → ℕ
+lentWires e = getD e (entries + 1) 0
+
+abbrev pub lentKind : List ℕ → BoardKind
+lentKind e = kindIn (boardIn e)
+
+abbrev pub lentInputs : List ℕ → ℕ
+lentInputs e = boardInputs (boardIn e)
+
+-- the entries that a board's picks are made from
 abbrev pub LentFor : BoardKind → List ℕ → Type 0
 LentFor Tree e = Blocks e
 LentFor Sharing e = Tops e
 
-pub record Lent (board : ℕ) (e : List ℕ) : Type 0 where
-  pub inside : board < 2 * sharingMark
-  pub table : LentFor (kindIn board) e
+-- a table that is lent with its board's number
+pub record Lent (e : List ℕ) : Type 0 where
+  pub number : boardIn e ≡ boardNumber (lentKind e) (lentInputs e)
+  pub least : 1 ≤ lentInputs e
+  pub most : lentInputs e ≤ mostInputs (lentKind e)
+  pub table : LentFor (lentKind e) e

@@ -2,7 +2,7 @@
 use Prim.Native.Nat.{ℕ, _+_, _*_}
 use lib.ListN.{length}
 use Rattle.sheet.specs.Limits.{maxWires}
-use Rattle.clean.specs.Copy.{longestCopy}
+use Rattle.diagram.specs.Bytes.{longestWritten}
 use Rattle.text.specs.Text.{longestDecimal}
 use Rattle.report.specs.Lines.{longestCounts, longestPairs, longestWord}
 use Rattle.samples.specs.Inner.Lines.{plusText}
@@ -28,6 +28,6 @@ longestKept = length plusText
 abbrev pub longestNumberLine : ℕ
 longestNumberLine = longestWord + longestDecimal + 1
 
--- no reply is longer: counts, the word of a mark, the bytes that are shown, of which a copy has the most, and what is told of the buffer
+-- no reply is longer: counts, the word of a mark, the bytes that are shown, of which a stage has the most, and what is told of the buffer
 abbrev pub longestReply : ℕ
-longestReply = longestCounts + longestWord + longestPairs longestCopy + longestKept
+longestReply = longestCounts + longestWord + longestPairs longestWritten + longestKept

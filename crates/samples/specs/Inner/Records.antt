@@ -19,9 +19,16 @@ twoAt s at = byteAt s at + 256 * byteAt s (at + 1)
 abbrev pub fourAt : List ℕ → ℕ → ℕ
 fourAt s at = twoAt s at + 65536 * twoAt s (at + 2)
 
--- so many numbers of two bytes, one after the other from a place on
-abbrev pub numbersAt : ℕ → List ℕ → ℕ → List ℕ
-numbersAt k s from = tabulate k (λ i. twoAt s (from + 2 * i))
+-- the number of eight bytes at a place
+abbrev pub eightAt : List ℕ → ℕ → ℕ
+eightAt s at = fourAt s at + 4294967296 * fourAt s (at + 4)
+
+-- the sets of a relation, two bytes each, and the tables of a stage, eight bytes each, one after the other from a place on
+abbrev pub setsAt : List ℕ → ℕ → List ℕ
+setsAt s from = tabulate maxPatterns (λ i. twoAt s (from + 2 * i))
+
+abbrev pub tablesAt : List ℕ → ℕ → List ℕ
+tablesAt s from = tabulate maxWires (λ i. eightAt s (from + 8 * i))
 
 -- `count` bytes from a place on, or none where the bytes end before
 unfoldable pub partOf : List ℕ → ℕ → ℕ → List ℕ
@@ -36,9 +43,9 @@ callOf letter =
 unfoldable pub recordLength : List ℕ → ℕ → ℕ
 recordLength s at =
     let call = callOf (byteAt s at) in
-    cond (eqb call 0x51) (8 + twoAt s (at + 6))
+    cond (eqb call 0x51) (9 + twoAt s (at + 7))
     (cond (eqb call 0x41) (5 + twoAt s (at + 1) + twoAt s (at + 3))
     (cond (eqb call 0x53) (7 + 2 * maxPatterns)
-    (cond (eqb call 0x57) (4 + 2 * maxWires)
+    (cond (eqb call 0x57) (5 + 8 * maxWires)
     (cond (eqb call 0x52) (3 + twoAt s (at + 1))
     (cond (eqb call 0x43) (5 + twoAt s (at + 3)) 1)))))

@@ -3,7 +3,6 @@ use Prim.Native.Nat.{ℕ, _+_, _*_, _<_, _≤_}
 use mathlib.Core.Path.{_≡_}
 use mathlib.Core.List.{List, _++_}
 use lib.ListN.{length}
-use Rattle.sheet.specs.Limits.{maxInputs}
 use Rattle.table.specs.Inner.Drawing.{FairCount}
 use Rattle.stage.specs.Steps.{Read, taken, fault}
 use Rattle.stage.specs.Form.{StageForm}
@@ -30,16 +29,16 @@ pub record FormLaws (F : StageForm) : Type 0 where
   pub selectors : F .Shape → ℕ
   pub wire-length : (j : ℕ) (x : F .Shape) → length (F .wireBytes j x) ≡ frame + selectorBytes * selectors x
   -- what is well formed has no more selectors than this
-  pub most : ℕ
-  pub few : (n : ℕ) (x : F .Shape) → n ≤ maxInputs → F .WellFormed n x → selectors x ≤ most
+  pub wireMost : ℕ
+  pub few : (n : ℕ) (x : F .Shape) → n ≤ F .most → F .WellFormed n x → selectors x ≤ wireMost
   -- what is taken is what was written
   pub told : (n m j at : ℕ) (bytes : List ℕ) → ToldWire F n j at bytes (F .wireAt n m j at bytes)
   -- what is written is taken
   pub back : (n m j at : ℕ) (x : F .Shape) (q : List ℕ) → j < m → F .WellFormed n x
       → F .wireAt n m j at (F .wireBytes j x ++ q) ≡ taken x (at + length (F .wireBytes j x)) q
   -- one byte more than the longest wire has tells it
-  pub more : (n m j at : ℕ) (bytes q : List ℕ) → n ≤ maxInputs → frame + selectorBytes * most < length bytes
+  pub more : (n m j at : ℕ) (bytes q : List ℕ) → n ≤ F .most → frame + selectorBytes * wireMost < length bytes
       → F .wireAt n m j at (bytes ++ q) ≡ withMore q (F .wireAt n m j at bytes)
   -- no drawing of a table has fewer cells than its count, and the one that is written has as many
-  pub fair : (n : ℕ) → n ≤ maxInputs → FairCount (drawing F) n (F .count n)
-  pub reduces : (n : ℕ) (small : n ≤ maxInputs) → fair n small .reduced ≡ F .reduced n
+  pub fair : (n : ℕ) → n ≤ F .most → FairCount (drawing F) n (F .count n)
+  pub reduces : (n : ℕ) (small : n ≤ F .most) → fair n small .reduced ≡ F .reduced n

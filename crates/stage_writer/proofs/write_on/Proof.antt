@@ -1,7 +1,7 @@
 -- `write_on` meets its contract: each test in its order, and the length that is computed is the stage's.
-use Prim.Native.Nat.{_<_, _≤_}
+use Prim.Native.Nat.{ℕ, _<_, _≤_}
 use mathlib.Core.Path.{_≡_, sym, ap, _∙_}
-use mathlib.Core.Bool.{true, false}
+use mathlib.Core.Bool.{Bool, true, false}
 use native.Mathlib.Omega.{arith}
 use lib.ListN.{length}
 use borrow.Author.Needs.{needs}
@@ -9,7 +9,10 @@ use Rattle.base.specs.Cases.{accepting, acceptedOutcome, refusedCase}
 use Rattle.base.specs.Refusals.{refusalAt, outOfRange, shortBuffer}
 use Rattle.sheet.specs.Limits.{maxWires, sizesOut}
 use Rattle.base.specs.declared.Refusal.{Refusal}
+use Rattle.nodes.specs.declared.BoardKind.{BoardKind}
+use Rattle.nodes.specs.Counts.{mostInputs}
 use Rattle.diagram.specs.Forms.{formOf}
+use Rattle.diagram.proofs.Forms.{form-most}
 use Rattle.stage.specs.Written.{stageOf, firstOut, writtenOf, bufferAfter}
 use Rattle.sheet.specs.Inner.Sized.{Sized}
 use Rattle.sheet.proofs.Sizes.{sizes-in}
@@ -20,7 +23,7 @@ use Rattle.stage_writer.proofs.write_on.Tie as tie
 
 -- where the sizes are in range, where the tables are too, and where the length is computed: what was handed in
 abbrev from1 : tie.Else1 → tie.Start
-from1 c = c .before .before .before
+from1 c = c .before .before .before .before
 
 abbrev from2 : tie.Else2 → tie.Start
 from2 c = from1 (c .before .before)
@@ -28,11 +31,24 @@ from2 c = from1 (c .before .before)
 abbrev from3 : tie.After-stage-length → tie.Start
 from3 c = from2 (c .before .before)
 
-sizes : (c : tie.Else1) → sizesOut (from1 c .args .n) (from1 c .args .m) ≡ false
-sizes c = sym (c .before .sizes-out .ensures) ∙ c .if1 .left
+-- the test of the sizes by what the form has
+abbrev outOn : BoardKind → ℕ → ℕ → Bool
+outOn kind n m = sizesOut (formOf kind .most) n m
 
-sized : (c : tie.Else1) → Sized (from1 c .args .n) (from1 c .args .m)
-sized c = sizes-in (from1 c .args .n) (from1 c .args .m) (sizes c)
+tested : (c : tie.After-sizes-out) → c .sizes-out .result ≡ outOn (c .before .before .before .args .kind) (c .before .before .before .args .n) (c .before .before .before .args .m)
+tested c =
+    let a = c .before .before .before .args in
+    let most : c .before .most-inputs .result ≡ mostInputs (a .kind) = c .before .most-inputs .ensures in
+    c .sizes-out .ensures ∙ ap (λ k. sizesOut k (a .n) (a .m)) (most ∙ sym (form-most (a .kind)))
+
+sizes : (c : tie.Else1) → outOn (from1 c .args .kind) (from1 c .args .n) (from1 c .args .m) ≡ false
+sizes c = sym (tested (c .before)) ∙ c .if1 .left
+
+sized : (c : tie.Else1) → Sized (formOf (from1 c .args .kind) .most) (from1 c .args .n) (from1 c .args .m)
+sized c = sizes-in (formOf (from1 c .args .kind) .most) (from1 c .args .n) (from1 c .args .m) (sizes c)
+
+few : (c : tie.Else1) → from1 c .args .n ≤ mostInputs (from1 c .args .kind)
+few c = rw (← form-most (from1 c .args .kind)) (sized c .n-most)
 
 -- no wire's table is too large
 in-range : (c : tie.Else2) → from2 c .args .m ≤ firstOut (from2 c .args .n) (from2 c .args .m) (from2 c .args .tables)
@@ -53,6 +69,9 @@ refusal : (c : tie.Start) (f g : Refusal) → g ≡ f → writtenOf (formOf (c .
     × (c .args .buffer .now ≡ bufferAfter (formOf (c .args .kind)) (c .args .n) (c .args .m) (c .args .tables) (c .args .buffer .now))
 refusal c f g told e = (ap refusedCase told ∙ sym e, buffer-kept (formOf (c .args .kind)) (c .args .n) (c .args .m) (c .args .tables) (c .args .buffer .now) f e)
 
+most-inputs-requires : tie.Need-most-inputs-requires
+most-inputs-requires c κs = search needs
+
 sizes-out-requires : tie.Need-sizes-out-requires
 sizes-out-requires c κs = search needs
 
@@ -62,9 +81,9 @@ at-requires c κs = search needs
 returns : tie.Need-returns
 returns c =
     let o = c .before .before in
-    let s = o .before .before in
+    let s = o .before .before .before in
     let a = s .args in
-    let out : sizesOut (a .n) (a .m) ≡ true = sym (o .sizes-out .ensures) ∙ c .before .if1 .taken in
+    let out : outOn (a .kind) (a .n) (a .m) ≡ true = sym (tested o) ∙ c .before .if1 .taken in
     let told : c .at .result ≡ refusalAt outOfRange 0 = c .at .ensures in
     refusal s (refusalAt outOfRange 0) _ told (sizes-refused (formOf (a .kind)) (a .n) (a .m) (a .tables) _ out)
 
@@ -90,8 +109,9 @@ returns-2 c =
 
 stage-selectors-requires : tie.Need-stage-selectors-requires
 stage-selectors-requires c κs =
-    let z = sized (c .before .before) in
-    (z .n-most, z .m-most)
+    let e = c .before .before in
+    let a = from1 e .args in
+    (few e, sized e .m-most, tables-in (a .n) (a .m) (a .tables) (in-range c))
 
 stage-length-requires : tie.Need-stage-length-requires
 stage-length-requires c κs = search needs
@@ -114,8 +134,7 @@ put-sheet-requires : tie.Need-put-sheet-requires
 put-sheet-requires c κs =
     let e = c .before .before .before .before in
     let a = from2 e .args in
-    let z = sized (e .before .before) in
-    (z .n-most, z .m-most, tables-in (a .n) (a .m) (a .tables) (in-range e))
+    (few (e .before .before), sized (e .before .before) .m-most, tables-in (a .n) (a .m) (a .tables) (in-range e))
 
 same-length : tie.Need-same-length
 same-length c = search needs
@@ -134,6 +153,7 @@ pub write-on-spec : {M : Type 1} → statement M
 write-on-spec =
     tie.close
     (tie.spec
+    most-inputs-requires
     sizes-out-requires
     at-requires
     returns

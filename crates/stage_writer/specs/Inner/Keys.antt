@@ -1,19 +1,15 @@
 -- Listed nodes as they lie in a lent array, one number for each.
-use Prim.Native.Nat.{ℕ, zero, suc, _+_, _-_, _/_, _%_, _^_, _<_}
+use Prim.Native.Nat.{ℕ, zero, suc, _+_, _/_, _%_, _^_, _<_}
 use mathlib.Core.Path.{_≡_}
 use mathlib.Core.List.{List, [], _∷_}
 use lib.ListN.{length, getD}
-use Rattle.sheet.specs.Limits.{maxPatterns}
-use Rattle.table.specs.Inner.Ranks.{tableSpace}
+use Rattle.table.specs.Inner.Ranks.{narrowSpace}
 use Rattle.nodes.specs.Nodes.{Node, node, listing}
-
--- a table has fewer nodes than patterns
-abbrev pub mostNodes : ℕ
-mostNodes = maxPatterns - 1
+use Rattle.diagram.specs.Bytes.{mostNodes}
 
 -- the node of a key
 abbrev pub nodeOf : ℕ → Node
-nodeOf key = node (key / tableSpace) (key % tableSpace)
+nodeOf key = node (key / narrowSpace) (key % narrowSpace)
 
 -- the first so many keys, the latest first
 unfoldable pub nodesIn : List ℕ → ℕ → List Node

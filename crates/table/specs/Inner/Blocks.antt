@@ -22,7 +22,7 @@ threeSpace = 2 ^ (2 ^ 3)
 
 -- where no table suits: more than any table counts for
 abbrev pub noTable : ℕ
-noTable = 64
+noTable = 128
 
 abbrev pub noEntry : ℕ
 noEntry = noTable * threeSpace

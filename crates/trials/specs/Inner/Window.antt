@@ -8,3 +8,7 @@ window = 65536
 -- once the replies come to this many bytes they are written out; the buffer still has room for the longest
 abbrev pub nearlyFull : ℕ
 nearlyFull = 60000
+
+-- the bytes of the longest buffer that is lent
+abbrev pub mostRoom : ℕ
+mostRoom = 800

@@ -1,5 +1,6 @@
 -- `form` meets its contract: the reading decides, and then the test of the relation.
 use mathlib.Core.Path.{ap, sym, _∙_}
+use Rattle.sheet.specs.Limits.{maxInputs}
 use Rattle.relation.specs.Handed.{checkOf}
 use Rattle.unit.specs.Inner.Forming.{checkedReply}
 use Rattle.reader.proofs.Replies.{refused-reply}
@@ -35,7 +36,7 @@ returns c =
     let read = c .before .before .before .before .before .read-sheet in
     let s = c .before .before .before .before .before .before .before .args .s in
     let h = accepted-held (s .now) (read .result) (read .ensures) (c .before .before .before .enum-told .given .1) in
-    c .judge .ensures ∙ ap (λ r. checkedReply r (checkOf r)) (c .before .relation-of .ensures h) ∙ after-check (s .now) (h .commands) (h .held)
+    c .judge .ensures ∙ ap (λ r. checkedReply r (checkOf maxInputs r)) (c .before .relation-of .ensures h) ∙ after-check (s .now) (h .commands) (h .held)
 
 returns-2 : tie.Need-returns-2
 returns-2 c =

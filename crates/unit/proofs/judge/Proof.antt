@@ -1,6 +1,8 @@
 -- `judge` meets its contract.
-use mathlib.Core.Path.{sym, ap, _∙_}
-use Rattle.base.specs.Cases.{verdictCase}
+use mathlib.Core.Path.{_≡_, sym, ap, _∙_}
+use Rattle.base.specs.Cases.{verdictCase, acceptedCase}
+use Rattle.sheet.specs.Limits.{maxInputs}
+use Rattle.relation.specs.Handed.{checkOf}
 use borrow.Author.Needs.{needs}
 use Rattle.unit.proofs.judge.Statement.{statement}
 use Rattle.unit.proofs.judge.Tie as tie
@@ -18,7 +20,10 @@ turned-away-requires : tie.Need-turned-away-requires
 turned-away-requires c κs = search needs
 
 returns : tie.Need-returns
-returns c = rw (sym (c .before .before .check .ensures) ∙ ap verdictCase (c .enum-told .given .1))
+returns c =
+    let passes : checkOf maxInputs (c .before .before .before .args .relation) ≡ acceptedCase =
+    sym (c .before .before .check .ensures) ∙ ap verdictCase (c .enum-told .given .1) in
+    rw passes
 
 returns-2 : tie.Need-returns-2
 returns-2 c =

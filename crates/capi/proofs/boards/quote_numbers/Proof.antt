@@ -20,19 +20,10 @@ quote-on-requires c κs = search needs
 mark-told-requires : tie.Need-mark-told-requires
 mark-told-requires c κs = search needs
 
-cast-t11 : tie.Need-cast-t11
-cast-t11 c = search needs
-
-cast-t12 : tie.Need-cast-t12
-cast-t12 c = search needs
-
-cast-t13 : tie.Need-cast-t13
-cast-t13 c = search needs
-
 same-length : tie.Need-same-length
 same-length c = search needs
 
-kept : {D : Drawing} {sheet buffer : List ℕ} {budget : ℕ} {q r : QuoteReply} → q ≡ r → Promised D sheet budget q buffer → Promised D sheet budget r buffer
+kept : {D : Drawing} {sheet buffer : List ℕ} {most budget : ℕ} {q r : QuoteReply} → q ≡ r → Promised D most sheet budget q buffer → Promised D most sheet budget r buffer
 kept e p = rw (← e) p
 
 -- the six numbers, from the quote and from what is told of its mark
@@ -42,13 +33,13 @@ numbers q t et e = ap (λ (x : Told). x .outcome ∷ q .cells ∷ q .floor ∷ q
 
 returns : tie.Need-returns
 returns c =
-    let q = c .before .before .before .before .before .before .before .quote-on in
-    let t = c .before .before .before .before .mark-told .ensures in
+    let q = c .before .before .before .before .quote-on in
+    let t = c .before .mark-told .ensures in
     let r = q .result in
     let e = q .ensures in (
       ap (λ (x : Told). x .number) t ∙ ap (λ (x : QuoteReply). x .mark .number) (e .0),
       (
-        numbers r (c .before .before .before .before .mark-told .result) t (e .0),
+        numbers r (c .before .mark-told .result) t (e .0),
         (e .1 .0, kept (e .0) (e .1 .1)),
       ),
     )
@@ -56,4 +47,4 @@ returns c =
 pub quote-numbers-spec : {M : Type 1} → statement M
 quote-numbers-spec =
     tie.close
-    (tie.spec quote-on-requires mark-told-requires cast-t11 cast-t12 cast-t13 same-length returns)
+    (tie.spec quote-on-requires mark-told-requires same-length returns)

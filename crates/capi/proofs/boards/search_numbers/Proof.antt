@@ -37,28 +37,19 @@ search-on-requires c κs = search needs
 mark-told-requires : tie.Need-mark-told-requires
 mark-told-requires c κs = search needs
 
-cast-t15 : tie.Need-cast-t15
-cast-t15 c = search needs
-
-cast-t16 : tie.Need-cast-t16
-cast-t16 c = search needs
-
-cast-t17 : tie.Need-cast-t17
-cast-t17 c = search needs
-
 returns : tie.Need-returns
 returns c =
-    let s = c .before .before .before .before .before .before .before .before .search-on in
-    let t = c .before .before .before .before .before .before .before .mark-told .ensures in
+    let s = c .before .before .before .before .before .search-on in
+    let t = c .before .before .before .before .mark-told .ensures in
     let r = s .result in
     let e = s .ensures in (
       ap (λ (x : Told). x .number) t ∙ ap (λ (x : SearchReply). x .mark .number) e,
       (
         ap (λ (x : Told). x .outcome ∷ r .cells ∷ r .floor ∷ r .visits ∷ 0 ∷ x .place ∷ []) t ∙ ap searchNumbers e,
-        ⊎-elim (λ w. written r _ _ _ t e (w .0 .taken) (w .1)) (λ w. left r _ _ _ t e (w .0 .left) (w .1)) (c .before .before .before .before .if1 .came),
+        ⊎-elim (λ w. written r _ _ _ t e (w .0 .taken) (w .1)) (λ w. left r _ _ _ t e (w .0 .left) (w .1)) (c .before .if1 .came),
       ),
     )
 
 pub search-numbers-spec : {M : Type 1} → statement M
 search-numbers-spec =
-    tie.close (tie.spec search-on-requires mark-told-requires cast-t15 cast-t16 cast-t17 returns)
+    tie.close (tie.spec search-on-requires mark-told-requires returns)

@@ -1,5 +1,5 @@
 -- `tops` meets its contract: the rule of the table is one test over all of its entries.
-use mathlib.Core.Path.{refl}
+use native.Mathlib.Omega.{arith}
 use Rattle.table.specs.Bits.{bit, all}
 use Rattle.table.specs.Cells.{low, high, full, wiredTable, selectorCells}
 use Rattle.table.specs.Pick.{suits, nearer, least, leastOf}
@@ -13,7 +13,7 @@ use Rattle.nodes.proofs.picks.tops.Tie as tie
 
 returns : tie.Need-returns
 unfolding right bestBlock blockEntry topPrice price leastOf least nearer suits masked all bit low high full wiredTable selectorCells
-returns c = tested topPrice _ refl tt
+returns c = tested topPrice _ (omega arith) tt
 
 pub tops-spec : {M : Type 1} → statement M
 tops-spec = tie.close (tie.spec returns)

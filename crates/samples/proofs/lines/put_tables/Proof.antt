@@ -8,17 +8,11 @@ use Rattle.samples.proofs.lines.put_tables.Tie as tie
 array-read-put-spaced : tie.Need-array-read-put-spaced
 array-read-put-spaced c = search needs
 
-cast-put-spaced : tie.Need-cast-put-spaced
-cast-put-spaced c = search needs
-
 put-spaced-requires : tie.Need-put-spaced-requires
 put-spaced-requires c κs = search needs
 
 array-read-put-spaced-2 : tie.Need-array-read-put-spaced-2
 array-read-put-spaced-2 c = search needs
-
-cast-put-spaced-2 : tie.Need-cast-put-spaced-2
-cast-put-spaced-2 c = search needs
 
 put-spaced-requires-2 : tie.Need-put-spaced-requires-2
 put-spaced-requires-2 c κs = search needs
@@ -26,17 +20,11 @@ put-spaced-requires-2 c κs = search needs
 array-read-put-spaced-3 : tie.Need-array-read-put-spaced-3
 array-read-put-spaced-3 c = search needs
 
-cast-put-spaced-3 : tie.Need-cast-put-spaced-3
-cast-put-spaced-3 c = search needs
-
 put-spaced-requires-3 : tie.Need-put-spaced-requires-3
 put-spaced-requires-3 c κs = search needs
 
 array-read-put-spaced-4 : tie.Need-array-read-put-spaced-4
 array-read-put-spaced-4 c = search needs
-
-cast-put-spaced-4 : tie.Need-cast-put-spaced-4
-cast-put-spaced-4 c = search needs
 
 put-spaced-requires-4 : tie.Need-put-spaced-requires-4
 put-spaced-requires-4 c κs = search needs
@@ -57,16 +45,12 @@ put-tables-spec =
     tie.close
     (tie.spec
     array-read-put-spaced
-    cast-put-spaced
     put-spaced-requires
     array-read-put-spaced-2
-    cast-put-spaced-2
     put-spaced-requires-2
     array-read-put-spaced-3
-    cast-put-spaced-3
     put-spaced-requires-3
     array-read-put-spaced-4
-    cast-put-spaced-4
     put-spaced-requires-4
     same-length
     returns)

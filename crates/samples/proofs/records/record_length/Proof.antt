@@ -10,7 +10,7 @@ use Rattle.samples.proofs.records.record_length.Statement.{statement}
 use Rattle.samples.proofs.records.record_length.Tie as tie
 
 -- a head of so many bytes, and a part of the length that is told
-told : {length part two : ℕ} (head : ℕ) → 1 ≤ head → head ≤ 8 → (part ≡ two) × (part ≤ longestPart) → length ≡ head + two
+told : {length part two : ℕ} (head : ℕ) → 1 ≤ head → head ≤ 9 → (part ≡ two) × (part ≤ longestPart) → length ≡ head + two
     → (head + part ≡ length) × (1 ≤ head + part) × (head + part ≤ longestRecord)
 told head low high l e = (omega arith, omega arith, omega arith)
 

@@ -49,8 +49,8 @@ few e = omega (arith, e .before .before .before .loop-test .taken, from (turn (e
 whole : (e : tie.Else1 Inv-loop μ-loop) → place (turn (e .before)) + 3 ≤ length (from (turn (e .before)) .args .s .now)
 whole e = entry-there (turn (e .before) .loop .inv .3) (judged (e .before)) (e .if1 .left) (few e)
 
-all-ones-requires : tie.Need-all-ones-requires Inv-loop μ-loop
-all-ones-requires c κs = search needs
+full-table-requires : tie.Need-full-table-requires Inv-loop μ-loop
+full-table-requires c κs = search needs
 
 array-write-tables : tie.Need-array-write-tables Inv-loop μ-loop
 array-write-tables c = search needs
@@ -61,7 +61,7 @@ add-after-all c = omega arith
 loop-holds : tie.Need-loop-holds Inv-loop μ-loop
 loop-holds c =
     let a = c .before .before .args in
-    (omega arith, refl, refl, rw (c .all-ones .ensures) (start (a .s .now) (a .n) (a .from) (c .before .before .pre .0)))
+    (omega arith, refl, refl, rw (c .full-table .ensures) (start (a .s .now) (a .n) (a .from)))
 
 cast-at : tie.Need-cast-at Inv-loop μ-loop
 cast-at c = search needs
@@ -150,7 +150,7 @@ read-diagram-spec =
     (tie.spec
     Inv-loop
     μ-loop
-    all-ones-requires
+    full-table-requires
     array-write-tables
     add-after-all
     loop-holds

@@ -13,7 +13,7 @@ use Rattle.base.specs.Refusals.{refusalAt, notAscending}
 use Rattle.base.proofs.Refusal.at.Reads as at-reads
 use Rattle.sheet.specs.Limits.{maxPatterns, countOut}
 use Rattle.sheet.proofs.Sizes.{count-in}
-use Rattle.sheet.proofs.limits.all_ones.Reads as all-ones-reads
+use Rattle.table.proofs.tables.full_table.Reads as full-table-reads
 use Rattle.sheet.proofs.limits.count_out.Reads as count-out-reads
 use Rattle.table.specs.Tree.{treeCells}
 use Rattle.table.proofs.Wired.{selector-most}
@@ -256,8 +256,8 @@ module _ (t : ℕ) where
     at-reads.Learnt,
     below 1 selector.Pre,
     selector.Post,
-    all-ones-reads.Asked,
-    all-ones-reads.Learnt,
+    full-table-reads.Asked,
+    full-table-reads.Learnt,
     misplaced-number-reads.Asked,
     misplaced-number-reads.Learnt,
   )
@@ -281,8 +281,8 @@ module _ (t : ℕ) where
   tree-add-t12 : Tree tree-lts.Need-add-t12
   tree-add-t12 c = omega arith
 
-  tree-all-ones-requires : Tree tree-lts.Need-all-ones-requires
-  tree-all-ones-requires c κs = search needs
+  tree-full-table-requires : Tree tree-lts.Need-full-table-requires
+  tree-full-table-requires c κs = omega arith
 
   tree-add-t14 : Tree tree-lts.Need-add-t14
   tree-add-t14 c = omega arith
@@ -314,7 +314,7 @@ module _ (t : ℕ) where
   tree-returns-4 c =
       let e = c .before .before .before in
       let a = from-tree e .args in
-      let one = c .all-ones .ensures ∙ table-one (a .n) (from-tree e .pre .1 .1) in
+      let one = c .full-table .ensures ∙ table-one (a .n) in
       rw (tree-one (a .s .now) (a .n) (a .k) (a .at) (from-tree e .pre .1 .0) (e .if1 .left) (c .before .match .keys3), one)
 
   tree-returns-5 : Tree tree-lts.Need-returns-5
@@ -335,7 +335,7 @@ module _ (t : ℕ) where
       tree-read-b
       tree-selector-requires
       tree-add-t12
-      tree-all-ones-requires
+      tree-full-table-requires
       tree-add-t14
       tree-misplaced-requires
       tree-at-requires-2

@@ -5,9 +5,9 @@ use borrow.Author.Needs.{needs}
 use borrow.Fn.Kinds.{In, Out}
 use borrow.Fn.PlainCycle.{Measures, is, falls, and}
 use lib.Pow.{pow-pos}
-use Rattle.sheet.specs.Limits.{maxPatterns}
+use Rattle.sheet.specs.Limits.{maxSharedInputs}
 use Rattle.stage_writer.proofs.Listing.{halves, listed-constant, listed-same, listed-old, listed-new}
-use Rattle.stage_writer.proofs.common.half_of.Reads as half-of-reads
+use Rattle.stage_writer.proofs.diagrams.narrow_half.Reads as narrow-half-reads
 use Rattle.stage_writer.proofs.diagrams.add_node.Reads as add-node-reads
 use Rattle.stage_writer.proofs.diagrams.key_of.Reads as key-of-reads
 use Rattle.stage_writer.proofs.diagrams.node_number.Reads as node-number-reads
@@ -30,8 +30,8 @@ module _ (t : ℕ) where
 
   abbrev claims : lts.Claims
   claims = (
-    half-of-reads.Asked,
-    half-of-reads.Learnt,
+    narrow-half-reads.Asked,
+    narrow-half-reads.Learnt,
     below,
     list-nodes.Post,
     key-of-reads.Asked,
@@ -54,17 +54,17 @@ module _ (t : ℕ) where
   sub-v : Of lts.Need-sub-v
   sub-v c = omega arith
 
-  half-of-requires : Of lts.Need-half-of-requires
-  half-of-requires c κs = omega arith
+  narrow-half-requires : Of lts.Need-narrow-half-requires
+  narrow-half-requires c κs = omega arith
 
   rem-low : Of lts.Need-rem-low
-  rem-low c = rw (c .half-of .ensures) (pow-pos _)
+  rem-low c = rw (c .narrow-half .ensures) (pow-pos _)
 
   div-high : Of lts.Need-div-high
-  div-high c = rw (c .half-of .ensures) (pow-pos _)
+  div-high c = rw (c .narrow-half .ensures) (pow-pos _)
 
   -- where the table is no constant, there is room for what both halves list
-  room : (h : Of lts.After-half-of) → h .before .before .args .count + 2 ^ (h .before .before .args .w - 1) + 2 ^ (h .before .before .args .w - 1) ≤ maxPatterns
+  room : (h : Of lts.After-narrow-half) → h .before .before .args .count + 2 ^ (h .before .before .args .w - 1) + 2 ^ (h .before .before .args .w - 1) ≤ 2 ^ maxSharedInputs
   room h = omega (arith, h .before .before .pre, halves (h .before .before .args .w) (h .before .if1 .left))
 
   list-nodes-requires : Of lts.Need-list-nodes-requires
@@ -77,7 +77,7 @@ module _ (t : ℕ) where
       let e = c .before .before in
       let h = e .before in
       let a = h .before .before .args in
-      listed-same (a .w) (a .t) _ (h .before .if1 .left) (h .half-of .ensures) (a .keys .now) (a .count) _ _ (e .if2 .taken) (c .list-nodes .ensures)
+      listed-same (a .w) (a .t) _ (h .before .if1 .left) (h .narrow-half .ensures) (a .keys .now) (a .count) _ _ (e .if2 .taken) (c .list-nodes .ensures)
 
   key-of-requires : Of lts.Need-key-of-requires
   key-of-requires c κs = search needs
@@ -93,7 +93,7 @@ module _ (t : ℕ) where
       let h = e .before in
       let s = h .before .before in
       let a = s .args in
-      listed-old (a .w) (a .t) _ (h .before .if1 .left) (h .half-of .ensures) (a .keys .now) (a .count) (e .if2 .left) (k .key-of .result) (p .node-number .result)
+      listed-old (a .w) (a .t) _ (h .before .if1 .left) (h .narrow-half .ensures) (a .keys .now) (a .count) (e .if2 .left) (k .key-of .result) (p .node-number .result)
       (k .key-of .ensures) (p .node-number .ensures) (c .if3 .taken) (s .pre .1 .2)
 
   list-nodes-requires-2 : Of lts.Need-list-nodes-requires-2
@@ -124,7 +124,7 @@ module _ (t : ℕ) where
       let e = k .before in
       let h = e .before in
       let a = h .before .before .args in
-      listed-new (a .w) (a .t) _ (h .before .if1 .left) (h .half-of .ensures) (a .keys .now) (a .count) (e .if2 .left) (k .key-of .result) (p .node-number .result)
+      listed-new (a .w) (a .t) _ (h .before .if1 .left) (h .narrow-half .ensures) (a .keys .now) (a .count) (e .if2 .left) (k .key-of .result) (p .node-number .result)
       (k .key-of .ensures) (p .node-number .ensures) _ _ _ _ _ _ (i .if3 .left) (z .list-nodes2 .ensures) (o .list-nodes3 .ensures) (c .add-node .ensures)
 
   pub meets : {M : Type 1} → lts.Closed claims here list-nodes.Post M
@@ -135,7 +135,7 @@ module _ (t : ℕ) where
       list-nodes.Post
       returns
       sub-v
-      half-of-requires
+      narrow-half-requires
       rem-low
       div-high
       list-nodes-requires

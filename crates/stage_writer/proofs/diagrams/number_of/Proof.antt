@@ -23,14 +23,14 @@ loop-holds c = (omega arith, c .pre .2, refl)
 sub-after : tie.Need-sub-after Inv-loop μ-loop
 sub-after c = omega arith
 
-half-of-requires : tie.Need-half-of-requires Inv-loop μ-loop
-half-of-requires c κs = omega arith
+narrow-half-requires : tie.Need-narrow-half-requires Inv-loop μ-loop
+narrow-half-requires c κs = omega arith
 
 rem-low : tie.Need-rem-low Inv-loop μ-loop
-rem-low c = rw (c .half-of .ensures) (pow-pos _)
+rem-low c = rw (c .narrow-half .ensures) (pow-pos _)
 
 div-if1 : tie.Need-div-if1 Inv-loop μ-loop
-div-if1 c = rw (c .half-of .ensures) (pow-pos _)
+div-if1 c = rw (c .narrow-half .ensures) (pow-pos _)
 
 key-of-requires : tie.Need-key-of-requires Inv-loop μ-loop
 key-of-requires c κs = search needs
@@ -46,7 +46,7 @@ returns c =
     let a = h .before .before .before .args in
     let ks = nodesIn (a .keys .now) (a .count) in
     c .node-number .ensures ∙ ap (nodeNumber ks) (k .key-of .ensures)
-    ∙ sym (number-node (l .left) (l .part) _ (λ z. absurd (omega arith)) (h .half-of .ensures) ks (k .before .if1 .taken))
+    ∙ sym (number-node (l .left) (l .part) _ (λ z. absurd (omega arith)) (h .narrow-half .ensures) ks (k .before .if1 .taken))
     ∙ l .inv .2
 
 loop-less : tie.Need-loop-less Inv-loop μ-loop
@@ -58,8 +58,8 @@ loop-again c =
     let l = h .before .before .loop in
     let a = h .before .before .before .args in (
       omega arith,
-      low-fits _ (l .part) _ (h .half-of .ensures),
-      sym (number-same (l .left) (l .part) _ (λ z. absurd (omega arith)) (h .half-of .ensures) (nodesIn (a .keys .now) (a .count)) (c .if1 .left)) ∙ l .inv .2,
+      low-fits _ (l .part) _ (h .narrow-half .ensures),
+      sym (number-same (l .left) (l .part) _ (λ z. absurd (omega arith)) (h .narrow-half .ensures) (nodesIn (a .keys .now) (a .count)) (c .if1 .left)) ∙ l .inv .2,
     )
 
 cast-result : tie.Need-cast-result Inv-loop μ-loop
@@ -84,7 +84,7 @@ number-of-spec =
     μ-loop
     loop-holds
     sub-after
-    half-of-requires
+    narrow-half-requires
     rem-low
     div-if1
     key-of-requires

@@ -4,9 +4,9 @@ use mathlib.Core.Path.{_≡_, refl}
 use mathlib.Core.List.{[]}
 use native.Mathlib.Omega.{arith}
 use Rattle.nodes.specs.Nodes.{listing}
-use Rattle.stage.proofs.TreeTables.{patterns-most}
-use Rattle.diagram.specs.Bytes.{longestShared}
-use Rattle.stage_writer.specs.Inner.Keys.{mostNodes, nodesIn}
+use Rattle.diagram.specs.Bytes.{mostNodes, longestWritten}
+use Rattle.stage_writer.specs.Inner.Keys.{nodesIn}
+use Rattle.stage_writer.proofs.Narrow.{shared-patterns}
 use Rattle.stage_writer.proofs.Entries.{entries-bytes, listed-keyed, wire-bytes, diagram-stored}
 use borrow.Author.Needs.{needs}
 use Rattle.stage_writer.proofs.diagrams.put_diagram_wire.Statement.{statement}
@@ -20,9 +20,9 @@ listed c = c .list-nodes .ensures .nodes
 few : (c : tie.After-list-nodes) → c .list-nodes .result ≤ mostNodes
 few c =
     let s = c .before .before .before in
-    omega (arith, c .list-nodes .ensures .few, patterns-most (s .args .n) (s .pre .0))
+    omega (arith, c .list-nodes .ensures .few, shared-patterns (s .args .n) (s .pre .0))
 
-room : (c : tie.After-list-nodes) → c .before .before .before .args .at + (4 + 3 * c .list-nodes .result) ≤ longestShared
+room : (c : tie.After-list-nodes) → c .before .before .before .args .at + (4 + 3 * c .list-nodes .result) ≤ longestWritten
 room c =
     let s = c .before .before .before in
     let a = s .args in
@@ -31,7 +31,7 @@ room c =
 list-nodes-requires : tie.Need-list-nodes-requires
 list-nodes-requires c κs =
     let s = c .before .before in
-    (s .pre .0, omega (arith, patterns-most (s .args .n) (s .pre .0)), refl)
+    (s .pre .0, omega (arith, shared-patterns (s .args .n) (s .pre .0)), refl)
 
 put-three-requires : tie.Need-put-three-requires
 put-three-requires c κs = omega (arith, room (c .before))

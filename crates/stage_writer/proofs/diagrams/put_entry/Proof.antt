@@ -21,20 +21,20 @@ cast-after c = search needs
 cast-table : tie.Need-cast-table
 cast-table c = search needs
 
-half-of-requires : tie.Need-half-of-requires
-half-of-requires c κs = search needs
+narrow-half-requires : tie.Need-narrow-half-requires
+narrow-half-requires c κs = search needs
 
 rem-number-of : tie.Need-rem-number-of
-rem-number-of c = rw (c .half-of .ensures) (pow-pos _)
+rem-number-of c = rw (c .narrow-half .ensures) (pow-pos _)
 
 number-of-requires : tie.Need-number-of-requires
-number-of-requires c κs = (omega arith, omega arith, low-fits _ _ _ (c .half-of .ensures))
+number-of-requires c κs = (omega arith, omega arith, low-fits _ _ _ (c .narrow-half .ensures))
 
 div-number-of : tie.Need-div-number-of
-div-number-of c = rw (c .before .half-of .ensures) (pow-pos _)
+div-number-of c = rw (c .before .narrow-half .ensures) (pow-pos _)
 
 number-of-requires-2 : tie.Need-number-of-requires-2
-number-of-requires-2 c κs = (omega arith, omega arith, high-fits _ _ _ (c .before .half-of .ensures) (c .before .before .before .before .pre .2 .bound))
+number-of-requires-2 c κs = (omega arith, omega arith, high-fits _ _ _ (c .before .narrow-half .ensures) (c .before .before .before .before .pre .2 .bound))
 
 sub-put-three : tie.Need-sub-put-three
 sub-put-three c = search needs
@@ -52,7 +52,7 @@ returns c =
     let z = o .before in
     let h = z .before in
     let a = h .before .before .before .args in
-    rw (sym (entry-of-key (a .n) (nodesIn (a .keys .now) (a .k)) _ _ _ _ (h .half-of .ensures) (z .number-of .ensures) (o .number-of2 .ensures))) (p .put-three .ensures)
+    rw (sym (entry-of-key (a .n) (nodesIn (a .keys .now) (a .k)) _ _ _ _ (h .narrow-half .ensures) (z .number-of .ensures) (o .number-of2 .ensures))) (p .put-three .ensures)
 
 pub put-entry-spec : {M : Type 1} → statement M
 put-entry-spec =
@@ -62,7 +62,7 @@ put-entry-spec =
     element-copy-out-key
     cast-after
     cast-table
-    half-of-requires
+    narrow-half-requires
     rem-number-of
     number-of-requires
     div-number-of

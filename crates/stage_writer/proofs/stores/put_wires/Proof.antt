@@ -8,9 +8,9 @@ use lib.Seq.{sets}
 use Rattle.sheet.specs.Limits.{maxWires}
 use Rattle.stage.specs.Bytes.{wiresBytes}
 use Rattle.stage.specs.Written.{stageDrawn}
-use Rattle.diagram.specs.Bytes.{longestShared}
+use Rattle.diagram.specs.Bytes.{longestWritten}
 use Rattle.diagram.specs.Forms.{formOf}
-use Rattle.stage_writer.proofs.Forms.{form-length-most}
+use Rattle.diagram.proofs.Forms.{form-length-most}
 use Rattle.stage_writer.proofs.Storing.{wiresFrom, wires-step, wires-end, wire-fits, put-length, stored-on}
 use Rattle.stage_writer.proofs.stores.put_wires.Statement.{statement}
 use Rattle.stage_writer.proofs.stores.put_wires.Tie as tie
@@ -48,7 +48,7 @@ put-wire-requires c κs =
     let a = s .args in
     let i = c .before .loop-test .taken in
     let most = form-length-most (a .kind) (a .n) (a .m) (a .t5) (within s) (s .pre .0) (s .pre .1) in
-    (s .pre .0, s .pre .2 (l .j) i, wire-fits (formOf (a .kind)) (a .n) (a .m) (l .j) (a .t5) (within s) (l .at) longestShared most i (l .inv .3))
+    (s .pre .0, s .pre .2 (l .j) i, wire-fits (formOf (a .kind)) (a .n) (a .m) (l .j) (a .t5) (within s) (l .at) longestWritten most i (l .inv .3))
 
 add-j : tie.Need-add-j Inv-loop μ-loop
 add-j c = omega arith

@@ -25,17 +25,22 @@ abbrev μ-loop : tie.MeasureT-loop
 loop-holds : tie.Need-loop-holds Inv-loop μ-loop
 loop-holds c = (omega arith, λ i h. absurd (omega arith))
 
-cast-bits-past : tie.Need-cast-bits-past Inv-loop μ-loop
-cast-bits-past c = omega arith
+cast-table-out : tie.Need-cast-table-out Inv-loop μ-loop
+cast-table-out c = omega arith
 
-mul-bits-past : tie.Need-mul-bits-past Inv-loop μ-loop
-mul-bits-past c = omega arith
+mul-table-out : tie.Need-mul-table-out Inv-loop μ-loop
+mul-table-out c = omega arith
 
-array-read-bits-past : tie.Need-array-read-bits-past Inv-loop μ-loop
-array-read-bits-past c = omega arith
+array-read-table-out : tie.Need-array-read-table-out Inv-loop μ-loop
+array-read-table-out c = omega arith
 
-bits-past-requires : tie.Need-bits-past-requires Inv-loop μ-loop
-bits-past-requires c κs = search needs
+table-out-requires : tie.Need-table-out-requires Inv-loop μ-loop
+table-out-requires c κs = search needs
+
+-- the test of the next wire's table
+tested : (o : tie.After-table-out Inv-loop μ-loop)
+    → o .table-out .result ≡ isBeyond (2 ^ o .before .before .before .args .n) (getD (o .before .before .before .args .t3) (o .before .before .loop .j) 0)
+tested o = o .table-out .ensures
 
 returns : tie.Need-returns Inv-loop μ-loop
 unfolding firstOut
@@ -45,7 +50,7 @@ returns c =
     let a = i .before .before .args in
     sym
     (lowest-at (a .m) (λ j. isBeyond (2 ^ a .n) (getD (a .t3) j 0)) (i .before .loop .j) (i .loop-test .taken)
-    (rw (sym (o .bits-past .ensures) ∙ c .if1 .taken) tt)
+    (rw (sym (tested o) ∙ c .if1 .taken) tt)
     (i .before .loop .inv .1))
 
 add-j : tie.Need-add-j Inv-loop μ-loop
@@ -63,7 +68,7 @@ loop-again c =
       omega arith,
       λ k h.
           ⊎-elim
-          (λ (e : k ≡ l .j). rw e (rw (sym (o .bits-past .ensures) ∙ c .if1 .left) tt))
+          (λ (e : k ≡ l .j). rw e (rw (sym (tested o) ∙ c .if1 .left) tt))
           (λ b. l .inv .1 k b)
           (below-suc (rw (add-one (l .j)) at h)),
     )
@@ -83,10 +88,10 @@ first-out-spec =
     Inv-loop
     μ-loop
     loop-holds
-    cast-bits-past
-    mul-bits-past
-    array-read-bits-past
-    bits-past-requires
+    cast-table-out
+    mul-table-out
+    array-read-table-out
+    table-out-requires
     returns
     add-j
     loop-less

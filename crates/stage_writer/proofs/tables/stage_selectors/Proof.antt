@@ -31,7 +31,7 @@ array-read-selectors : tie.Need-array-read-selectors Inv-loop μ-loop
 array-read-selectors c = omega arith
 
 selectors-requires : tie.Need-selectors-requires Inv-loop μ-loop
-selectors-requires c κs = c .before .before .pre .0
+selectors-requires c κs = let s = c .before .before in (s .pre .0, s .pre .2 (c .before .loop .j) (c .loop-test .taken))
 
 add-all : tie.Need-add-all Inv-loop μ-loop
 add-all c =

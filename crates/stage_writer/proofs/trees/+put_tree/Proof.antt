@@ -11,7 +11,7 @@ use lib.Seq.{sets}
 use mathlib.Core.List.{[], _∷_}
 use Rattle.table.specs.Tree.{Tree, reduced}
 use Rattle.stage.specs.TreeBytes.{treeBytes}
-use Rattle.diagram.specs.Bytes.{longestShared}
+use Rattle.diagram.specs.Bytes.{longestWritten}
 use Rattle.base.proofs.put.Reads as put-reads
 use Rattle.stage_writer.proofs.Halves.{reduced-same, reduced-two, same-length, two-length}
 use Rattle.stage_writer.proofs.Storing.{selector-stored}
@@ -98,14 +98,14 @@ module _ (t : ℕ) where
   for-one h = half-tree h (h .before .before .before .args .t / h .half-of .result)
 
   -- where the halves are equal there is room for the tree of one, else for a selector and both
-  one-fits : (e : Of lts.Then2) → e .before .before .before .before .args .at + length (treeBytes (for-zero (e .before))) ≤ longestShared
+  one-fits : (e : Of lts.Then2) → e .before .before .before .before .args .at + length (treeBytes (for-zero (e .before))) ≤ longestWritten
   one-fits e =
       let h = e .before in
       let s = h .before .before .before in
       omega (arith, s .pre, same-length (s .args .w) (s .args .t) _ (h .before .if1 .left) (h .half-of .ensures) (s .args .k) (e .if2 .taken))
 
   both-fit : (e : Of lts.Else2)
-      → e .before .before .before .before .args .at + (2 + length (treeBytes (for-zero (e .before))) + length (treeBytes (for-one (e .before)))) ≤ longestShared
+      → e .before .before .before .before .args .at + (2 + length (treeBytes (for-zero (e .before))) + length (treeBytes (for-one (e .before)))) ≤ longestWritten
   both-fit e =
       let h = e .before in
       let s = h .before .before .before in

@@ -1,5 +1,5 @@
 -- `blocks` meets its contract: the rule of the table is one test over all of its entries.
-use mathlib.Core.Path.{refl}
+use native.Mathlib.Omega.{arith}
 use Rattle.table.specs.Bits.{bit, all}
 use Rattle.table.specs.Cells.{low, high, full, wiredTable, selectorCells, cells}
 use Rattle.table.specs.Pick.{suits, nearer, least, leastOf}
@@ -11,7 +11,7 @@ use Rattle.table.proofs.picks.blocks.Tie as tie
 
 returns : tie.Need-returns
 unfolding right bestBlock blockEntry leastOf least nearer suits masked all bit cells low high full wiredTable selectorCells
-returns c = tested (pickKey 2) _ refl tt
+returns c = tested (pickKey 2) _ (omega arith) tt
 
 pub blocks-spec : {M : Type 1} → statement M
 blocks-spec = tie.close (tie.spec returns)

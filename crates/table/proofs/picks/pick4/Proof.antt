@@ -7,11 +7,11 @@ use lib.Bits.{bitAnd}
 use lib.Dec.{eqb}
 use Rattle.table.specs.Cells.{full}
 use Rattle.table.specs.Pick.{leastOf}
-use Rattle.table.specs.Inner.Ranks.{masked, tableSpace, pickKey}
+use Rattle.table.specs.Inner.Ranks.{masked, narrowSpace, pickKey}
 use Rattle.table.specs.Inner.Pairs.{zerosIn, onesIn}
-use Rattle.table.specs.Inner.Blocks.{noTable, PickShown}
+use Rattle.table.specs.Inner.Blocks.{threeSpace, noTable, PickShown}
 use Rattle.table.specs.Inner.Lines.{line, needsOfFour, lineBy}
-use Rattle.table.proofs.Entries.{shown-some, line-choice, twiceShown, pairShown}
+use Rattle.table.proofs.Entries.{shown-some, line-choice, twiceShown, pairShown, twice-most}
 use Rattle.table.proofs.Places.{four-places}
 use borrow.Author.Needs.{needs}
 use Rattle.table.proofs.picks.pick4.Statement.{statement}
@@ -58,14 +58,17 @@ returns c =
     let b = c .before .before .before .pick32 in
     let a = c .before .before .before .before .pick3 in
     let w = c .before .before .before .before .before .args .pair in
-    let two = pairShown (a .result) (b .result) in
-    let told : l .result ≡ lineBy w needsOfFour (tableSpace + line 3) two = l .ensures in
-    let least : c .lesser .result ≡ min (twiceShown (d .result)) (l .result) = c .lesser .ensures in
+    let two = pairShown threeSpace (a .result) (b .result) in
+    let told : l .result ≡ lineBy w needsOfFour (narrowSpace + line 3) two = l .ensures in
+    let least : c .lesser .result ≡ min (twiceShown threeSpace (d .result)) (l .result) = c .lesser .ensures in
     let s = four-places w (a .result) (b .result) (d .result) (omega arith) (a .ensures .0) (b .ensures .0) (d .ensures .0) in
-    let e = line-choice (eqb (bitAnd w needsOfFour) needsOfFour) (tableSpace + line 3) (noTable * tableSpace) (twiceShown (d .result)) two
+    let e = line-choice (eqb (bitAnd w needsOfFour) needsOfFour) (narrowSpace + line 3) (noTable * narrowSpace) (twiceShown threeSpace (d .result)) two
     (omega (arith, d .ensures .2)) (omega (arith, a .ensures .1, b .ensures .1)) in
-    let r : PickShown 4 tableSpace (zerosIn w) (onesIn w) (c .lesser .result) = rw (least, told, e) s in
-    (r, shown-some 4 tableSpace (leastOf (pickKey 4) 4 (masked (zerosIn w) (onesIn w))) (c .lesser .result) r)
+    let r : PickShown 4 narrowSpace (zerosIn w) (onesIn w) (c .lesser .result) = rw (least, told, e) s in (
+      r,
+      shown-some 4 narrowSpace (leastOf (pickKey 4) 4 (masked (zerosIn w) (onesIn w))) (c .lesser .result) r,
+      omega (arith, least, twice-most threeSpace noTable (d .result) (omega arith) (d .ensures .2)),
+    )
 
 pub pick4-spec : {M : Type 1} → statement M
 pick4-spec =
