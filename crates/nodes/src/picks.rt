@@ -26,7 +26,7 @@ ghost use Rattle.nodes.specs.Inner.Tops.{Tops};
 ghost use Rattle.nodes.specs.Inner.Ways.{quarterEntryAt, classAt, lineAt, mostClass, noLine, allPlaces, apartAt, halfAt, classIn, lineIn, four, halvesAlike, treeLike, threeAlike, crossedAlike, besideAlike, acrossAlike, wayOf, noInverted};
 
 // The best quarter of each pair of masks, at zeros * BLOCK_SPACE + ones: THREE_SPACE where it needs a selector that counts, and the quarter twice side by side.
-// Where some pattern is in no mask there is none: NO_TABLE selectors. What stands below a quarter is not counted. The place past the entries is
+// Where some pattern is in no mask there is none: NO_TABLE selectors. What stands below a quarter is not counted. The places past the entries are
 // the search's.
 const TOPS: [u16; LENT] = [
     0x8000,

@@ -59,7 +59,7 @@ pub record Promised (D : Drawing) (most : ℕ) (sheet : List ℕ) (budget : ℕ)
   -- no more parts were expanded than the budget allows, and a stopped search has used it up
   pub within : r .visits ≤ budget
   pub spent : IsStopped r → r .visits ≡ budget
-  -- the refusal's number is 10 exactly where reading refuses nothing and no rival exists
+  -- the refusal's number is 10 exactly where reading refuses nothing and no rival exists; a drawing has as many inputs as the sheet, also where the board has fewer lines
   pub refused : (r .mark .number ≡ empty) ↔ NoRival D sheet
   -- trees tell that as well, on every board
   pub by-trees : (r .mark .number ≡ empty) ↔ NoRival treeDrawing sheet

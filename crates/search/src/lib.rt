@@ -112,7 +112,7 @@ fn lent_for(kind: BoardKind, n: u8, m: u8) -> [u16; LENT]
     table
 }
 
-// The same on either board.
+// The search of a relation that was tested, on either board.
 fn search_tested(
     kind: BoardKind,
     n: u8,

@@ -1,4 +1,4 @@
-// The stage writer: what drives each wire, made from the wire's table, at the start of a lent buffer. It serves both boards: `wires` alone looks at which.
+// The stage writer: what drives each wire, made from the wire's table, at the start of a lent buffer. It serves both boards: sizes are tested by the board's own, and `wires` looks at which it is.
 use base::Refusal;
 use base::Written;
 use nodes::BoardKind;

@@ -1,4 +1,4 @@
-// A wire by the board: the only place where the writer looks at which board it writes for. 16 bits have room for a table of the board that shares
+// A wire by the board: but for the test of sizes the only place where the writer looks at which board it writes for. 16 bits have room for a table of the board that shares
 // selectors, which is of four inputs at most.
 // Inner functions: `write_on` has tested sizes and tables before it calls them, and the buffer before any of them writes.
 use crate::diagrams::entry_count;
