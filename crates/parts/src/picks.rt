@@ -133,7 +133,7 @@ pub fn again(
     state: &mut [u64; STATE],
 ) -> u64
     requires { ⌜ Lent (now e) × (p < 2 ^ lentInputs (now e)) × (j < maxWires) × (length (now pairs) ≡ wordCount) × Covers (lentInputs (now e)) (cutWords (now pairs) p set j) j
-        × (length (now state) ≡ stateLength) × (length (now next) ≡ maxWires) ⌝ }
+        × (length (now state) ≡ stateLength) ⌝ }
     ensures { λ r. ⌜ (now (next .exit) ≡ put (now (next .entry)) j (tableAgain (lentKind (now (e .entry))) (lentInputs (now (e .entry))) table p j set (now (pairs .entry))))
         × (r ≡ cond (occurs maxWires (member set) j (bit table p)) cells
         (putCells cells j (cellsOn (now (e .entry)) (cutWords (now (pairs .entry)) p set j) j)))

@@ -5,7 +5,7 @@ use mathlib.Core.Bool.{cond}
 use mathlib.Core.List.{List}
 use native.Mathlib.Omega.{arith}
 use lib.Dec.{T, eqb, le→leb}
-use lib.ListN.{length, getD, set, length-set}
+use lib.ListN.{length, getD, set}
 use lib.Seq.{getD-set-other, set-set}
 use Rattle.sheet.specs.Limits.{maxWires}
 use Rattle.table.specs.Bits.{bit, ofBits}
@@ -40,10 +40,6 @@ use Rattle.parts.proofs.WordRows.{row-again}
 use Rattle.search.specs.Inner.States.{cellsPlace}
 use Rattle.search.proofs.StateChanges.{same-state, same-budget, held-after}
 use Rattle.search.proofs.Steps.{discards}
-
--- the tables of a part stay four while they are put
-pub put-long : (l : List ℕ) (i t : ℕ) {m : List ℕ} → m ≡ set l i t → length l ≡ maxWires → length m ≡ maxWires
-put-long l i t e long = ap length e ∙ length-set l i t ∙ long
 
 -- one part of a split of a part at its open pair p, j: w is what is left of the pattern's set with wire j at b
 pub record Half (kind : BoardKind) (n m : ℕ) (S ws ts : List ℕ) (c p j b w : ℕ) : Type 0 where

@@ -15,7 +15,6 @@ use Rattle.relation.specs.Inner.Members.{withBit}
 use Rattle.table.specs.Inner.Pairs.{narrowPatterns}
 use Rattle.parts.specs.Inner.Boards.{lentKind, lentInputs, lentWires}
 use Rattle.parts.specs.Inner.Words.{sections, wordCount, withRow}
-use Rattle.parts.specs.Inner.Picks.{tableAgain}
 use Rattle.parts.proofs.Keeping.{few, cells-fit}
 use Rattle.parts.proofs.WordMasks.{pairs-long}
 use Rattle.parts.proofs.WordRows.{row-back}
@@ -24,7 +23,7 @@ use Rattle.search.specs.Inner.States.{leftPlace, stateOf, budgetIn, Ran}
 use Rattle.search.proofs.Carrying.{carried-tables, carried-long, pattern-lt}
 use Rattle.search.proofs.Opening.{found-open, found-below}
 use Rattle.search.proofs.Steps.{lt→nleb, discards, halts, improves, splits}
-use Rattle.search.proofs.Halves.{put-long, Half, half-cover, half-tables, half-cells, Reached, none-reached, both-reached, Made, made-fit, made-fewer, ready, visited, passed-over}
+use Rattle.search.proofs.Halves.{Half, half-cover, half-tables, half-cells, Reached, none-reached, both-reached, Made, made-fit, made-fewer, ready, visited, passed-over}
 use Rattle.search.proofs.StateChanges.{left-ran, not-charged, was-charged, kept-ran, front-trans, held-after}
 use Prim.Native.Nat.{ℕ, _+_, _*_, _/_, _%_, _<_}
 use borrow.Fn.Kinds.{In}
@@ -140,7 +139,7 @@ split-again-requires t c κs =
     let i = c .before .before .before .before .before .before .before in
     let q = i .pre .1 in
     let half = split-half i 0 (omega arith) (c .before .before .before .before .before .with-bit .ensures) in
-    (q .0, q .2, omega arith, split-words i, half-cover half 0 (omega arith), q .6 .long, refl)
+    (q .0, q .2, omega arith, split-words i, half-cover half 0 (omega arith), q .6 .long)
 
 split-element-copy-out-again-2 : (t : ℕ) → split-lts.Need-element-copy-out-again-2 (split-claims t) (split-at t) split.Post
 split-element-copy-out-again-2 t c = search needs
@@ -156,7 +155,6 @@ split-again-requires-2 t c κs =
       split-words i,
       half-cover half 1 (omega arith),
       c .before .before .before .before .again .ensures .2 .long,
-      put-long (0 ∷ 0 ∷ 0 ∷ 0 ∷ []) 0 (tableAgain (lentKind (i .args .e .now)) (lentInputs (i .args .e .now)) (getD (i .args .tables .now) 0 0) (i .args .p) 0 (c .before .before .before .before .before .before .before .before .before .before .with-bit .result) (i .args .pairs .now)) (c .before .before .before .before .again .ensures .0) refl,
     )
 
 split-element-copy-out-again-3 : (t : ℕ) → split-lts.Need-element-copy-out-again-3 (split-claims t) (split-at t) split.Post
@@ -173,7 +171,6 @@ split-again-requires-3 t c κs =
       split-words i,
       half-cover half 2 (omega arith),
       c .before .before .before .before .again2 .ensures .2 .long,
-      put-long (c .before .before .before .before .before .before .before .before .before .again .last .1 .1 .1 .1 .1 .1 .1 .0) 1 (tableAgain (lentKind (i .args .e .now)) (lentInputs (i .args .e .now)) (getD (i .args .tables .now) 1 0) (i .args .p) 1 (c .before .before .before .before .before .before .before .before .before .before .before .before .before .before .before .with-bit .result) (i .args .pairs .now)) (c .before .before .before .before .again2 .ensures .0) (put-long (0 ∷ 0 ∷ 0 ∷ 0 ∷ []) 0 (tableAgain (lentKind (i .args .e .now)) (lentInputs (i .args .e .now)) (getD (i .args .tables .now) 0 0) (i .args .p) 0 (c .before .before .before .before .before .before .before .before .before .before .before .before .before .before .before .with-bit .result) (i .args .pairs .now)) (c .before .before .before .before .before .before .before .before .before .again .ensures .0) refl),
     )
 
 split-element-copy-out-again-4 : (t : ℕ) → split-lts.Need-element-copy-out-again-4 (split-claims t) (split-at t) split.Post
@@ -190,7 +187,6 @@ split-again-requires-4 t c κs =
       split-words i,
       half-cover half 3 (omega arith),
       c .before .before .before .before .again3 .ensures .2 .long,
-      put-long (c .before .before .before .before .before .before .before .before .before .again2 .last .1 .1 .1 .1 .1 .1 .1 .0) 2 (tableAgain (lentKind (i .args .e .now)) (lentInputs (i .args .e .now)) (getD (i .args .tables .now) 2 0) (i .args .p) 2 (c .before .before .before .before .before .before .before .before .before .before .before .before .before .before .before .before .before .before .before .before .with-bit .result) (i .args .pairs .now)) (c .before .before .before .before .again3 .ensures .0) (put-long (c .before .before .before .before .before .before .before .before .before .before .before .before .before .before .again .last .1 .1 .1 .1 .1 .1 .1 .0) 1 (tableAgain (lentKind (i .args .e .now)) (lentInputs (i .args .e .now)) (getD (i .args .tables .now) 1 0) (i .args .p) 1 (c .before .before .before .before .before .before .before .before .before .before .before .before .before .before .before .before .before .before .before .before .with-bit .result) (i .args .pairs .now)) (c .before .before .before .before .before .before .before .before .before .again2 .ensures .0) (put-long (0 ∷ 0 ∷ 0 ∷ 0 ∷ []) 0 (tableAgain (lentKind (i .args .e .now)) (lentInputs (i .args .e .now)) (getD (i .args .tables .now) 0 0) (i .args .p) 0 (c .before .before .before .before .before .before .before .before .before .before .before .before .before .before .before .before .before .before .before .before .with-bit .result) (i .args .pairs .now)) (c .before .before .before .before .before .before .before .before .before .before .before .before .before .before .again .ensures .0) refl)),
     )
 
 split-element-copy-out-again-5 : (t : ℕ) → split-lts.Need-element-copy-out-again-5 (split-claims t) (split-at t) split.Post
@@ -201,7 +197,7 @@ split-again-requires-5 t c κs =
     let i = c .before .before .before .before .before .before .before .before .before .before .before .before .before .before .before .before .before .before .before .before .before .before .before .before .before .before .before in
     let q = i .pre .1 in
     let half = split-half i 1 (omega arith) (c .before .before .before .before .before .before .before .before .before .before .before .before .before .before .before .before .before .before .before .before .before .before .before .before .with-bit2 .ensures) in
-    (q .0, q .2, omega arith, split-words i, half-cover half 0 (omega arith), c .before .before .before .before .again4 .ensures .2 .long, refl)
+    (q .0, q .2, omega arith, split-words i, half-cover half 0 (omega arith), c .before .before .before .before .again4 .ensures .2 .long)
 
 split-element-copy-out-again-6 : (t : ℕ) → split-lts.Need-element-copy-out-again-6 (split-claims t) (split-at t) split.Post
 split-element-copy-out-again-6 t c = search needs
@@ -217,7 +213,6 @@ split-again-requires-6 t c κs =
       split-words i,
       half-cover half 1 (omega arith),
       c .before .before .before .before .again5 .ensures .2 .long,
-      put-long (0 ∷ 0 ∷ 0 ∷ 0 ∷ []) 0 (tableAgain (lentKind (i .args .e .now)) (lentInputs (i .args .e .now)) (getD (i .args .tables .now) 0 0) (i .args .p) 0 (c .before .before .before .before .before .before .before .before .before .before .before .before .before .before .before .before .before .before .before .before .before .before .before .before .before .before .before .before .before .with-bit2 .result) (i .args .pairs .now)) (c .before .before .before .before .again5 .ensures .0) refl,
     )
 
 split-element-copy-out-again-7 : (t : ℕ) → split-lts.Need-element-copy-out-again-7 (split-claims t) (split-at t) split.Post
@@ -234,7 +229,6 @@ split-again-requires-7 t c κs =
       split-words i,
       half-cover half 2 (omega arith),
       c .before .before .before .before .again6 .ensures .2 .long,
-      put-long (c .before .before .before .before .before .before .before .before .before .again5 .last .1 .1 .1 .1 .1 .1 .1 .0) 1 (tableAgain (lentKind (i .args .e .now)) (lentInputs (i .args .e .now)) (getD (i .args .tables .now) 1 0) (i .args .p) 1 (c .before .before .before .before .before .before .before .before .before .before .before .before .before .before .before .before .before .before .before .before .before .before .before .before .before .before .before .before .before .before .before .before .before .before .with-bit2 .result) (i .args .pairs .now)) (c .before .before .before .before .again6 .ensures .0) (put-long (0 ∷ 0 ∷ 0 ∷ 0 ∷ []) 0 (tableAgain (lentKind (i .args .e .now)) (lentInputs (i .args .e .now)) (getD (i .args .tables .now) 0 0) (i .args .p) 0 (c .before .before .before .before .before .before .before .before .before .before .before .before .before .before .before .before .before .before .before .before .before .before .before .before .before .before .before .before .before .before .before .before .before .before .with-bit2 .result) (i .args .pairs .now)) (c .before .before .before .before .before .before .before .before .before .again5 .ensures .0) refl),
     )
 
 split-element-copy-out-again-8 : (t : ℕ) → split-lts.Need-element-copy-out-again-8 (split-claims t) (split-at t) split.Post
@@ -251,7 +245,6 @@ split-again-requires-8 t c κs =
       split-words i,
       half-cover half 3 (omega arith),
       c .before .before .before .before .again7 .ensures .2 .long,
-      put-long (c .before .before .before .before .before .before .before .before .before .again6 .last .1 .1 .1 .1 .1 .1 .1 .0) 2 (tableAgain (lentKind (i .args .e .now)) (lentInputs (i .args .e .now)) (getD (i .args .tables .now) 2 0) (i .args .p) 2 (c .before .before .before .before .before .before .before .before .before .before .before .before .before .before .before .before .before .before .before .before .before .before .before .before .before .before .before .before .before .before .before .before .before .before .before .before .before .before .before .with-bit2 .result) (i .args .pairs .now)) (c .before .before .before .before .again7 .ensures .0) (put-long (c .before .before .before .before .before .before .before .before .before .before .before .before .before .before .again5 .last .1 .1 .1 .1 .1 .1 .1 .0) 1 (tableAgain (lentKind (i .args .e .now)) (lentInputs (i .args .e .now)) (getD (i .args .tables .now) 1 0) (i .args .p) 1 (c .before .before .before .before .before .before .before .before .before .before .before .before .before .before .before .before .before .before .before .before .before .before .before .before .before .before .before .before .before .before .before .before .before .before .before .before .before .before .before .with-bit2 .result) (i .args .pairs .now)) (c .before .before .before .before .before .before .before .before .before .again6 .ensures .0) (put-long (0 ∷ 0 ∷ 0 ∷ 0 ∷ []) 0 (tableAgain (lentKind (i .args .e .now)) (lentInputs (i .args .e .now)) (getD (i .args .tables .now) 0 0) (i .args .p) 0 (c .before .before .before .before .before .before .before .before .before .before .before .before .before .before .before .before .before .before .before .before .before .before .before .before .before .before .before .before .before .before .before .before .before .before .before .before .before .before .before .with-bit2 .result) (i .args .pairs .now)) (c .before .before .before .before .before .before .before .before .before .before .before .before .before .before .again5 .ensures .0) refl)),
     )
 
 split-zero : {t : ℕ} (c : split-lts.After-again4 (split-claims t) (split-at t) split.Post)
