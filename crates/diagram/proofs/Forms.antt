@@ -28,10 +28,6 @@ pub form-most : (kind : BoardKind) → formOf kind .most ≡ mostInputs kind
 form-most Tree = refl
 form-most Sharing = refl
 
-pub most-inputs : (kind : BoardKind) → mostInputs kind ≤ maxInputs
-most-inputs Tree = omega arith
-most-inputs Sharing = omega arith
-
 -- the count of a board is fair to its drawings, also of more inputs than its sheets have, and the drawing that is written has as many cells
 unfoldable pub form-fair : (kind : BoardKind) (n : ℕ) → n ≤ maxInputs → FairCount (drawingOf kind) n (countOf kind n)
 form-fair Tree n small = tree-laws .fair n small

@@ -27,7 +27,8 @@ use Rattle.base.specs.Each.{Each}
 use Rattle.stage.specs.Read.{readSheet}
 use Rattle.nodes.specs.Counts.{countOf}
 use Rattle.diagram.specs.Forms.{formOf, drawingOf}
-use Rattle.diagram.proofs.Forms.{form-laws, form-most, most-inputs, form-fair}
+use Rattle.nodes.proofs.Counts.{most-inputs}
+use Rattle.diagram.proofs.Forms.{form-laws, form-most, form-fair}
 use Rattle.table.proofs.Drawings.{value-tables}
 use Rattle.relation.proofs.Decide.{value-cong}
 use Rattle.table.specs.Drawing.{got, drawnTable, drawnValue}

@@ -32,7 +32,8 @@ use Rattle.stage.specs.Read.{readSheet}
 use Rattle.stage.specs.Written.{stageDrawn, stageOf, firstOut, writtenOf}
 use Rattle.stage.proofs.Sheets.{written-back}
 use Rattle.diagram.specs.Forms.{formOf, drawingOf}
-use Rattle.diagram.proofs.Forms.{form-laws, form-most, most-inputs, form-fair, form-reduces}
+use Rattle.nodes.proofs.Counts.{most-inputs}
+use Rattle.diagram.proofs.Forms.{form-laws, form-most, form-fair, form-reduces}
 
 module _ (kind : BoardKind) (r : Relation) (passes : checkOf (mostInputs kind) r ≡ acceptedCase) (budget : ℕ) where
   fit : Fit (mostInputs kind) r

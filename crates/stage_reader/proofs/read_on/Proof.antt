@@ -13,7 +13,8 @@ use Rattle.nodes.specs.Counts.{mostInputs}
 use Rattle.stage.specs.Read.{wiresAt, closed}
 use Rattle.stage.specs.Reply.{replyToStage}
 use Rattle.diagram.specs.Forms.{formOf, drawingOf}
-use Rattle.diagram.proofs.Forms.{form-most, most-inputs}
+use Rattle.nodes.proofs.Counts.{most-inputs}
+use Rattle.diagram.proofs.Forms.{form-most}
 use Rattle.stage_reader.specs.Cases.{stageReply}
 use Rattle.stage_reader.proofs.Places.{head-refused, head-cut, head-out, head-goes}
 use Rattle.stage_reader.proofs.Replies.{reply-refused}
