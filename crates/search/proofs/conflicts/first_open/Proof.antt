@@ -135,46 +135,36 @@ side-by-side-requires-2 c κs = omega arith
 patterns-less : tie.Need-patterns-less Inv-loop μ-loop Inv-patterns μ-patterns
 patterns-less c = omega arith
 
+-- a pattern that is passed over is without conflict
+passed : (c : tie.Joined1 Inv-loop μ-loop Inv-patterns μ-patterns)
+    → let e = c .before .before .before .before .before .before .before .before .before .before .before .args .e .now in
+    let S = c .before .before .before .before .before .before .before .before .before .before .before .args .sets .now in
+    Settled (lentWires e) S (picks (boardOf (lentKind e) (lentInputs e) (lentWires e)) (ofSets S)) (c .before .before .before .before .before .patterns .p + 1)
+passed c =
+    let a = c .before .before .before .before .before .before .before .before .before .before .before .args in
+    let q = c .before .before .before .before .before .before .before .before .before .before .before .pre in
+    let l = c .before .before .before .before .before .patterns in
+    let few = c .before .before .before .before .before .before .before .before .patterns-of .ensures in
+    let lp : l .p < 2 ^ lentInputs (a .e .now) = omega (arith, c .before .before .before .before .patterns-test .taken, counted (inputs-told (a .e .now) (c .before .before .before .before .before .before .before .before .before .inputs-of .ensures)) (few .2) (inputs-few (q .0))) in
+    let side = l .inv .1 ∙ ap (sideBySide (a .tables .now)) (inside (l .p) (omega (arith, few .1, c .before .before .before .before .patterns-test .taken))) in
+    let here = allowed-test (lentKind (a .e .now)) (q .1) (q .2) (q .3) (l .p) side (c .before .before .value-in .ensures .0) (c .before .contains .ensures) in
+    below-more _ _ (l .inv .2)
+    (⊎-elim
+    (λ w. absurd (some-open (lentKind (a .e .now)) (q .1) (q .2) refl (l .p) lp (denied here (w .0 .taken))
+    (λ j i. w .1 .inv .1 j (omega (arith, w .2 .left, w .1 .inv .0, wires-told (a .e .now))))))
+    (λ w. granted here (w .0 .left))
+    (c .if1 .came))
+
 patterns-again : tie.Need-patterns-again Inv-loop μ-loop Inv-patterns μ-patterns
-patterns-again c =
-    let a = c .before .before .before .before .before .before .before .before .before .before .before .before .before .args in
-    let q = c .before .before .before .before .before .before .before .before .before .before .before .before .before .pre in
-    let l = c .before .before .before .before .before .before .before .patterns in
-    let count = counted (inputs-told (a .e .now) (c .before .before .before .before .before .before .before .before .before .before .before .inputs-of .ensures)) (c .before .before .before .before .before .before .before .before .before .before .patterns-of .ensures .2) (inputs-few (q .0)) in
-    let lp : l .p < 2 ^ lentInputs (a .e .now) = omega (arith, count) in
-    let side = l .inv .1 ∙ ap (sideBySide (a .tables .now)) (inside (l .p) (omega (arith, c .before .before .before .before .before .before .before .before .before .before .patterns-of .ensures .1))) in
-    let here = allowed-test (lentKind (a .e .now)) (q .1) (q .2) (q .3) (l .p) side (c .before .before .before .before .value-in .ensures .0) (c .before .before .before .contains .ensures) in (
-      omega arith,
-      c .side-by-side2 .ensures,
-      below-more _ _ (l .inv .2)
-          (⊎-elim
-          (λ w. absurd (some-open (lentKind (a .e .now)) (q .1) (q .2) refl (l .p) lp (denied here (w .0 .taken))
-          (λ j i. w .1 .inv .1 j (omega (arith, w .2 .left, w .1 .inv .0, wires-told (a .e .now))))))
-          (λ w. granted here (w .0 .left))
-          (c .before .before .if1 .came)),
-    )
+patterns-again c = (omega arith, c .side-by-side2 .ensures, passed (c .before .before))
 
 patterns-less-2 : tie.Need-patterns-less-2 Inv-loop μ-loop Inv-patterns μ-patterns
 patterns-less-2 c = omega arith
 
 patterns-again-2 : tie.Need-patterns-again-2 Inv-loop μ-loop Inv-patterns μ-patterns
 patterns-again-2 c =
-    let a = c .before .before .before .before .before .before .before .before .before .before .before .before .args in
-    let q = c .before .before .before .before .before .before .before .before .before .before .before .before .pre in
     let l = c .before .before .before .before .before .before .patterns in
-    let count = counted (inputs-told (a .e .now) (c .before .before .before .before .before .before .before .before .before .before .inputs-of .ensures)) (c .before .before .before .before .before .before .before .before .before .patterns-of .ensures .2) (inputs-few (q .0)) in
-    let lp : l .p < 2 ^ lentInputs (a .e .now) = omega (arith, count) in
-    let side = l .inv .1 ∙ ap (sideBySide (a .tables .now)) (inside (l .p) (omega (arith, c .before .before .before .before .before .before .before .before .before .patterns-of .ensures .1))) in
-    let here = allowed-test (lentKind (a .e .now)) (q .1) (q .2) (q .3) (l .p) side (c .before .before .before .value-in .ensures .0) (c .before .before .contains .ensures) in (
-      omega arith,
-      l .inv .1 ∙ ap (sideBySide (a .tables .now)) (same-section (l .p) (c .if3 .left)),
-      below-more _ _ (l .inv .2)
-          (⊎-elim
-          (λ w. absurd (some-open (lentKind (a .e .now)) (q .1) (q .2) refl (l .p) lp (denied here (w .0 .taken))
-          (λ j i. w .1 .inv .1 j (omega (arith, w .2 .left, w .1 .inv .0, wires-told (a .e .now))))))
-          (λ w. granted here (w .0 .left))
-          (c .before .if1 .came)),
-    )
+    (omega arith, l .inv .1 ∙ ap (sideBySide (c .before .before .before .before .before .before .before .before .before .before .before .before .args .tables .now)) (same-section (l .p) (c .if3 .left)), passed (c .before))
 
 returns : tie.Need-returns Inv-loop μ-loop Inv-patterns μ-patterns
 returns c =
