@@ -59,18 +59,23 @@ enum {
     DAGMETZI_NOT_ASCENDING = 11, /* a selector input that is not above its parent's; of a list: an entry names one whose input is not above its own */
     DAGMETZI_SHORT_BUFFER = 12,  /* the buffer is shorter than the stage or the copy; place: the length needed */
     DAGMETZI_SIZES_DIFFER = 13,  /* audit: the stage has another n or m than the sheet; place 0 */
-    DAGMETZI_TOO_WIDE = 15       /* sharing quote: the sheet has more than 4 inputs; place 0 */
+    DAGMETZI_TOO_WIDE = 15       /* sharing quote: the sheet has more than DAGMETZI_SHARED_INPUTS inputs; place 0 */
 };
 
-/* A relation is handed in with so many sets, one for each pattern of six inputs; a stage has at most so many wires. */
+/* A sheet has at most so many inputs, and what the board that shares selectors takes at most so many; a relation is handed
+ * in with so many sets, one for each pattern of the most inputs; a stage has at most so many wires. */
+#define DAGMETZI_INPUTS 6
+#define DAGMETZI_SHARED_INPUTS 4
 #define DAGMETZI_PATTERNS 64
 #define DAGMETZI_WIRES 4
 
 /* No stage of trees has more bytes than this: the buffer of a tree quote is never too short at this length. */
 #define DAGMETZI_LONGEST_STAGE 772
 
-/* No sharing quote writes more bytes. A stage handed to the sharing audit may be longer, up to 3,056 bytes. */
+/* No sharing quote writes more bytes. A stage handed to the sharing audit may be longer: none that it takes has more bytes
+ * than the second number. */
 #define DAGMETZI_LONGEST_SHARED 200
+#define DAGMETZI_LONGEST_LISTS 3056
 
 /* No clean copy of a sheet has more bytes than this. */
 #define DAGMETZI_LONGEST_COPY 596
@@ -85,19 +90,19 @@ uint32_t dagmetzi_quote(const uint8_t *sheet, size_t sheet_length, uint32_t budg
 uint32_t dagmetzi_audit(const uint8_t *sheet, size_t sheet_length, const uint8_t *stage, size_t stage_length,
                         uint64_t reply[DAGMETZI_NUMBERS]);
 
-/* The smallest stage of a relation of n inputs (1 to 6) and m wires (1 to 4), or the best found under the budget. Bit v
- * of sets[p] says that the wires may have value v on pattern p; the sets from 2 to the power n up are not read.
- * `tables` is given a table for each wire, and 0 past the last: bit p of a table is the wire on pattern p. A refusal
- * leaves it as it was. */
+/* The smallest stage of a relation of n inputs (1 to DAGMETZI_INPUTS) and m wires (1 to DAGMETZI_WIRES), or the best found
+ * under the budget. Bit v of sets[p] says that the wires may have value v on pattern p; the sets from 2 to the power n up
+ * are not read. `tables` is given a table for each wire, and 0 past the last: bit p of a table is the wire on pattern p. A
+ * refusal leaves it as it was. */
 uint32_t dagmetzi_search(uint8_t n, uint8_t m, const uint16_t sets[DAGMETZI_PATTERNS], uint32_t budget,
                          uint64_t tables[DAGMETZI_WIRES], uint64_t reply[DAGMETZI_NUMBERS]);
 
 /* The same three for the board where what one selector yields can drive more than one other of its wire: a wire is a list
  * of entries, a decision diagram, and each entry is a cell but for one that goes on to the constants 0 and 1, in this
  * order. The stage sheets are this board's own (docs/FORMATS.md), and the audit counts every other entry, also one that
- * repeats another or is never reached. This board has 4 inputs at most: a relation or a stage with more is refused with
- * 3, and the quote of a sheet with more with 15, after 10 and before 12. Other sizes, refusals and replies are as
- * above. */
+ * repeats another or is never reached. This board has DAGMETZI_SHARED_INPUTS inputs at most: a relation or a stage with
+ * more is refused with DAGMETZI_OUT_OF_RANGE, and the quote of a sheet with more with DAGMETZI_TOO_WIDE, after
+ * DAGMETZI_EMPTY and before DAGMETZI_SHORT_BUFFER. Other sizes, refusals and replies are as above. */
 uint32_t dagmetzi_quote_shared(const uint8_t *sheet, size_t sheet_length, uint32_t budget, uint8_t *buffer,
                                size_t buffer_length, uint64_t reply[DAGMETZI_NUMBERS]);
 

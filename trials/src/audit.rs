@@ -1,7 +1,8 @@
 //! Document 01, "Audit": does a stage's value lie in R(p) for every p? Of
 //! either board: the sheet is the same, and only the stage is read otherwise. A
 //! sheet that is too wide for the board (document 02, E5) is judged like any
-//! other; a stage for it is refused with 3, and a narrower one with 13.
+//! other. Its reader accepts no stage as wide as that sheet, and one that it
+//! accepts is 13.
 
 use crate::board::Board;
 use crate::refusal::{Refusal, SIZES_DIFFER};

@@ -3,8 +3,8 @@
 //! tells what a table costs and how a stage is written down. The search, the
 //! calls and the order of their tests are the same on both, and so is what E4
 //! says of both: an input that is soldered through costs nothing, and is written
-//! down as any other selector. With E5 the first has up to six lines; the other
-//! stays at four.
+//! down as any other selector. With E5 the first has up to six inputs, and the
+//! other up to four as before.
 
 use crate::buffer::put;
 use crate::cells::{self, full, Tables};

@@ -252,7 +252,7 @@ mod tests {
         assert_eq!(refusal(&[0x26]), (5, 0));
         assert_eq!(refusal(&[0x2F]), (5, 0));
         assert_eq!(refusal(&[0x20, 0, 1]), (3, 0));
-        // Its boards stay at four lines.
+        // Five inputs and more are too many for its boards.
         for n in 5..8 {
             assert_eq!(refusal(&[0x20, n]), (1, 0));
             assert_eq!(refusal(&[0x20, n, 1]), (3, 0));

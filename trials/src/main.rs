@@ -39,6 +39,7 @@ fn write(directory: &Path) -> ExitCode {
         case.record(&mut input);
         output.push_str(&reply.text);
     }
+    assert_eq!(checker.checked.wide.best_left, 0, "called best, and not held against every part");
     let written = std::fs::create_dir_all(directory)
         .and_then(|()| std::fs::write(directory.join("stdin"), input))
         .and_then(|()| std::fs::write(directory.join("stdout"), output));

@@ -73,7 +73,7 @@ impl Picker {
             (1..=3, _) => try_every_table(board, it),
             (4, _) => self.first_that_fits(board, it),
             (_, Board::Tree) => self.halving.pick(it),
-            (_, Board::Shared) => unreachable!("this board stays at four lines"),
+            (_, Board::Shared) => unreachable!("this board has at most four inputs"),
         };
         if self.found.len() == REMEMBERED {
             self.found.clear();

@@ -22,10 +22,10 @@ above-most most n m h =
     test-yes (sizesOut most n m) (or-left (countOut n most) (countOut m maxWires) (or-right (eqb n 0) (ltb most n) (lt→ltb most n h)))
 
 module _ (kind : BoardKind) (r : Relation) (budget : ℕ) where
-  -- a board that shares selectors has four lines: five inputs are 3 at place 0
-  pub too-wide : mostInputs kind < r .n → searchOf kind r budget ≡ refusedWith (refusedCase (refusalAt outOfRange 0))
+  -- more inputs than the board has lines are 3 at place 0
+  pub sizes-refused : mostInputs kind < r .n → searchOf kind r budget ≡ refusedWith (refusedCase (refusalAt outOfRange 0))
   unfolding searchOf searchTested
-  too-wide h = ap (searchTested kind r budget) (check-sizes (mostInputs kind) r (above-most (mostInputs kind) (r .n) (r .m) h))
+  sizes-refused h = ap (searchTested kind r budget) (check-sizes (mostInputs kind) r (above-most (mostInputs kind) (r .n) (r .m) h))
 
   -- trees go up to six lines
   pub fit-searched : Fit (mostInputs kind) r

@@ -41,7 +41,7 @@ pub extern "C" fn dagmetzi_search(
     boards::search_numbers(BoardKind::Tree, n, m, sets, budget, tables, reply)
 }
 
-// The same on the board that shares selectors (document 02, E2).
+// The same on the board that shares selectors (document 02, E2), which has at most four inputs: more are 3 (E5).
 #[no_mangle]
 pub extern "C" fn dagmetzi_search_shared(
     n: u8,
@@ -75,7 +75,7 @@ pub extern "C" fn dagmetzi_quote(
     boards::quote_numbers(BoardKind::Tree, sheet, budget, buffer, reply)
 }
 
-// The same on the board that shares selectors.
+// The same on the board that shares selectors, which has at most four inputs: a sheet with more is 15 (document 02, E5).
 #[no_mangle]
 pub extern "C" fn dagmetzi_quote_shared(
     sheet: &[u8],

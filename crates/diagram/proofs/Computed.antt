@@ -73,7 +73,7 @@ pub larger-counted : diagramCells (diagram (entry 1 2 1 ∷ entry 2 0 0 ∷ []) 
 unfolding drawing
 larger-counted = refl
 
--- document 02, E5: a sharing stage stays at four lines, reading and writing
+-- document 02, E5: five inputs are too many for a sharing stage, read or written
 pub five-refused : readDiagrams (0x20 ∷ 5 ∷ 1 ∷ 0x26 ∷ 0 ∷ 0 ∷ 0 ∷ 0x2F ∷ []) ≡ noStage (refusalAt outOfRange 0)
 unfolding reading
 five-refused = refl

@@ -85,8 +85,8 @@ module _ (fit : ℕ → ℕ → Bool) where
   best i js = least topPrice (ok i js) blockSpace
 
   -- constant 0 in the quarters of one class, constant 1 in those of another: the line of an input
-  abbrev pub lineFits : (zeros ones : List ℕ) → Bool
-  lineFits js ks = stands js 0 && stands ks onesQuarter
+  abbrev pub lineStands : (zeros ones : List ℕ) → Bool
+  lineStands js ks = stands js 0 && stands ks onesQuarter
 
 -- a quarter at the places of its class, with its own selector counted; more than any table has where there is none
 unfoldable pub shown : Option ℕ → ℕ → ℕ
@@ -98,7 +98,7 @@ classValue fit i js = shown (best fit i js) (places js)
 
 -- what a line gives: more than any table has where it may not stand
 abbrev pub lineValue : (ℕ → ℕ → Bool) → (zeros ones : List ℕ) → ℕ
-lineValue fit js ks = cond (lineFits fit js ks) (places ks * onesQuarter) noLine
+lineValue fit js ks = cond (lineStands fit js ks) (places ks * onesQuarter) noLine
 
 -- no other quarter is better at the same places
 pub shown-le : (fit : ℕ → Bool) (y m : ℕ) → y < blockSpace → T (fit y) → m ≤ allPlaces → shown (least topPrice fit blockSpace) m ≤ topPrice y * oneNode + y * m

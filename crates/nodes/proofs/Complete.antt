@@ -22,7 +22,7 @@ use Rattle.nodes.specs.Inner.Ways.{oneNode, placeOf, allPlaces, onesQuar
 use Rattle.nodes.proofs.Quarters.{below2, halvesOf, quartersOf, quarters-lt, quarters-suit, made-sum, made-again}
 use Rattle.nodes.proofs.Framed.{apart, halfApart, framePrice, frame-whole, uses, within, owns}
 use Rattle.nodes.proofs.OwnFrame.{ends, nodes-least}
-use Rattle.nodes.proofs.Classes.{members, stands, all-stands, ok, lineFits, classValue, lineValue, shown-le, value, places-most, exchange, sum-apart}
+use Rattle.nodes.proofs.Classes.{members, stands, all-stands, ok, lineStands, classValue, lineValue, shown-le, value, places-most, exchange, sum-apart}
 use Rattle.nodes.proofs.Sound.{fitIn}
 
 -- the first place that has what place i has
@@ -119,8 +119,8 @@ module _ (P : Proj) (t : ℕ) (lt : t < 2 ^ (2 ^ 4)) (fits : T (suits 4 P t)) wh
 
   pub line-le : (js ks : List ℕ) → T (stands fit js 0) → T (stands fit ks onesQuarter) → L js ks ≤ places ks * onesQuarter
   line-le js ks a b =
-      cond-has (λ x. x ≤ places ks * onesQuarter) (lineFits fit js ks) {x = places ks * onesQuarter} {y = noLine} (λ _. omega arith)
-      (λ n. absurd (T-not (lineFits fit js ks) n (and-intro (stands fit js 0) (stands fit ks onesQuarter) a b)))
+      cond-has (λ x. x ≤ places ks * onesQuarter) (lineStands fit js ks) {x = places ks * onesQuarter} {y = noLine} (λ _. omega arith)
+      (λ n. absurd (T-not (lineStands fit js ks) n (and-intro (stands fit js 0) (stands fit ks onesQuarter) a b)))
 
   -- where the inverse may occur as it does in the table
   module _ (i : Bool) (allowed : (j : ℕ) → j < 4 → T (within i (q t j))) where

@@ -19,7 +19,7 @@ use Rattle.nodes.specs.Inner.Tops.{topPrice}
 use Rattle.nodes.specs.Inner.Ways.{oneNode, allPlaces, onesQuarter, noLine, places, quarterBytes, classIn, lineIn, halvesAlike, firstLine, treeLike, threeAlike, acrossAlike, leastWay, wayOf}
 use Rattle.nodes.proofs.Quarters.{below4}
 use Rattle.nodes.proofs.Framed.{within}
-use Rattle.nodes.proofs.Classes.{stands, best, ok, lineFits, shown, shown-le, classValue, lineValue}
+use Rattle.nodes.proofs.Classes.{stands, best, ok, lineStands, shown, shown-le, classValue, lineValue}
 use Rattle.nodes.proofs.Restricted.{inFour}
 use Rattle.nodes.proofs.Sound.{fitIn, within-all}
 use Rattle.nodes.proofs.Linked.{bytes-alike, all-linked, all-halves}
@@ -134,7 +134,7 @@ module _ (fit : ℕ → ℕ → Bool) (third : (x : ℕ) → fit 2 x ≡ fit 0 x
   M = lineValue fit
 
   abbrev lined : ℕ → ℕ
-  lined v = cond (lineFits fit (0 ∷ []) (1 ∷ [])) v noLine
+  lined v = cond (lineStands fit (0 ∷ []) (1 ∷ [])) v noLine
 
   as-line : (js ks : List ℕ) → T (inFour js) → T (inFour ks) → Same js (0 ∷ []) → Same ks (1 ∷ []) → M js ks ≡ lined (places ks * onesQuarter)
   unfolding inFour
@@ -152,7 +152,7 @@ module _ (fit : ℕ → ℕ → Bool) (third : (x : ℕ) → fit 2 x ≡ fit 0 x
   -- at all places a line gives no more than at some with a selector, and no more than one that does not suit
   lined-le : (v : ℕ) → (lined 0xF0F0 ≤ oneNode + lined v) × (lined 0xF0F0 ≤ noLine)
   lined-le v =
-      cond-has₂ (λ x y. (x ≤ oneNode + y) × (x ≤ noLine)) (lineFits fit (0 ∷ []) (1 ∷ [])) {x = 0xF0F0} {y = noLine} {u = v} {v = noLine}
+      cond-has₂ (λ x y. (x ≤ oneNode + y) × (x ≤ noLine)) (lineStands fit (0 ∷ []) (1 ∷ [])) {x = 0xF0F0} {y = noLine} {u = v} {v = noLine}
       (λ _. (omega arith, omega arith)) (λ _. (omega arith, omega arith))
 
   not-tree : halvesAlike G M ≤ treeLike G M
@@ -174,7 +174,7 @@ module _ (fit : ℕ → ℕ → Bool) (third : (x : ℕ) → fit 2 x ≡ fit 0 x
   unfolding inFour stands topPrice low high
   not-first =
       let js : List ℕ = 3 ∷ 2 ∷ 1 ∷ 0 ∷ [] in
-      cond-has (λ x. halvesAlike G M ≤ x) (lineFits fit (1 ∷ 0 ∷ []) (3 ∷ 2 ∷ [])) {x = 0xFF00} {y = noLine}
+      cond-has (λ x. halvesAlike G M ≤ x) (lineStands fit (1 ∷ 0 ∷ []) (3 ∷ 2 ∷ [])) {x = 0xFF00} {y = noLine}
       (λ y.
       let z = and-left (stands fit (1 ∷ 0 ∷ []) 0) (stands fit (3 ∷ 2 ∷ []) onesQuarter) y in
       let u = subst T (sym (stands-same js (1 ∷ 0 ∷ []) tt tt (refl, refl, refl, refl) 0)) z in

@@ -20,7 +20,7 @@ use Rattle.nodes.specs.Inner.Ways.{oneNode, onesQuarter, noLine, four, p
 use Rattle.nodes.proofs.Listing.{counting}
 use Rattle.nodes.proofs.Quarters.{below4, below2, halvesOf, quartersOf, suits-quarters, made}
 use Rattle.nodes.proofs.Framed.{apart, halfApart, frame, frame-lined, uses, within}
-use Rattle.nodes.proofs.Classes.{isShape, shape-inside, shape-again, treeWay, tree-shape, members, stands, best, lineFits, shown, classValue, lineValue}
+use Rattle.nodes.proofs.Classes.{isShape, shape-inside, shape-again, treeWay, tree-shape, members, stands, best, lineStands, shown, classValue, lineValue}
 use Rattle.nodes.proofs.Sound.{fitIn, nodes-few, rank-least, sound, best-stands}
 
 -- which half a quarter is in, and the quarter of a line at its place
@@ -46,7 +46,7 @@ module _ (P : Proj) (t : ℕ) (pick : Least (nodes 4) (suits 4 P) (2 ^ (2 ^ 4)) 
       → rank (nodes 4) t ≤ rest + L js ks
   unfolding rank
   line-above js ks rest h =
-      cond-has (λ x. rank (nodes 4) t ≤ rest + x) (lineFits fit js ks) {x = places ks * onesQuarter} {y = noLine}
+      cond-has (λ x. rank (nodes 4) t ≤ rest + x) (lineStands fit js ks) {x = places ks * onesQuarter} {y = noLine}
       (λ y. h (and-left (stands fit js 0) (stands fit ks onesQuarter) y) (and-right (stands fit js 0) (stands fit ks onesQuarter) y))
       (λ _. omega (arith, nodes-few t (pick .0), pick .0))
 

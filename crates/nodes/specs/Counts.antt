@@ -10,7 +10,7 @@ abbrev pub countOf : BoardKind → ℕ → ℕ → ℕ
 countOf Tree n = cells n
 countOf Sharing n = nodes n
 
--- document 02, E5: trees go up to the limit of a sheet, and a board that shares selectors stays at four lines
+-- document 02, E5: trees have as many inputs as a sheet, and a board that shares selectors has a limit of its own
 abbrev pub mostInputs : BoardKind → ℕ
 mostInputs Tree = maxInputs
 mostInputs Sharing = maxSharedInputs

@@ -287,6 +287,7 @@ const TOPS: [u16; LENT] = [
     0x0000,
     0,
     0,
+    0,
 ];
 
 // A selector, in a rank.

@@ -1,11 +1,11 @@
 -- Laws of the number of a board.
-use Prim.Native.Nat.{ℕ, _+_, _*_, _<_, _≤_}
+use Prim.Native.Nat.{ℕ, _+_, _*_, _^_, _<_, _≤_}
 use mathlib.Core.Path.{_≡_, refl, sym, ap, ap₂, subst, _∙_}
 use mathlib.Core.Logic.{_⊎_, inl, inr, ⊎-elim}
 use mathlib.Core.List.{List}
 use native.Mathlib.Omega.{arith}
 use lib.Dec.{leb, leb→le, nleb→lt}
-use lib.ListN.{length, set, length-set}
+use lib.ListN.{length, getD, set, length-set}
 use lib.Seq.{getD-set-same, getD-set-other}
 use borrow.Author.Tests.{lt-ltb, le-ltb, le-leb, lt-leb}
 use Rattle.base.proofs.Tests.{decide}
@@ -14,7 +14,7 @@ use Rattle.nodes.specs.declared.BoardKind.the-variants.{Tree, Sharing}
 use Rattle.nodes.specs.Counts.{mostInputs}
 use Rattle.table.specs.Inner.Pairs.{blockSpace, narrowInputs}
 use Rattle.table.specs.Inner.Blocks.{entries, BestBlocks}
-use Rattle.parts.specs.Inner.Boards.{sharingMark, wideMark, boardNumber, kindIn, boardInputs, boardIn, lentKind, lentInputs, lentWires, LentFor, Lent}
+use Rattle.parts.specs.Inner.Boards.{sharingMark, wideMark, boardNumber, kindIn, boardInputs, boardIn, lentKind, lentInputs, lentWires, lentCount, LentFor, Lent}
 
 -- the kind by the marks
 below-kind : (board : ℕ) → board < sharingMark → kindIn board ≡ Tree
@@ -93,35 +93,46 @@ module _ (kind : BoardKind) (n : ℕ) (most : n ≤ mostInputs kind) (e : List �
   pub lent-inputs : lentInputs e ≡ n
   lent-inputs = ap boardInputs at ∙ number-inputs kind n most
 
-  pub lent : 1 ≤ n → LentFor kind e → Lent e
-  lent least t =
+  pub lent : 1 ≤ n → LentFor kind e → lentCount e ≡ 2 ^ n → Lent e
+  lent least t c =
       record {
         number = at ∙ sym (ap₂ boardNumber lent-kind lent-inputs);
         least = rw lent-inputs least;
         most = rw (lent-kind, lent-inputs) most;
         table = subst (λ k. LentFor k e) (sym lent-kind) t;
+        count = c ∙ ap (λ k. 2 ^ k) (sym lent-inputs);
       }
 
--- the number of the board and that of the wires are put behind the entries, and these stay
-module _ (e : List ℕ) (board wires : ℕ) where
+-- the numbers of the board, of the wires and of the patterns are put behind the entries, and these stay
+module _ (e : List ℕ) (board wires count : ℕ) where
   abbrev pub marked : List ℕ
-  marked = set (set e entries board) (entries + 1) wires
+  marked = set (set (set e entries board) (entries + 1) wires) (entries + 2) count
+
+  behind : (k : ℕ) → (k ≡ entries + 2 → ⊥) → getD marked k 0 ≡ getD (set (set e entries board) (entries + 1) wires) k 0
+  behind k ne = getD-set-other (set (set e entries board) (entries + 1) wires) (entries + 2) k count 0 ne
 
   pub marked-board : entries < length e → boardIn marked ≡ board
   unfolding boardIn
-  marked-board l = getD-set-other (set e entries board) (entries + 1) entries wires 0 (λ d. omega arith) ∙ getD-set-same e entries board 0 l
+  marked-board l =
+      behind entries (λ d. omega arith) ∙ getD-set-other (set e entries board) (entries + 1) entries wires 0 (λ d. omega arith) ∙ getD-set-same e entries board 0 l
 
   pub marked-wires : entries + 1 < length e → lentWires marked ≡ wires
   unfolding lentWires
-  marked-wires l = getD-set-same (set e entries board) (entries + 1) wires 0 (rw (length-set e entries board) l)
+  marked-wires l = behind (entries + 1) (λ d. omega arith) ∙ getD-set-same (set e entries board) (entries + 1) wires 0 (rw (length-set e entries board) l)
 
-  marked-blocks : (count : ℕ → ℕ) → BestBlocks count e → BestBlocks count marked
-  marked-blocks count b =
+  pub marked-count : entries + 2 < length e → lentCount marked ≡ count
+  unfolding lentCount
+  marked-count l =
+      getD-set-same (set (set e entries board) (entries + 1) wires) (entries + 2) count 0 (rw (length-set (set e entries board) (entries + 1) wires, length-set e entries board) l)
+
+  marked-blocks : (key : ℕ → ℕ) → BestBlocks key e → BestBlocks key marked
+  marked-blocks key b =
       record {
         entry = λ zeros ones lz lo.
             let k = zeros * blockSpace + ones in
             let l : k < entries = omega arith in
-            getD-set-other (set e entries board) (entries + 1) k wires 0 (λ d. omega arith) ∙ getD-set-other e entries k board 0 (λ d. omega arith) ∙ b .entry zeros ones lz lo;
+            behind k (λ d. omega arith) ∙ getD-set-other (set e entries board) (entries + 1) k wires 0 (λ d. omega arith) ∙ getD-set-other e entries k board 0 (λ d. omega arith)
+            ∙ b .entry zeros ones lz lo;
       }
 
   pub marked-entries : (kind : BoardKind) → LentFor kind e → LentFor kind marked

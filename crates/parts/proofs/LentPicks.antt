@@ -1,44 +1,33 @@
 -- Picks on the board whose table is lent: what the picks of its kind ask, and what they tell.
-use Prim.Native.Nat.{ℕ, zero, suc, _+_, _*_, _-_, _/_, _%_, _^_, _<_, _≤_}
-use mathlib.Core.Path.{_≡_, refl, sym, ap, ap₂, subst, _∙_}
+use Prim.Native.Nat.{ℕ, _+_, _*_, _-_, _/_, _%_, _^_, _<_, _≤_}
+use mathlib.Core.Path.{_≡_, sym, ap, ap₂, subst, _∙_}
 use mathlib.Core.Logic.{⊎-elim}
-use mathlib.Core.Bool.{true}
 use mathlib.Core.List.{List}
 use native.Mathlib.Omega.{arith}
 use native.Mathlib.Nat.{le-trans, lt-of-lt-of-le}
-use lib.Arith.{digits-div, digits-mod}
-use lib.Dec.{ltb, ltb→lt, nltb→le, T-not, eqb, eqb→eq}
-use lib.ListN.{length, getD, set}
+use lib.Dec.{ltb, ltb→lt, nltb→le}
+use lib.ListN.{getD}
 use lib.Pow.{pow-mono}
-use lib.Seq.{getD-set-same, getD-set-other}
-use Rattle.base.proofs.Tests.{decide, eq-test}
-use Rattle.sheet.specs.Limits.{maxInputs, maxSharedInputs, maxWires, maxPatterns}
-use Rattle.table.specs.Bits.{bit, any, ofBits}
+use Rattle.base.proofs.Tests.{decide}
+use Rattle.sheet.specs.Limits.{maxInputs, maxSharedInputs}
 use Rattle.table.specs.Cells.{cells}
 use Rattle.table.specs.Pick.{suits, leastOf}
 use Rattle.table.specs.Inner.Ranks.{masked, pickOf, rank, narrowSpace}
 use Rattle.table.specs.Inner.Blocks.{Blocks, Covered}
 use Rattle.table.specs.Inner.Pairs.{narrowInputs, narrowPatterns, zerosIn, onesIn}
 use Rattle.table.specs.Inner.Wide.{fourMasks}
-use Rattle.table.proofs.Bits.{sum-cong}
 use Rattle.table.proofs.Least.{Least, least-is}
 use Rattle.table.proofs.Masks.{pick-some}
-use Rattle.table.proofs.Pairs.{zeros-lt, ones-lt}
+use Rattle.relation.specs.Inner.Side.{section}
 use Rattle.nodes.specs.Inner.Tops.{Tops}
 use Rattle.nodes.specs.declared.BoardKind.{BoardKind}
 use Rattle.nodes.specs.declared.BoardKind.the-variants.{Tree, Sharing}
 use Rattle.nodes.specs.Counts.{countOf, mostInputs}
 use Rattle.nodes.proofs.Counts.{most-inputs}
-use Rattle.relation.specs.Tests.{occurs}
-use Rattle.relation.specs.Inner.Members.{member}
-use Rattle.relation.specs.Inner.Masks.{cut}
 use Rattle.parts.specs.Inner.Boards.{sharingMark, wideMark, boardNumber, boardIn, lentKind, lentInputs, LentFor, Lent}
-use Rattle.parts.specs.Inner.Pairs.{cutPair}
-use Rattle.parts.specs.Inner.Words.{wordCount, wordPlace, wordAt, zerosOf, onesOf, cutWords, Covers}
-use Rattle.parts.specs.Inner.Picks.{pickBetween, pickOn, cellsOn}
+use Rattle.parts.specs.Inner.Words.{wordPlace, zerosOf, onesOf, Covers}
+use Rattle.parts.specs.Inner.Picks.{pickBetween, pickOn, cellsOn, sideRank}
 use Rattle.parts.proofs.BoardNumbers.{number-wide, number-shares, number-narrow, number-small}
-use Rattle.parts.proofs.PairBits.{paired-zeros, paired-ones}
-use Rattle.parts.proofs.WordSums.{place-lt, pattern-section}
 use Rattle.parts.proofs.WordMasks.{narrow-zeros, narrow-ones, wide-zeros, wide-ones}
 
 -- a pick between masks that are covered is a table of its inputs
@@ -150,106 +139,41 @@ module _ (e : List ℕ) (lent : Lent e) where
         pub wide-cells : {t k : ℕ} → t ≡ pickOn e words j → k ≡ cells (board - wideMark) t → k ≡ cellsOn e words j
         wide-cells et ek = ek ∙ ap (cells (board - wideMark)) et ∙ ap₂ (λ kind n. countOf kind n (pickOn e words j)) (sym (told-wide .0)) wide-inputs
 
--- the word that is cut, on a board whose masks stand in one word
-module _ (e : List ℕ) (lent : Lent e) (words : List ℕ) (p w j x : ℕ) (few : lentInputs e ≤ narrowInputs) (lp : p < 2 ^ lentInputs e) (lj : j < maxWires)
-    (long : length words ≡ wordCount) (h : Covers (lentInputs e) (cutWords words p w j) j) (ex : x ≡ cutPair (wordAt words p j) (p % narrowPatterns) w j) where
-  first-section : p / narrowPatterns ≡ 0
-  first-section = let l : p < narrowPatterns = lt-of-lt-of-le lp (pow-mono {i = lentInputs e} {j = narrowInputs} few) in omega arith
+        -- its cells with the table on the first section
+        pub wide-side : {t k : ℕ} → t ≡ pickOn e words j → k ≡ cellsOn e words j → k * narrowSpace + t % narrowSpace ≡ sideRank e words j
+        unfolding section
+        wide-side et ek =
+            let first : pickOn e words j / 2 ^ (narrowPatterns * 0) ≡ pickOn e words j = omega arith in
+            ap₂ (λ k t. k * narrowSpace + t % narrowSpace) ek (et ∙ sym first)
 
-  first-word : getD (cutWords words p w j) (wordPlace 0 j) 0 ≡ x
-  unfolding cutWords
-  first-word =
-      let y = cutPair (wordAt words p j) (p % narrowPatterns) w j in
-      let q = p / narrowPatterns in
-      ap (λ s. getD (set words (wordPlace q j) y) (wordPlace s j) 0) (sym first-section)
-      ∙ getD-set-same words (wordPlace q j) y 0 (rw (long, first-section) (place-lt 0 j (omega arith) lj)) ∙ sym ex
+-- a board whose masks stand in one word
+module _ (e : List ℕ) (lent : Lent e) (words : List ℕ) (j x : ℕ) (few : lentInputs e ≤ narrowInputs) (h : Covers (lentInputs e) words j)
+    (ex : x ≡ getD words (wordPlace 0 j) 0) where
+  one-zeros : zerosIn x ≡ zerosOf words j
+  one-zeros = ap zerosIn ex ∙ sym (narrow-zeros words j (lentInputs e) few (h .zeros-fit))
 
-  cut-zeros : zerosIn x ≡ zerosOf (cutWords words p w j) j
-  cut-zeros = ap zerosIn (sym first-word) ∙ sym (narrow-zeros (cutWords words p w j) j (lentInputs e) few (h .zeros-fit))
-
-  cut-ones : onesIn x ≡ onesOf (cutWords words p w j) j
-  cut-ones = ap onesIn (sym first-word) ∙ sym (narrow-ones (cutWords words p w j) j (lentInputs e) few (h .ones-fit))
+  one-ones : onesIn x ≡ onesOf words j
+  one-ones = ap onesIn ex ∙ sym (narrow-ones words j (lentInputs e) few (h .ones-fit))
 
   pub one-word : OneWord (lentInputs e) x
-  one-word = rw (cut-zeros, cut-ones) (h .zeros-fit, h .ones-fit, h .covered)
+  one-word = rw (one-zeros, one-ones) (h .zeros-fit, h .ones-fit, h .covered)
 
   abbrev found : ℕ
   found = pickOf (countOf (lentKind e) (lentInputs e)) (lentInputs e) (zerosIn x) (onesIn x)
 
-  found-is : found ≡ pickOn e (cutWords words p w j) j
+  found-is : found ≡ pickOn e words j
   unfolding pickBetween
-  found-is = ap₂ (pickOf (countOf (lentKind e) (lentInputs e)) (lentInputs e)) cut-zeros cut-ones
+  found-is = ap₂ (pickOf (countOf (lentKind e) (lentInputs e)) (lentInputs e)) one-zeros one-ones
 
   small : found < narrowSpace
   small =
       lt-of-lt-of-le (pick-lt (countOf (lentKind e) (lentInputs e)) (lentInputs e) (zerosIn x) (onesIn x) (one-word .2))
       (pow-mono {i = 2 ^ lentInputs e} {j = narrowPatterns} (pow-mono {i = lentInputs e} {j = narrowInputs} few))
 
-  -- its rank taken apart
-  pub rank-cells : {r : ℕ} → r ≡ rankOn (lentKind e) (lentInputs e) x → r / narrowSpace ≡ cellsOn e (cutWords words p w j) j
-  unfolding rank
-  rank-cells er =
-      ap (λ y. y / narrowSpace) er ∙ digits-div (countOf (lentKind e) (lentInputs e) found) small ∙ ap (countOf (lentKind e) (lentInputs e)) found-is
-
-  pub rank-table : {r : ℕ} → r ≡ rankOn (lentKind e) (lentInputs e) x → r % narrowSpace ≡ pickOn e (cutWords words p w j) j
-  unfolding rank
-  rank-table er = ap (λ y. y % narrowSpace) er ∙ digits-mod (countOf (lentKind e) (lentInputs e) found) small ∙ found-is
-
--- a set of all values holds no wire: it cuts nothing
-abbrev pub allValues : ℕ
-allValues = 0xFFFF
-
-all-occur : (j : ℕ) → j < maxWires → (occurs maxWires (member allValues) j 0 ≡ true) × (occurs maxWires (member allValues) j 1 ≡ true)
-unfolding occurs any member bit
-all-occur zero l = (refl, refl)
-all-occur (suc zero) l = (refl, refl)
-all-occur (suc (suc zero)) l = (refl, refl)
-all-occur (suc (suc (suc zero))) l = (refl, refl)
-all-occur (suc (suc (suc (suc j)))) l = absurd (omega arith)
-
-module _ (words : List ℕ) (p j : ℕ) (lp : p < maxPatterns) (lj : j < maxWires) (long : length words ≡ wordCount) where
-  abbrev kept : List ℕ
-  kept = cutWords words p allValues j
-
-  pair-zeros : (x r : ℕ) → zerosIn (cutPair x r allValues j) ≡ zerosIn x
-  unfolding cutPair cut
-  pair-zeros x r = rw (all-occur j lj .0, all-occur j lj .1) (paired-zeros (zerosIn x) (onesIn x) (zeros-lt x))
-
-  pair-ones : (x r : ℕ) → onesIn (cutPair x r allValues j) ≡ onesIn x
-  unfolding cutPair cut
-  pair-ones x r = rw (all-occur j lj .0, all-occur j lj .1) (paired-ones (zerosIn x) (onesIn x) (ones-lt x))
-
-  -- each word has what it had
-  same : (f : ℕ → ℕ) → ((x r : ℕ) → f (cutPair x r allValues j) ≡ f x) → (i : ℕ) → f (wordAt kept i j) ≡ f (wordAt words i j)
-  unfolding cutWords
-  same f h i =
-      let k = wordPlace (p / narrowPatterns) j in
-      let y = cutPair (wordAt words p j) (p % narrowPatterns) allValues j in
-      ⊎-elim
-      (λ t.
-      let e = eqb→eq (wordPlace (i / narrowPatterns) j) k t in
-      ap (λ s. f (getD (set words k y) s 0)) e
-      ∙ ap f (getD-set-same words k y 0 (rw long (place-lt (p / narrowPatterns) j (pattern-section p lp) lj))) ∙ h (wordAt words p j) (p % narrowPatterns)
-      ∙ ap (λ s. f (getD words s 0)) (sym e))
-      (λ t. ap f (getD-set-other words k (wordPlace (i / narrowPatterns) j) y 0 (λ e. T-not (eqb (wordPlace (i / narrowPatterns) j) k) t (eq-test e))))
-      (decide (eqb (wordPlace (i / narrowPatterns) j) k))
-
-  kept-zeros : zerosOf kept j ≡ zerosOf words j
-  unfolding zerosOf ofBits
-  kept-zeros =
-      sum-cong maxPatterns (λ i. bit (zerosIn (wordAt kept i j)) (i % narrowPatterns) * 2 ^ i) (λ i. bit (zerosIn (wordAt words i j)) (i % narrowPatterns) * 2 ^ i)
-      (λ i _. ap (λ y. bit y (i % narrowPatterns) * 2 ^ i) (same zerosIn pair-zeros i))
-
-  kept-ones : onesOf kept j ≡ onesOf words j
-  unfolding onesOf ofBits
-  kept-ones =
-      sum-cong maxPatterns (λ i. bit (onesIn (wordAt kept i j)) (i % narrowPatterns) * 2 ^ i) (λ i. bit (onesIn (wordAt words i j)) (i % narrowPatterns) * 2 ^ i)
-      (λ i _. ap (λ y. bit y (i % narrowPatterns) * 2 ^ i) (same onesIn pair-ones i))
-
-  pub kept-cover : (n : ℕ) → Covers n words j → Covers n kept j
-  kept-cover n h =
-      record { zeros-fit = rw kept-zeros (h .zeros-fit); ones-fit = rw kept-ones (h .ones-fit); covered = rw (kept-zeros, kept-ones) (h .covered) }
-
-  pub kept-pick : (kind : BoardKind) (n : ℕ) → pickBetween kind n kept j ≡ pickBetween kind n words j
-  unfolding pickBetween
-  kept-pick kind n = ap₂ (pickOf (countOf kind n) n) kept-zeros kept-ones
+  -- its rank has the whole table, which is the first section
+  pub rank-side : {r : ℕ} → r ≡ rankOn (lentKind e) (lentInputs e) x → r ≡ sideRank e words j
+  unfolding rank section
+  rank-side er =
+      let whole : found / 2 ^ (narrowPatterns * 0) % narrowSpace ≡ found = omega (arith, small) in
+      er ∙ ap (λ y. countOf (lentKind e) (lentInputs e) found * narrowSpace + y) (sym whole)
+      ∙ ap (λ y. countOf (lentKind e) (lentInputs e) y * narrowSpace + y / 2 ^ (narrowPatterns * 0) % narrowSpace) found-is

@@ -1,13 +1,14 @@
 pub mod BoardNumbers
-pub mod Differences
+pub mod Lending
 pub mod PairBits
 pub mod PairCuts
 pub mod WordSums
 pub mod CellBytes
-pub mod WordRows
 pub mod WordMasks
 pub mod WordCuts
+pub mod MaskRows
+pub mod RowCuts
+pub mod RestPut
 pub mod Keeping
 pub mod Narrowing
 pub mod LentPicks
-pub mod StateRoom

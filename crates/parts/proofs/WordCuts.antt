@@ -6,8 +6,7 @@ use mathlib.Core.Bool.{Bool}
 use mathlib.Core.List.{List}
 use native.Mathlib.Omega.{arith}
 use lib.Dec.{T-not, eqb, eqb→eq}
-use lib.ListN.{length, getD, set}
-use lib.Seq.{getD-set-same, getD-set-other}
+use lib.ListN.{length, getD}
 use Rattle.base.proofs.Tests.{decide, eq-test}
 use Rattle.sheet.specs.Limits.{maxWires, maxPatterns, maxValues}
 use Rattle.table.specs.Bits.{bit, isOne}
@@ -21,10 +20,11 @@ use Rattle.relation.specs.Inner.Masks.{maskOf, cut}
 use Rattle.relation.proofs.Masks.{mask-narrowed}
 use Rattle.relation.proofs.Side.{section-lt, section-bit}
 use Rattle.parts.specs.Inner.Pairs.{cutPair}
-use Rattle.parts.specs.Inner.Words.{sections, wordPlace, wordOf, pairsOf, wordAt, cutWords}
+use Rattle.table.specs.Inner.Wide.{sections}
+use Rattle.parts.specs.Inner.Words.{wordOf}
 use Rattle.parts.proofs.PairCuts.{left, left-at, left-off, cut-bit, cut-lt}
-use Rattle.parts.proofs.WordSums.{place-lt, pattern-section}
-use Rattle.parts.proofs.WordMasks.{Tells, mask-small, word-zeros, word-ones, pairs-long, pairs-tell}
+use Rattle.parts.proofs.WordSums.{pattern-section}
+use Rattle.parts.proofs.WordMasks.{mask-small, word-zeros, word-ones}
 
 -- the sections of a mask that lost a pattern
 module _ (x p : ℕ) (d : Bool) (lx : x < 2 ^ maxPatterns) (lp : p < maxPatterns) where
@@ -101,24 +101,3 @@ module _ (sets : List ℕ) (p j b i : ℕ) (lp : p < maxPatterns) (long : length
       let side : (c : ℕ) → section (maskOf (narrowed sets p j b) i c) q ≡ section (maskOf sets i c) q =
       λ c. ap (λ x. section x q) (mask-narrowed sets p j b i c lp long small) ∙ section-kept (maskOf sets i c) p (there c) (mask-small sets i c) lp q lq ne in
       ap₂ paired (side 0) (side 1)
-
-  -- a wire's words cut tell its masks in the narrowed part
-  pub cut-tells : i < maxWires → Tells (cutWords (pairsOf sets) p held i) (narrowed sets p j b) i
-  unfolding cutWords
-  cut-tells li q lq =
-      let s = p / narrowPatterns in
-      let k = wordPlace s i in
-      let l = pairsOf sets in
-      let x = cutPair (wordAt l p i) (p % narrowPatterns) held i in
-      ⊎-elim
-      (λ t.
-      let e = eqb→eq q s t in
-      ap (λ y. getD (set l k x) (wordPlace y i) 0) e ∙ getD-set-same l k x 0 (rw (pairs-long sets) (place-lt s i (pattern-section p lp) li))
-      ∙ ap (λ y. cutPair y (p % narrowPatterns) held i) (pairs-tell sets i li s (pattern-section p lp)) ∙ sym word-cut ∙ ap (λ y. wordOf (narrowed sets p j b) y i) (sym e))
-      (λ t.
-      let ne : q ≡ s → ⊥ = λ e. T-not (eqb q s) t (eq-test e) in
-      getD-set-other l k (wordPlace q i) x 0 (apart ne) ∙ pairs-tell sets i li q lq ∙ sym (word-kept q lq ne))
-      (decide (eqb q s))
-    where
-      apart : (q ≡ p / narrowPatterns → ⊥) → wordPlace q i ≡ wordPlace (p / narrowPatterns) i → ⊥
-      apart ne e = ne (omega arith)

@@ -17,7 +17,7 @@ use Rattle.nodes.specs.Counts.{countOf}
 use Rattle.table.specs.Bits.{bit, ofBits}
 use Rattle.table.specs.Inner.Ranks.{pickOf, narrowSpace}
 use Rattle.table.specs.Inner.Pairs.{narrowInputs, narrowPatterns, zerosIn, onesIn}
-use Rattle.table.specs.Inner.Wide.{fiveSpace, twoMasks, fourMasks}
+use Rattle.table.specs.Inner.Wide.{sections, fiveSpace, twoMasks, fourMasks}
 use Rattle.table.proofs.Bits.{bit-lt, bit-mod, bit-div, bit-ext, sum-cong, bit-ofBits, ofBits-lt, ofBits-bit, tabulate-at, tabulate-length}
 use Rattle.table.proofs.Pairs.{zeros-lt, ones-lt}
 use Rattle.table.proofs.SideBySide.{two-lt}
@@ -25,7 +25,7 @@ use Rattle.relation.specs.Inner.Side.{section}
 use Rattle.relation.specs.Inner.Masks.{maskOf}
 use Rattle.relation.proofs.Masks.{found-lt}
 use Rattle.relation.proofs.Side.{section-lt, section-bit}
-use Rattle.parts.specs.Inner.Words.{sections, wordCount, wordPlace, wordOf, pairsOf, wordsFor, wordAt, zerosOf, onesOf}
+use Rattle.parts.specs.Inner.Words.{wordCount, wordPlace, wordOf, pairsOf, wordsFor, wordAt, zerosOf, onesOf}
 use Rattle.parts.specs.Inner.Picks.{pickBetween, tableOf}
 use Rattle.parts.proofs.PairBits.{paired-zeros, paired-ones}
 use Rattle.parts.proofs.WordSums.{place-section, place-wire, place-lt, pattern-section}
@@ -87,10 +87,6 @@ pairs-word sets i l = tabulate-at wordCount (λ i. wordOf sets (i / maxWires) (i
 
 pub pairs-tell : (sets : List ℕ) (j : ℕ) → j < maxWires → Tells (pairsOf sets) sets j
 pairs-tell sets j lj q lq = pairs-word sets (wordPlace q j) (place-lt q j lq lj) ∙ ap₂ (wordOf sets) (place-section q j lj) (place-wire q j lj)
-
-pub alone-long : (sets : List ℕ) (j : ℕ) → length (wordsFor sets j) ≡ wordCount
-unfolding wordsFor
-alone-long sets j = tabulate-length wordCount (λ i. cond (eqb (i % maxWires) j) (wordOf sets (i / maxWires) j) 0)
 
 pub alone-tells : (sets : List ℕ) (j : ℕ) → j < maxWires → Tells (wordsFor sets j) sets j
 unfolding wordsFor

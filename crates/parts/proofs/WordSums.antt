@@ -25,7 +25,8 @@ use Rattle.relation.proofs.Masks.{none-occurs, mask-bit}
 use Rattle.relation.proofs.Members.{member-sets}
 use Rattle.relation.proofs.Side.{section-bit}
 use Rattle.parts.specs.Inner.Pairs.{bothSides, sidesOf}
-use Rattle.parts.specs.Inner.Words.{sections, wordCount, wordPlace, wordOf, pairsOf, wordsFor, wordAt}
+use Rattle.table.specs.Inner.Wide.{sections}
+use Rattle.parts.specs.Inner.Words.{wordCount, wordPlace, wordOf, pairsOf, wordsFor, wordAt}
 
 -- what a place says
 pub place-section : (q j : ℕ) → j < maxWires → wordPlace q j / maxWires ≡ q

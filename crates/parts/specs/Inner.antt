@@ -2,8 +2,8 @@
 pub mod Boards
 pub mod Pairs
 pub mod Words
+pub mod Masks
 pub mod Cells
 pub mod Picks
 pub mod Parts
 pub mod States
-pub mod Changes

@@ -1,12 +1,20 @@
 // A board and its inputs as one number: the search looks at its board by it alone, but for its entry, where the table is lent that picks on the board are
 // made from.
 use nodes::BoardKind;
+use table::picks::ENTRIES;
 use table::picks::NARROW_INPUTS;
 ghost use mathlib.Core.Path.{_≡_};
 ghost use Prim.Native.Nat.{_≤_};
 ghost use lib.Dec.{leb};
 ghost use Rattle.nodes.specs.Counts.{mostInputs};
 ghost use Rattle.parts.specs.Inner.Boards.{wideMark, boardNumber, boardInputs};
+
+// Behind the entries of a table that is lent for picks stand the number of the board, that of the wires and that of the patterns.
+pub const BOARD_PLACE: usize = ENTRIES;
+
+pub const WIRES_PLACE: usize = BOARD_PLACE + 1;
+
+pub const COUNT_PLACE: usize = WIRES_PLACE + 1;
 
 // What marks the board that shares: above the inputs of every board.
 pub const SHARING: u8 = 8;

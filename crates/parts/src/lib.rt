@@ -4,6 +4,7 @@
 // Inner functions: the search meets what they require (`search_sets`, the first answer and `split`).
 pub mod boards; // a board and its inputs as one number
 pub mod pairs; // the two masks of a wire, in one number for each section of patterns
+pub mod masks; // these numbers in halves, and the rows of all wires' halves
 pub mod cells; // the cells of all wires in one number
+pub mod states; // what stands where in the state of the search
 pub mod picks; // the picks between the masks
-pub mod changes; // where the tables of two parts differ

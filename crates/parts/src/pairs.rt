@@ -6,21 +6,21 @@ use relation::values::has;
 use sheet::Sheet;
 use sheet::limits::patterns_of;
 use table::picks::BLOCK_PATTERNS;
-use table::picks::NARROW_PATTERNS;
+use table::wide::SECTION;
+use table::wide::SECTIONS;
 ghost use mathlib.Core.Path.{_≡_};
 ghost use Prim.Native.Nat.{_+_, _*_, _/_, _%_, _<_, _≤_, _^_};
-ghost use lib.ListN.{length, set as put};
+ghost use lib.ListN.{set as put};
 ghost use Rattle.sheet.specs.Limits.{maxInputs, maxWires, maxPatterns};
 ghost use Rattle.table.specs.Inner.Pairs.{narrowPatterns, blockPatterns, pairBits, seat};
 ghost use Rattle.table.specs.Bits.{isOne};
 ghost use Rattle.relation.specs.Inner.Narrowed.{NonePast};
-ghost use Rattle.parts.specs.Inner.Pairs.{bothSides, bitsOf, sidesOf, lostOf, cutPair, cutPairs};
-ghost use Rattle.parts.specs.Inner.Words.{sections, wordCount, wordPlace, wordAt, pairsOf, wordsFor, rowOf, withRow};
+ghost use Rattle.parts.specs.Inner.Pairs.{bothSides, bitsOf, sidesOf};
+ghost use Rattle.table.specs.Inner.Wide.{sections};
+ghost use Rattle.parts.specs.Inner.Words.{wordCount, wordPlace, wordAt, pairsOf, wordsFor};
 
-// The patterns of a section, and the words of all sections.
-pub const SECTION: u8 = NARROW_PATTERNS as u8;
-
-pub const WORDS: usize = Sheet::MAX_PATTERNS / NARROW_PATTERNS * Sheet::WIRES;
+// The words of all sections.
+pub const WORDS: usize = SECTIONS as usize * Sheet::WIRES;
 
 // The patterns of a block have a bit each in either half of a byte.
 const BLOCK: u8 = BLOCK_PATTERNS;
@@ -51,16 +51,8 @@ fn sides(set: u16, j: u8) -> u32
     bits_of(has(set, j, 1), has(set, j, 0))
 }
 
-// What does not occur of it.
-fn lost(set: u16, j: u8) -> u32
-    requires { ⌜ j < maxWires ⌝ }
-    ensures { λ r. ⌜ (r ≡ lostOf set j) × (r ≤ bothSides) ⌝ }
-{
-    bits_of(!has(set, j, 1), !has(set, j, 0))
-}
-
 // Where the bits of a section's pattern p stand: the lower of them.
-fn seat_of(p: u8) -> u8
+pub fn seat_of(p: u8) -> u8
     requires { ⌜ p < narrowPatterns ⌝ }
     ensures { λ r. ⌜ (r ≡ seat p) × (r + blockPatterns < pairBits) ⌝ }
 {
@@ -120,46 +112,4 @@ pub fn pairs_of(n: u8, sets: &[u16; Sheet::MAX_PATTERNS]) -> [u32; WORDS]
         put_in(&mut words, p, set, 3);
     }
     words
-}
-
-// The words of all wires on section q.
-pub fn row_of(words: &[u32; WORDS], q: u8) -> [u32; Sheet::WIRES]
-    requires { ⌜ q < sections ⌝ }
-    ensures { λ r. ⌜ r ≡ rowOf (now (words .entry)) q ⌝ }
-{
-    let at = place_of(q, 0);
-    [words[at], words[at + 1], words[at + 2], words[at + 3]]
-}
-
-// The words with those of section q replaced.
-pub fn put_row(words: &mut [u32; WORDS], q: u8, row: [u32; Sheet::WIRES])
-    requires { ⌜ (q < sections) × (length (now words) ≡ wordCount) ⌝ }
-    ensures { λ _. ⌜ now (words .exit) ≡ withRow (now (words .entry)) q row ⌝ }
-{
-    let at = place_of(q, 0);
-    words[at] = row[0];
-    words[at + 1] = row[1];
-    words[at + 2] = row[2];
-    words[at + 3] = row[3];
-}
-
-// A pair once pattern p of its section has a set: the pattern goes from the masks of what no longer occurs.
-pub fn cut_pair(x: u32, p: u8, set: u16, j: u8) -> u32
-    requires { ⌜ (p < narrowPatterns) × (j < maxWires) ⌝ }
-    ensures { λ r. ⌜ r ≡ cutPair x p set j ⌝ }
-{
-    x - (x & (lost(set, j) << seat_of(p)))
-}
-
-// The same of all wires' pairs on the section.
-pub fn cut_pairs(row: [u32; Sheet::WIRES], p: u8, set: u16) -> [u32; Sheet::WIRES]
-    requires { ⌜ p < narrowPatterns ⌝ }
-    ensures { λ r. ⌜ r ≡ cutPairs row p set ⌝ }
-{
-    [
-        cut_pair(row[0], p, set, 0),
-        cut_pair(row[1], p, set, 1),
-        cut_pair(row[2], p, set, 2),
-        cut_pair(row[3], p, set, 3),
-    ]
 }

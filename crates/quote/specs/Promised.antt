@@ -41,7 +41,7 @@ pub record NoRival (D : Drawing) (sheet : List ℕ) : Type 0 where
   pub held : readingOf sheet ≡ holds commands
   pub none : (stage : List (D .Shape)) → Rival D sheet stage → ⊥
 
--- the sheet is read with no refusal and has more inputs than that, and somebody has a stage of trees for it
+-- document 02, E5: the sheet is read with no refusal and has more inputs than that, and somebody has a stage of trees for it
 pub record TooWide (most : ℕ) (sheet : List ℕ) : Type 0 where
   pub commands : List Command
   pub held : readingOf sheet ≡ holds commands
@@ -61,7 +61,7 @@ pub record Promised (D : Drawing) (most : ℕ) (sheet : List ℕ) (budget : ℕ)
   pub spent : IsStopped r → r .visits ≡ budget
   -- the refusal's number is 10 exactly where reading refuses nothing and no rival exists; a drawing has as many inputs as the sheet, also where the board has fewer lines
   pub refused : (r .mark .number ≡ empty) ↔ NoRival D sheet
-  -- trees tell that as well, on every board
+  -- trees tell that as well, on every board (document 02, E5)
   pub by-trees : (r .mark .number ≡ empty) ↔ NoRival treeDrawing sheet
-  -- it is 15 exactly where the sheet has more inputs than the board, and only where it is not 10
+  -- it is 15 exactly where the sheet is read, has more inputs than the board has lines, and some trees keep to it (document 02, E5)
   pub wide : (r .mark .number ≡ tooWide) ↔ TooWide most sheet

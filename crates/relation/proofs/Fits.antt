@@ -38,9 +38,9 @@ pub sized-within : (most n m : ℕ) → most ≤ maxInputs → Sized most n m �
 sized-within most n m h z = record { n-least = z .n-least; n-most = omega (arith, z .n-most); m-least = z .m-least; m-most = z .m-most }
 
 -- no set has a bit from 2 ^ m up
-pub none-wide : (n m : ℕ) (sets : List ℕ) → 2 ^ n ≤ widePattern n m sets → (p : ℕ) → p < 2 ^ n → getD sets p 0 < 2 ^ (2 ^ m)
+pub sets-below : (n m : ℕ) (sets : List ℕ) → 2 ^ n ≤ widePattern n m sets → (p : ℕ) → p < 2 ^ n → getD sets p 0 < 2 ^ (2 ^ m)
 unfolding widePattern
-none-wide n m sets h p l =
+sets-below n m sets h p l =
     let f : ℕ → Bool = λ p. leb (2 ^ (2 ^ m)) (getD sets p 0) in
     ⊎-elim (λ b. absurd (omega arith)) (λ z. nleb→lt (2 ^ (2 ^ m)) (getD sets p 0) (z p l)) (lowest-or (2 ^ n) f)
 
@@ -97,7 +97,7 @@ check-well-formed most r e =
     let t = passed (sizesOut most n m) (ltb wide (2 ^ n)) (ltb none (2 ^ n)) (refusalAt outOfRange 0) (refusalAt outOfRange wide) (refusalAt empty none) e in
     record {
       sizes = sizes-in most n m (test-no (sizesOut most n m) (t .0));
-      small = none-wide n m (r .sets) (nltb→le wide (2 ^ n) (t .1));
+      small = sets-below n m (r .sets) (nltb→le wide (2 ^ n) (t .1));
       well-defined = ⊎-elim (λ w. w) (λ l. absurd (omega (arith, nltb→le none (2 ^ n) (t .2)))) (well-defined-or n m (relationOf r));
     }
 

@@ -29,6 +29,6 @@ checkSets r =
     let none = emptyPattern n m (relationOf r) in
     cond (ltb wide (2 ^ n)) (refusedCase (refusalAt outOfRange wide)) (cond (ltb none (2 ^ n)) (refusedCase (refusalAt empty none)) acceptedCase)
 
--- with at most so many inputs: sizes out of range are 3 at 0, and come before the sets
+-- with at most so many inputs, by the board (document 02, E5): sizes out of range are 3 at 0, and come before the sets
 unfoldable pub checkOf : (most : ℕ) → Relation → Case
 checkOf most r = cond (sizesOut most (r .n) (r .m)) (refusedCase (refusalAt outOfRange 0)) (checkSets r)

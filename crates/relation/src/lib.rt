@@ -24,8 +24,8 @@ pub struct Relation {
 }
 
 impl Relation {
-    // The test of a relation that is handed over as numbers, with at most so many inputs: sizes, then bits past the last value, then empty sets.
-    // Who calls it names a limit on the inputs that a sheet has room for.
+    // The test of a relation that is handed over as numbers, with at most so many inputs (document 02, E5): sizes, then bits past the last value, then empty sets.
+    // Inner: a search asks with the lines of its board, and forming the relation of a sheet with those of a sheet; neither is above the limit required.
     pub fn check(self, most: u8) -> Verdict
         requires { ⌜ most ≤ maxInputs ⌝ }
         ensures { λ r. ⌜ verdictCase r ≡ checkOf most self ⌝ }

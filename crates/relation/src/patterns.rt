@@ -2,12 +2,13 @@
 // Inner functions: the search and the audit meet what they require, wires, bits and patterns that there are.
 ghost use mathlib.Core.Path.{_≡_};
 ghost use mathlib.Core.Bool.{cond};
-ghost use Prim.Native.Nat.{_*_, _/_, _<_, _≤_};
+ghost use Prim.Native.Nat.{_*_, _<_, _≤_};
 ghost use lib.Dec.{eqb};
 ghost use Rattle.sheet.specs.Limits.{maxInputs, maxWires, maxPatterns, maxValues};
 ghost use Rattle.table.specs.Bits.{bit};
 ghost use Rattle.table.specs.Inner.Pairs.{narrowPatterns};
 ghost use Rattle.table.specs.Inner.Ranks.{narrowSpace};
+ghost use Rattle.table.specs.Inner.Wide.{sections};
 ghost use Rattle.relation.specs.Source.{value};
 ghost use Rattle.table.specs.Cells.{wires};
 ghost use Rattle.relation.specs.Inner.Side.{section, sideBySide, valueIn};
@@ -15,29 +16,24 @@ ghost use Rattle.relation.specs.Inner.Narrowed.{NonePast, agreed, cleare
 use sheet::Sheet;
 use sheet::limits::patterns_of;
 use table::columns::column;
-use table::picks::NARROW_PATTERNS;
-use table::picks::NARROW_SPACE;
-
-// A section of a table: its bits on so many patterns, and above all such sections.
-const SECTION: u8 = NARROW_PATTERNS as u8;
-
-const SECTION_SPACE: u64 = NARROW_SPACE as u64;
+use table::wide::SECTION;
+use table::wide::SECTION_SPACE;
 
 // Where the sections of wires 1, 2 and 3 begin beside that of wire 0.
-const SIDE_1: u64 = 1 << NARROW_PATTERNS;
+const SIDE_1: u64 = 1 << SECTION;
 
-const SIDE_2: u64 = 1 << (2 * NARROW_PATTERNS);
+const SIDE_2: u64 = 1 << (2 * SECTION);
 
-const SIDE_3: u64 = 1 << (3 * NARROW_PATTERNS);
+const SIDE_3: u64 = 1 << (3 * SECTION);
 
 // The lowest bit of each of the four sections.
 const LOWEST: u64 = 1 + SIDE_1 + SIDE_2 + SIDE_3;
 
 // Moved down by so many bits, the lowest bit of a section stands one above that of the section below it; by twice as many, two such bits stand
 // above two.
-const TOGETHER: u64 = NARROW_PATTERNS as u64 - 1;
+const TOGETHER: u64 = SECTION as u64 - 1;
 
-const TWICE_TOGETHER: u64 = 2 * NARROW_PATTERNS as u64 - 2;
+const TWICE_TOGETHER: u64 = 2 * SECTION as u64 - 2;
 
 const VALUES: u64 = Sheet::MAX_VALUES as u64;
 
@@ -61,7 +57,7 @@ pub fn value_of(tables: [u64; Sheet::WIRES], p: u8) -> u8
 }
 
 // Section q of a table.
-fn section_of(table: u64, q: u8) -> u64
+pub fn section_of(table: u64, q: u8) -> u64
     requires { ⌜ narrowPatterns * q < maxPatterns ⌝ }
     ensures { λ r. ⌜ (r ≡ section table q) × (r < narrowSpace) ⌝ }
 {
@@ -70,7 +66,7 @@ fn section_of(table: u64, q: u8) -> u64
 
 // Section q of the tables of all wires side by side in one number, so that the value on a pattern takes one shift. Four sections fill the number.
 pub fn side_by_side(tables: &[u64; Sheet::WIRES], q: u8) -> u64
-    requires { ⌜ q < maxPatterns / narrowPatterns ⌝ }
+    requires { ⌜ q < sections ⌝ }
     ensures { λ r. ⌜ r ≡ sideBySide (now (tables .entry)) q ⌝ }
 {
     section_of(tables[0], q)

@@ -53,12 +53,12 @@ pub stage-refused-13 : auditLine (refusing secondRefusedOutcome (refusalAt sizes
 unfolding printing
 stage-refused-13 = refl
 
--- "01 00", of a buffer that has a byte more; "refused 12 at 260", whatever stands in it
+-- "01 00", of a buffer that has a byte more; "refused 12 at 596", the longest copy, whatever stands in it
 pub copy-shown : copyLine (accepting acceptedOutcome 2) (0x01 ∷ 0x00 ∷ 0x7A ∷ []) ≡ 0x30 ∷ 0x31 ∷ 0x20 ∷ 0x30 ∷ 0x30 ∷ newline ∷ []
 unfolding printing
 copy-shown = refl
 
-pub copy-refused-12 : (copy : List ℕ) → copyLine (refusedCase (refusalAt shortBuffer 260)) copy
-    ≡ refusedText ++ 0x31 ∷ 0x32 ∷ atText ++ 0x32 ∷ 0x36 ∷ 0x30 ∷ newline ∷ []
+pub copy-refused-12 : (copy : List ℕ) → copyLine (refusedCase (refusalAt shortBuffer 596)) copy
+    ≡ refusedText ++ 0x31 ∷ 0x32 ∷ atText ++ 0x35 ∷ 0x39 ∷ 0x36 ∷ newline ∷ []
 unfolding printing
 copy-refused-12 copy = refl

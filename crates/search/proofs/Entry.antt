@@ -1,10 +1,11 @@
 -- The entry: a relation that passes its test is searched as it stands, and the answer is the reply of document 01.
-use Prim.Native.Nat.{ℕ, _≤_}
-use mathlib.Core.Path.{_≡_, refl, sym, ap, ap₂, subst, _∙_}
-use mathlib.Core.Bool.{true, false}
-use mathlib.Core.List.{List, [], _∷_}
+use Prim.Native.Nat.{ℕ, _^_, _≤_}
+use mathlib.Core.Path.{_≡_, refl, sym, ap, ap₂, _∙_}
+use mathlib.Core.Bool.{Bool, true, false}
+use mathlib.Core.List.{List}
 use native.Mathlib.Nat.{le-trans}
-use lib.ListN.{length}
+use lib.Dec.{le→leb}
+use lib.ListN.{length, getD}
 use Rattle.sheet.specs.Limits.{maxInputs, maxPatterns}
 use Rattle.base.specs.declared.Refusal.{Refusal}
 use Rattle.base.specs.declared.Verdict.{Verdict}
@@ -25,14 +26,52 @@ use Rattle.nodes.proofs.Counts.{most-inputs}
 use Rattle.branch_bound.specs.Boards.{boardOf}
 use Rattle.sheet.specs.Inner.Sized.{Sized}
 use Rattle.parts.specs.Inner.Boards.{lentKind, lentInputs, lentWires}
-use Rattle.parts.specs.Inner.Parts.{PartSets}
-use Rattle.search.specs.Inner.States.{begun}
+use Rattle.parts.specs.Inner.Cells.{cellsSum}
+use Rattle.parts.specs.Inner.Parts.{PartSets, Carried}
+use Rattle.parts.specs.Inner.Picks.{tablesOf}
+use Rattle.parts.specs.Inner.States.{cellsPlace}
+use Rattle.visits.specs.Inner.Conflicts.{Settled, Seen, AllowedBelow}
+use Rattle.visits.specs.Inner.States.{stateOf, budgetIn, Held, Ran}
+use Rattle.halves.specs.Inner.Whole.{Whole}
+use Rattle.halves.proofs.Agreeing.{agrees-whole, settled-below}
+use Rattle.branches.proofs.Carrying.{carried-floor}
+use Rattle.branches.proofs.Steps.{discards}
+
+-- the state at the beginning is the start of the search
+pub started : (b : Board) (R : Rel) {s : State} (t : State) → s ≡ record { tables = t .tables; cells = t .cells; visits = 0; stopped = false } → t .tables ≡ start b R .tables
+    → t .cells ≡ start b R .cells → s ≡ start b R
+unfolding start
+started b R t e et ec = e ∙ rw (et, ec)
 
 -- what the parts of the run make together
-pub ran : (kind : BoardKind) (n m budget : ℕ) (R : Rel) (st s : State) → st ≡ start (boardOf kind n m) R → s ≡ searchPart (boardOf kind n m) budget R (begun st)
-    → s ≡ run (boardOf kind n m) budget R
-unfolding run start
-ran kind n m budget R st s est e = e ∙ ap (λ x. searchPart (boardOf kind n m) budget R (begun x)) est
+pub ran : (b : Board) (R : Rel) {budget : ℕ} {before after : List ℕ} → Ran (searchPart b (budgetIn before) R) before after → budgetIn before ≡ budget → stateOf before ≡ start b R
+    → stateOf after ≡ run b budget R
+unfolding run
+ran b R r eb es = r .state ∙ ap₂ (λ x s. searchPart b x R s) eb es
+
+-- the whole relation as the first part
+module _ {kind : BoardKind} {n m : ℕ} {S ws l : List ℕ} {low c : ℕ} (h : Carried kind n m S ws l low c) where
+  -- where its cells reach the best it is discarded, and the state stays
+  pub not-visited : {f : ℕ} → Held l → f ≡ cellsSum c → getD l cellsPlace 0 ≤ f → Ran (searchPart (boardOf kind n m) (budgetIn l) (ofSets S)) l l
+  unfolding stateOf
+  not-visited {f} held ef le =
+      record {
+        long = held .long;
+        state = discards kind (h .sized) (h .sets) (budgetIn l) (stateOf l) (carried-floor h ef) (le→leb (getD l cellsPlace 0) f le);
+        budget = refl;
+        whole = λ i _. refl;
+      }
+
+  -- where it is visited, its picks are allowed below the first conflict with the whole, which it is itself
+  module _ (wide : Bool) (seen : Seen wide n S l) where
+    pub whole-itself : Whole wide n S l
+    whole-itself = record { sets = S; seen = seen; agrees = agrees-whole n S }
+
+    pub from-there : {from : ℕ} → AllowedBelow wide n low l from → from ≤ 2 ^ n
+    from-there allowed = allowed S (tablesOf kind n S) seen (h .tables) .0
+
+    pub from-settled : {from : ℕ} → AllowedBelow wide n low l from → Settled m S (tablesOf kind n S) from
+    from-settled allowed = settled-below kind (h .sized) (h .sets) S (agrees-whole n S) (allowed S (tablesOf kind n S) seen (h .tables))
 
 pub stopped-answer : (b : Board) (R : Rel) (s t : State) (f : ℕ) → s ≡ t → s .stopped ≡ true → f ≡ floor b R
     → _≡_ {A = SearchReply} (record { tables = s .tables; cells = s .cells; floor = f; visits = s .visits; mark = accepting stoppedOutcome 0 })

@@ -1,9 +1,6 @@
-pub mod Lending
-pub mod Opening
-pub mod Carrying
-pub mod Steps
-pub mod Halves
-pub mod StateChanges
+pub mod PickTables
+pub mod WholePicks
+pub mod Beginnings
 pub mod FirstAnswer
 pub mod Entry
 pub mod Cases

@@ -6,7 +6,7 @@ use lib.Dec.{ltb, leb, eqb}
 abbrev pub maxInputs : ℕ
 maxInputs = 6
 
--- the inputs of a board that shares selectors, which stays at four lines
+-- fewer inputs where the board shares selectors
 abbrev pub maxSharedInputs : ℕ
 maxSharedInputs = 4
 

@@ -38,7 +38,7 @@ impl Sheet {
     // The limits of a sheet (document 01, "Unit sheet", and document 02, E5), named once: tables, relations and stages take theirs from here.
     pub const MAX_INPUTS: u8 = 6;
 
-    // A board that shares selectors stays at four lines.
+    // Fewer on a board that shares selectors.
     pub const MAX_SHARED_INPUTS: u8 = 4;
 
     pub const MAX_WIRES: u8 = 4;

@@ -24,7 +24,7 @@ treeWireBytes j x = 0x21 ∷ j ∷ treeBytes x
 abbrev pub treeFrame : ℕ
 treeFrame = 3
 
--- no stage of trees has more selectors, whoever wrote it: an ordered tree has fewer than there are patterns
+-- no stage of trees has more selectors, whoever wrote it: an ordered tree has fewer than there are patterns, 64 since E5 of document 02
 abbrev pub mostSelectors : ℕ
 mostSelectors = maxWires * (maxPatterns - 1)
 

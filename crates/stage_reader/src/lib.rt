@@ -139,7 +139,7 @@ pub fn read_stage(s: &[u8]) -> StageRead
     read_on(BoardKind::Tree, s)
 }
 
-// A stage sheet of the board that shares selectors (document 02, E2), whose wires are diagrams.
+// A stage sheet of the board that shares selectors (document 02, E2), whose wires are diagrams. The board has at most four inputs: more are 3 (E5).
 pub fn read_shared(s: &[u8]) -> StageRead
     ensures { λ r. ⌜ stageReply r ≡ replyToStage diagramDrawing (readDiagrams (now (s .entry))) ⌝ }
 {

@@ -59,7 +59,7 @@ pub fn write_stage(n: u8, m: u8, tables: [u64; Sheet::WIRES], buffer: &mut [u8])
     write_on(BoardKind::Tree, n, m, tables, buffer)
 }
 
-// A stage of diagrams (document 02, E2).
+// A stage of diagrams (document 02, E2). Their board has at most four inputs: more are 3 (E5).
 pub fn write_shared(n: u8, m: u8, tables: [u64; Sheet::WIRES], buffer: &mut [u8]) -> Written
     ensures { λ r.
         ⌜ (writtenCase r ≡ writtenOf diagramForm n m tables (length (now (buffer .entry)))) × (now (buffer .exit) ≡ bufferAfter diagramForm n m tables (now (buffer .entry))) ⌝ }

@@ -1,4 +1,5 @@
--- What the entries of two blocks, or the numbers of two tables of three inputs, make together.
+-- A pick of one input more, from numbers that show picks: three inputs from the entries of two blocks, and every further width from three numbers of the width
+-- below (`step-shown`).
 use Prim.Native.Nat.{ℕ, suc, _+_, _*_, _^_, _/_, _%_, _<_, _≤_, min}
 use mathlib.Core.Path.{_≡_, sym, ap, ap₂, subst, _∙_}
 use mathlib.Core.Logic.{⊎-elim}

@@ -1,4 +1,5 @@
--- The pick by halving, over the width and over the key: the least table is one common half twice, two halves under a selector, or the soldered line.
+-- The pick by halving, over the width and over the key: the least table repeats what suits both halves, has a selector over the least of each, or is its first
+-- input.
 use Prim.Native.Nat.{ℕ, zero, suc, _+_, _^_, _<_, _≤_}
 use mathlib.Core.Path.{_≡_, refl, sym, ap, subst, _∙_}
 use mathlib.Core.Logic.{_⊎_, inl, inr, ⊎-elim}

@@ -1,14 +1,13 @@
 -- The seats of a pair all together: a mask is full where the pair has all seats of it, every pattern is covered where each has one of its two seats, and what two
 -- pairs have in common.
 use Prim.Native.Nat.{ℕ, zero, suc, _+_, _*_, _/_, _%_, _^_, _<_, _≤_}
-use mathlib.Core.Path.{_≡_, refl, sym, ap, ap₂, subst, _∙_}
-use mathlib.Core.Logic.{_⊎_, inl, inr, ⊎-elim}
+use mathlib.Core.Path.{_≡_, refl, sym, ap, ap₂, _∙_}
+use mathlib.Core.Logic.{⊎-elim}
 use mathlib.Core.Bool.{Bool, true, false, cond, not, _||_}
 use mathlib.Core.Option.{Option, none, some}
 use native.Mathlib.Omega.{arith}
-use native.Mathlib.Nat.{mod-lt, lt-of-le-of-lt}
-use lib.Arith.{digits-div, digits-mod}
-use lib.Bits.{bitAnd, bitOr, and-le-l, and-le-r, and-mod, and-shr, or-shr, or-mod, or-add-and}
+use native.Mathlib.Nat.{zero-add, lt-of-le-of-lt}
+use lib.Bits.{bitAnd, bitOr, and-le-l, and-le-r}
 use lib.Dec.{T, T-not, eqb, eqb→eq}
 use Rattle.base.proofs.Tests.{eq-test, test-ext, or-cases}
 use Rattle.table.specs.Bits.{bit, all}
@@ -118,7 +117,7 @@ covers-all x h =
     above : (y p : ℕ) → bit y (seat p) ≡ bit x (seat p + blockPatterns) → p < narrowPatterns → 1 ≤ bit x (seat p) + bit y (seat p)
     above y p e l = omega (arith, h p l, zeros-at x p l, ones-at x p l)
 
--- so where some pattern is not covered no table suits
+-- where a table suits, every pattern is covered
 pub suits-covered : (zeros ones t p : ℕ) → T (masked zeros ones p (bit t p)) → 1 ≤ bit zeros p + bit ones p
 unfolding masked
 suits-covered zeros ones t p h = go (eqb (bit t p) 0) (eqb→eq (bit (cond (eqb (bit t p) 0) zeros ones) p) 1 h)
@@ -127,22 +126,32 @@ suits-covered zeros ones t p h = go (eqb (bit t p) 0) (eqb→eq (bit (cond (eqb 
     go true e = omega (arith, e)
     go false e = omega (arith, e)
 
-pub none-between : (key : ℕ → ℕ) (x : ℕ) → T (not (allCovered x)) → leastOf key 4 (masked (zerosIn x) (onesIn x)) ≡ none
+-- no table suits where one of the pairs leaves a pattern neither 0 nor 1: the patterns of pair x stand from d on among those of the masks
+pub none-wide : (key : ℕ → ℕ) (n zeros ones x d : ℕ) → narrowPatterns + d ≤ 2 ^ n → ((p : ℕ) → p < narrowPatterns → bit zeros (d + p) ≡ bit (zerosIn x) p)
+    → ((p : ℕ) → p < narrowPatterns → bit ones (d + p) ≡ bit (onesIn x) p) → T (not (allCovered x)) → leastOf key n (masked zeros ones) ≡ none
 unfolding leastOf suits
-none-between key x h = go (least key fit space) (least-is key fit space)
+none-wide key n zeros ones x d inside ez eo h = go (least key fit space) (least-is key fit space)
   where
     P : Proj
-    P = masked (zerosIn x) (onesIn x)
+    P = masked zeros ones
 
     fit : ℕ → Bool
-    fit = suits 4 P
+    fit = suits n P
 
     space : ℕ
-    space = 2 ^ (2 ^ 4)
+    space = 2 ^ (2 ^ n)
 
     go : (o : Option ℕ) → Least key fit space o → o ≡ none
     go none g = refl
-    go (some t) g = absurd (T-not (allCovered x) h (covers-all x (λ p l. suits-covered (zerosIn x) (onesIn x) t p (all-at (2 ^ 4) (λ q. P q (bit t q)) (g .1) p l))))
+    go (some t) g =
+        absurd (T-not (allCovered x) h (covers-all x (λ p l.
+        let s = suits-covered zeros ones t (d + p) (all-at (2 ^ n) (λ q. P q (bit t q)) (g .1) (d + p) (omega arith)) in
+        omega (arith, s, ez p l, eo p l))))
+
+-- the pair by itself, at four inputs
+pub none-between : (key : ℕ → ℕ) (x : ℕ) → T (not (allCovered x)) → leastOf key 4 (masked (zerosIn x) (onesIn x)) ≡ none
+none-between key x =
+    none-wide key 4 (zerosIn x) (onesIn x) x 0 (omega arith) (λ p l. ap (bit (zerosIn x)) (zero-add p)) (λ p l. ap (bit (onesIn x)) (zero-add p))
 
 -- what two pairs have in common
 pub zeros-and : (x y : ℕ) → zerosIn (bitAnd x y) ≡ bitAnd (zerosIn x) (zerosIn y)

@@ -1,29 +1,25 @@
 -- Five and six inputs: masks side by side by their halves, and the pick of one input more from three picks, as the code makes them.
 use Prim.Native.Nat.{ℕ, _+_, _*_, _-_, _/_, _%_, _^_, _<_, _≤_, min}
 use mathlib.Core.Path.{_≡_, refl, sym, ap, ap₂, subst, _∙_}
-use mathlib.Core.Bool.{Bool, not, cond, _&&_}
-use mathlib.Core.Option.{Option, none, some}
+use mathlib.Core.Bool.{not, cond, _&&_}
 use native.Mathlib.Omega.{arith}
 use mathlib.Core.Logic.{⊎-elim}
-use native.Mathlib.Nat.{le-refl, zero-add, mul-le-mul-right, eq-or-lt-of-le, mod-add-div', add-comm, lt-of-le-of-lt}
+use native.Mathlib.Nat.{le-refl, zero-add, mul-le-mul-right, eq-or-lt-of-le, mod-add-div', add-comm}
 use lib.Arith.{digits-div, digits-mod}
 use lib.Bits.{bitAnd, and-mod, and-shr, and-le-l, and-le-r}
-use lib.Dec.{T, T-not, eqb, eqb→eq}
-use Rattle.base.proofs.Tests.{and-intro, and-left, and-right, eq-test, test-ext}
-use Rattle.sheet.specs.Limits.{maxInputs}
+use lib.Dec.{T, eqb, eqb→eq}
+use Rattle.base.proofs.Tests.{eq-test, test-ext}
 use Rattle.table.specs.Bits.{bit}
 use Rattle.table.specs.Cells.{low, high, full, cells}
-use Rattle.table.specs.Pick.{Proj, suits, least, leastOf}
-use Rattle.table.specs.Inner.Ranks.{masked, pickOf, narrowSpace, pickKey}
-use Rattle.table.specs.Inner.Pairs.{narrowPatterns, zerosIn, onesIn}
+use Rattle.table.specs.Inner.Ranks.{pickOf, narrowSpace, pickKey}
+use Rattle.table.specs.Inner.Pairs.{narrowInputs, narrowPatterns, zerosIn, onesIn}
 use Rattle.table.specs.Inner.Blocks.{noTable, Shown, PickShown, Covered}
 use Rattle.table.specs.Inner.Lines.{line}
-use Rattle.table.specs.Inner.Wide.{fiveSpace, sixSpace, twoMasks, fourMasks, zeroSeats, oneSeats, hasSeats, allCovered, lineFits, lineOfFive, lineOfSix, FiveShown, SixShown}
-use Rattle.table.proofs.Bits.{bit-mod, bit-div, all-at}
-use Rattle.table.proofs.Least.{Least, least-is}
+use Rattle.table.specs.Inner.Wide.{fiveSpace, sixSpace, twoMasks, fourMasks, allCovered, lineFits, lineOfFive, lineOfSix, FiveShown, SixShown}
+use Rattle.table.proofs.Bits.{bit-mod, bit-div}
 use Rattle.table.proofs.Pairs.{zeros-lt, ones-lt}
-use Rattle.table.proofs.Widths.{inside, picked}
-use Rattle.table.proofs.Seats.{zeros-full, ones-full, zeros-and, ones-and, covers-all, suits-covered}
+use Rattle.table.proofs.Widths.{digits-told}
+use Rattle.table.proofs.Seats.{zeros-full, ones-full, zeros-and, ones-and, none-wide}
 use Rattle.table.proofs.Entries.{line-choice, twiceShown, pairShown, twice-most, step-shown}
 
 -- masks side by side
@@ -59,28 +55,6 @@ two-and a b c d la lb lc ld =
     ∙ ap₂ (λ h l. h * narrowSpace + l) (ap₂ bitAnd (two-high a b la lb) (two-high c d lc ld)) (ap₂ bitAnd (two-low a b la lb) (two-low c d lc ld))
     ∙ sym (two-opened (bitAnd a c) (bitAnd b d))
 
--- no table suits where one of the pairs leaves a pattern neither 0 nor 1: the patterns of pair x stand from d on among those of the masks
-pub none-wide : (key : ℕ → ℕ) (n zeros ones x d : ℕ) → narrowPatterns + d ≤ 2 ^ n → ((p : ℕ) → p < narrowPatterns → bit zeros (d + p) ≡ bit (zerosIn x) p)
-    → ((p : ℕ) → p < narrowPatterns → bit ones (d + p) ≡ bit (onesIn x) p) → T (not (allCovered x)) → leastOf key n (masked zeros ones) ≡ none
-unfolding leastOf suits
-none-wide key n zeros ones x d inside ez eo h = go (least key fit space) (least-is key fit space)
-  where
-    P : Proj
-    P = masked zeros ones
-
-    fit : ℕ → Bool
-    fit = suits n P
-
-    space : ℕ
-    space = 2 ^ (2 ^ n)
-
-    go : (o : Option ℕ) → Least key fit space o → o ≡ none
-    go none g = refl
-    go (some t) g =
-        absurd (T-not (allCovered x) h (covers-all x (λ p l.
-        let s = suits-covered zeros ones t (d + p) (all-at (2 ^ n) (λ q. P q (bit t q)) (g .1) (d + p) (omega arith)) in
-        omega (arith, s, ez p l, eo p l))))
-
 module _ (low-pair high-pair : ℕ) where
   abbrev zl : ℕ
   zl = zerosIn low-pair
@@ -95,8 +69,8 @@ module _ (low-pair high-pair : ℕ) where
   oh = onesIn high-pair
 
   -- five inputs, from the picks of two pairs and of what they have in common
-  pub five-places : (a b c : ℕ) → PickShown 4 narrowSpace zl ol a → PickShown 4 narrowSpace zh oh b
-      → PickShown 4 narrowSpace (zerosIn (bitAnd low-pair high-pair)) (onesIn (bitAnd low-pair high-pair)) c
+  pub five-places : (a b c : ℕ) → PickShown narrowInputs narrowSpace zl ol a → PickShown narrowInputs narrowSpace zh oh b
+      → PickShown narrowInputs narrowSpace (zerosIn (bitAnd low-pair high-pair)) (onesIn (bitAnd low-pair high-pair)) c
       → FiveShown low-pair high-pair
       (min (min (twiceShown narrowSpace c) (cond (lineFits low-pair high-pair) lineOfFive (noTable * fiveSpace))) (pairShown narrowSpace a b))
   unfolding low high line full
@@ -109,7 +83,7 @@ module _ (low-pair high-pair : ℕ) where
       let fo = two-high ol oh (ones-lt low-pair) (ones-lt high-pair) in
       step-shown 4 (omega arith) Z O a b c (cond (lineFits low-pair high-pair) lineOfFive (noTable * fiveSpace)) (two-lt ol oh (ones-lt low-pair) (ones-lt high-pair))
       (rw (ez, eo) sa) (rw (fz, fo) sb) (rw (ez, fz, eo, fo, ← zeros-and low-pair high-pair, ← ones-and low-pair high-pair) sc)
-      (ap (λ t. cond t lineOfFive (noTable * fiveSpace)) (ap₂ _&&_ (zeros-full low-pair ∙ ap (λ x. eqb x (full 4)) (sym ez)) (ones-full high-pair ∙ ap (λ x. eqb x (full 4)) (sym fo))))
+      (ap (λ t. cond t lineOfFive (noTable * fiveSpace)) (ap₂ _&&_ (zeros-full low-pair ∙ ap (λ x. eqb x (full narrowInputs)) (sym ez)) (ones-full high-pair ∙ ap (λ x. eqb x (full narrowInputs)) (sym fo))))
 
 -- the lesser of two numbers by their digits: the first where its key is less, or the keys are equal and its table is no greater
 pub lesser-first : (key table cost other : ℕ) → table < sixSpace → other < sixSpace → key ≤ cost → (cost ≤ key → table ≤ other)
@@ -128,8 +102,8 @@ by-key cells e d h = ap₂ (λ k t. k * sixSpace + t) e d ∙ h
 
 -- five inputs, as the code finds it: the line stands for two halves where it fits
 pub five-found : (low high a b c : ℕ) → narrowSpace ≤ a → narrowSpace ≤ b → c ≤ noTable * narrowSpace
-    → PickShown 4 narrowSpace (zerosIn low) (onesIn low) a → PickShown 4 narrowSpace (zerosIn high) (onesIn high) b
-    → PickShown 4 narrowSpace (zerosIn (bitAnd low high)) (onesIn (bitAnd low high)) c
+    → PickShown narrowInputs narrowSpace (zerosIn low) (onesIn low) a → PickShown narrowInputs narrowSpace (zerosIn high) (onesIn high) b
+    → PickShown narrowInputs narrowSpace (zerosIn (bitAnd low high)) (onesIn (bitAnd low high)) c
     → FiveShown low high (min (twiceShown narrowSpace c) (cond (lineFits low high) lineOfFive (pairShown narrowSpace a b)))
 five-found low high a b c la lb lc sa sb sc =
     subst (FiveShown low high)
@@ -194,23 +168,23 @@ module _ (a b c d : ℕ) where
   ones-high = two-lt (onesIn c) (onesIn d) (ones-lt c) (ones-lt d)
 
   -- a mask of five inputs is full where both of its pairs' masks are
-  full-two : (x y : ℕ) → x < narrowSpace → y < narrowSpace → eqb (bitAnd x y) (full 4) ≡ eqb (twoMasks x y) (full 5)
+  full-two : (x y : ℕ) → x < narrowSpace → y < narrowSpace → eqb (bitAnd x y) (full narrowInputs) ≡ eqb (twoMasks x y) (full (narrowInputs + 1))
   unfolding full
   full-two x y lx ly =
-      test-ext (eqb (bitAnd x y) (full 4)) (eqb (twoMasks x y) (full 5))
+      test-ext (eqb (bitAnd x y) (full narrowInputs)) (eqb (twoMasks x y) (full (narrowInputs + 1)))
       (λ t.
-      let e = eqb→eq (bitAnd x y) (full 4) t in
+      let e = eqb→eq (bitAnd x y) (full narrowInputs) t in
       eq-test (two-opened x y ∙ omega (arith, e, and-le-l x y, and-le-r x y)))
       (λ t.
-      let e = sym (two-opened x y) ∙ eqb→eq (twoMasks x y) (full 5) t in
-      let ex : x ≡ full 4 = omega (arith, e) in
-      let ey : y ≡ full 4 = omega (arith, e) in
+      let e = sym (two-opened x y) ∙ eqb→eq (twoMasks x y) (full (narrowInputs + 1)) t in
+      let ex : x ≡ full narrowInputs = omega (arith, e) in
+      let ey : y ≡ full narrowInputs = omega (arith, e) in
       eq-test (ap₂ bitAnd ex ey))
 
-  line-six : lineFits (bitAnd a b) (bitAnd c d) ≡ eqb za (full 5) && eqb oc (full 5)
+  line-six : lineFits (bitAnd a b) (bitAnd c d) ≡ eqb za (full (narrowInputs + 1)) && eqb oc (full (narrowInputs + 1))
   line-six =
-      ap₂ _&&_ (zeros-full (bitAnd a b) ∙ ap (λ x. eqb x (full 4)) (zeros-and a b) ∙ full-two (zerosIn a) (zerosIn b) (zeros-lt a) (zeros-lt b))
-      (ones-full (bitAnd c d) ∙ ap (λ x. eqb x (full 4)) (ones-and c d) ∙ full-two (onesIn c) (onesIn d) (ones-lt c) (ones-lt d))
+      ap₂ _&&_ (zeros-full (bitAnd a b) ∙ ap (λ x. eqb x (full narrowInputs)) (zeros-and a b) ∙ full-two (zerosIn a) (zerosIn b) (zeros-lt a) (zeros-lt b))
+      (ones-full (bitAnd c d) ∙ ap (λ x. eqb x (full narrowInputs)) (ones-and c d) ∙ full-two (onesIn c) (onesIn d) (ones-lt c) (ones-lt d))
 
   -- six inputs, from the picks of five of both halves and of what they have in common
   six-places : (x y z : ℕ) → FiveShown a b x → FiveShown c d y → FiveShown (bitAnd a c) (bitAnd b d) z
@@ -230,7 +204,7 @@ module _ (a b c d : ℕ) where
       two-and (onesIn a) (onesIn b) (onesIn c) (onesIn d) (ones-lt a) (ones-lt b) (ones-lt c) (ones-lt d) ∙ ap₂ twoMasks (sym (ones-and a c)) (sym (ones-and b d)) in
       step-shown 5 (omega arith) Z O x y z (cond (lineFits (bitAnd a b) (bitAnd c d)) lineOfSix (noTable * sixSpace)) (omega (arith, ones-low, ones-high))
       (rw (ez, eo) sx) (rw (fz, fo) sy) (rw (ez, fz, eo, fo, az, ao) sz)
-      (ap (λ t. cond t lineOfSix (noTable * sixSpace)) (line-six ∙ ap₂ (λ x y. eqb x (full 5) && eqb y (full 5)) (sym ez) (sym fo)))
+      (ap (λ t. cond t lineOfSix (noTable * sixSpace)) (line-six ∙ ap₂ (λ x y. eqb x (full (narrowInputs + 1)) && eqb y (full (narrowInputs + 1))) (sym ez) (sym fo)))
 
   pub six-found : (x y z : ℕ) → fiveSpace ≤ x → fiveSpace ≤ y → z ≤ noTable * fiveSpace → FiveShown a b x → FiveShown c d y
       → FiveShown (bitAnd a c) (bitAnd b d) z
@@ -272,11 +246,8 @@ five-told a b c d a′ b′ c′ d′ n x e lz lo h s =
     five : (zeros ones : ℕ) → Covered 5 zeros ones → PickShown 5 fiveSpace zeros ones x
         → (x % fiveSpace ≡ pickOf (cells 5) 5 zeros ones) × (x / fiveSpace - 1 ≡ cells 5 (x % fiveSpace))
     five zeros ones cov shows =
-        let t = pickOf (cells 5) 5 zeros ones in
-        let k : x ≡ pickKey 5 t * fiveSpace + t = subst (λ o. Shown (pickKey 5) fiveSpace o x) (picked 5 zeros ones cov) shows in
-        let m : x % fiveSpace ≡ t = ap (λ y. y % fiveSpace) k ∙ digits-mod (pickKey 5 t) (inside 5 zeros ones cov) in
-        let q : x / fiveSpace ≡ pickKey 5 t = ap (λ y. y / fiveSpace) k ∙ digits-div (pickKey 5 t) (inside 5 zeros ones cov) in
-        (m, ap (λ y. y - 1) q ∙ one-less (cells 5 t) ∙ ap (cells 5) (sym m))
+        let d = digits-told 5 zeros ones x cov shows in
+        (d .0, ap (λ y. y - 1) (d .1) ∙ one-less (cells 5 (pickOf (cells 5) 5 zeros ones)) ∙ ap (cells 5) (sym (d .0)))
 
 pub six-told : (zeros ones n k t : ℕ) → n ≡ 6 → Covered n zeros ones → t < sixSpace → PickShown 6 sixSpace zeros ones ((1 + k) * sixSpace + t)
     → (t ≡ pickOf (cells n) n zeros ones) × (k ≡ cells n t)
@@ -285,8 +256,7 @@ six-told zeros ones n k t e h l s =
   where
     six : Covered 6 zeros ones → (t ≡ pickOf (cells 6) 6 zeros ones) × (k ≡ cells 6 t)
     six cov =
-        let u = pickOf (cells 6) 6 zeros ones in
-        let x : (1 + k) * sixSpace + t ≡ pickKey 6 u * sixSpace + u = subst (λ o. Shown (pickKey 6) sixSpace o ((1 + k) * sixSpace + t)) (picked 6 zeros ones cov) s in
-        let m : t ≡ u = sym (digits-mod (1 + k) l) ∙ ap (λ y. y % sixSpace) x ∙ digits-mod (pickKey 6 u) (inside 6 zeros ones cov) in
-        let q : 1 + k ≡ pickKey 6 u = sym (digits-div (1 + k) l) ∙ ap (λ y. y / sixSpace) x ∙ digits-div (pickKey 6 u) (inside 6 zeros ones cov) in
+        let d = digits-told 6 zeros ones ((1 + k) * sixSpace + t) cov s in
+        let m : t ≡ pickOf (cells 6) 6 zeros ones = sym (digits-mod (1 + k) l) ∙ d .0 in
+        let q : 1 + k ≡ pickKey 6 (pickOf (cells 6) 6 zeros ones) = sym (digits-div (1 + k) l) ∙ d .1 in
         (m, omega (arith, q) ∙ ap (cells 6) (sym m))

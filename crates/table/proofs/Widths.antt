@@ -3,7 +3,7 @@ use Prim.Native.Nat.{ℕ, _+_, _*_, _-_, _^_, _/_, _%_, _<_, _≤_}
 use mathlib.Core.Path.{_≡_, ap, ap₂, subst, _∙_}
 use mathlib.Core.Option.{some}
 use native.Mathlib.Omega.{arith}
-use lib.Arith.{digits-mod}
+use lib.Arith.{digits-div, digits-mod}
 use Rattle.table.specs.Cells.{cells}
 use Rattle.table.specs.Pick.{leastOf}
 use Rattle.table.specs.Inner.Ranks.{masked, pickOf, rank, narrowSpace, pickKey}
@@ -46,6 +46,16 @@ inside n zeros ones h = subst (λ o. BestTable (cells n) n (masked zeros ones) o
 -- the least by the key that picks are found by is the pick
 pub picked : (n zeros ones : ℕ) → Covered n zeros ones → leastOf (pickKey n) n (masked zeros ones) ≡ some (pickOf (cells n) n zeros ones)
 picked n zeros ones h = least-more 1 (cells n) n (masked zeros ones) ∙ pick-some (cells n) n zeros ones h
+
+-- so a number that shows it has the pick for its table, and the pick's key
+pub digits-told : (n zeros ones x : ℕ) → Covered n zeros ones → PickShown n (2 ^ (2 ^ n)) zeros ones x
+    → (x % 2 ^ (2 ^ n) ≡ pickOf (cells n) n zeros ones) × (x / 2 ^ (2 ^ n) ≡ pickKey n (pickOf (cells n) n zeros ones))
+digits-told n zeros ones x h s =
+    let t = pickOf (cells n) n zeros ones in
+    let k : x ≡ pickKey n t * 2 ^ (2 ^ n) + t = subst (λ o. Shown (pickKey n) (2 ^ (2 ^ n)) o x) (picked n zeros ones h) s in (
+      ap (λ y. y % 2 ^ (2 ^ n)) k ∙ digits-mod (pickKey n t) (inside n zeros ones h),
+      ap (λ y. y / 2 ^ (2 ^ n)) k ∙ digits-div (pickKey n t) (inside n zeros ones h),
+    )
 
 -- one input, looked up as two: each mask stands twice in its half of the place
 pub one-place : (w : ℕ) → w < 2 ^ pairBits → WidthFits 1 w → w * (oneSpace + 1) < entries
@@ -99,16 +109,12 @@ pub three-inputs : (w x : ℕ) → w < 2 ^ pairBits → HalvesShow (w % entries)
     → (x / threeSpace - 1) * narrowSpace + x % threeSpace ≡ rankIn 3 w
 unfolding rank
 three-inputs w x l s f =
-    let t = pickOf (cells 3) 3 (zerosIn w) (onesIn w) in
-    let lt : t < threeSpace = inside 3 (zerosIn w) (onesIn w) (f .2) in
-    let k : x ≡ pickKey 3 t * threeSpace + t =
-    subst (λ o. Shown (pickKey 3) threeSpace o x) (picked 3 (zerosIn w) (onesIn w) (f .2)) (pair-told w x (two-bytes w l (f .0) (f .1)) (f .0) (f .1) s) in
-    omega arith
+    let d = digits-told 3 (zerosIn w) (onesIn w) x (f .2) (pair-told w x (two-bytes w l (f .0) (f .1)) (f .0) (f .1) s) in
+    omega (arith, d .0, d .1)
 
 -- four inputs: the number that shows the pick is its rank and a key more
 pub four-inputs : (w x : ℕ) → PickShown 4 narrowSpace (zerosIn w) (onesIn w) x → WidthFits 4 w → x - narrowSpace ≡ rankIn 4 w
 unfolding rank
 four-inputs w x s f =
-    let t = pickOf (cells 4) 4 (zerosIn w) (onesIn w) in
-    let k : x ≡ pickKey 4 t * narrowSpace + t = subst (λ o. Shown (pickKey 4) narrowSpace o x) (picked 4 (zerosIn w) (onesIn w) (f .2)) s in
-    omega arith
+    let d = digits-told 4 (zerosIn w) (onesIn w) x (f .2) s in
+    omega (arith, d .0, d .1)

@@ -25,7 +25,10 @@ pub const ONE_SPACE: u32 = 4;
 
 pub const BLOCK_SPACE: u32 = 1 << BLOCK_PATTERNS;
 
-pub const THREE_SPACE: u32 = 256;
+pub const THREE_SPACE: u32 = BLOCK_SPACE * BLOCK_SPACE;
+
+// Times this, a number below ONE_SPACE stands twice side by side.
+const BESIDE_ITSELF: u32 = ONE_SPACE + 1;
 
 // Above every table of so few inputs: a bit for each pattern.
 pub const NARROW_SPACE: u32 = 1 << NARROW_PATTERNS;
@@ -35,8 +38,11 @@ pub const PLACES: u32 = BLOCK_SPACE * BLOCK_SPACE;
 
 pub const ENTRIES: usize = PLACES as usize;
 
-// The length of the table that is lent for picks: two places more than entries, where the search keeps the number of its board and of its wires.
-pub const LENT: usize = ENTRIES + 2;
+// Behind the entries the search keeps the number of its board and of its wires: so many places.
+const KEPT_BEHIND: usize = 3;
+
+// The length of the table that is lent for picks.
+pub const LENT: usize = ENTRIES + KEPT_BEHIND;
 
 // What the lowest bits of the third and of the fourth byte of a pair count for.
 pub const THIRD_BYTE: u32 = PLACES * PLACES;
@@ -318,6 +324,7 @@ const BLOCKS: [u16; LENT] = [
     0x0100,
     0,
     0,
+    0,
 ];
 
 // The table of blocks, to be lent to the functions below.
@@ -383,7 +390,7 @@ pub fn pick4(e: &[u16; LENT], pair: u32) -> u32
 
 // The rank of the pick between the two masks of a pair, among the tables of n inputs. The search calls it with the masks of a wire, which cover every
 // pattern. There is an arm for each number of inputs up to four. The cells are one less than the key.
-// One input is looked up as two: times 5, the two patterns of each mask stand there twice.
+// One input is looked up as two, the patterns of each mask beside themselves.
 pub fn pick(e: &[u16; LENT], n: u8, pair: u32) -> u32
     requires { ⌜ Blocks (now e) × (1 ≤ n) × (n ≤ narrowInputs) × (zerosIn pair < 2 ^ (2 ^ n)) × (onesIn pair < 2 ^ (2 ^ n))
         × Covered n (zerosIn pair) (onesIn pair) ⌝ }
@@ -391,7 +398,7 @@ pub fn pick(e: &[u16; LENT], n: u8, pair: u32) -> u32
 {
     match n {
         1 => {
-            let x = block(e, pair * 5);
+            let x = block(e, pair * BESIDE_ITSELF);
             (x / THREE_SPACE - 1) * NARROW_SPACE + x % ONE_SPACE
         }
         2 => {

@@ -1,12 +1,15 @@
-// The pick of five and of six inputs by halving, on the pick of four (document 02, E5): one common half, two halves under a selector, or the line of the first
-// input. Sixteen patterns come in one pair of masks (`picks`): two pairs for five inputs and four for six, the first for the lowest patterns.
+// The pick of five and of six inputs (document 02, E5), from picks of four: what suits both halves is taken for both, or each half has its own, or the first
+// input is soldered through. Sixteen patterns come in one pair of masks (`picks`): two pairs for five inputs and four for six, the first for the lowest patterns.
 // Of five inputs the key and the table stand in one number; a table of six inputs fills a number by itself.
 // Inner functions: the parts of a search meet what they require.
 use crate::picks::BLOCK_SPACE;
 use crate::picks::LENT;
+use crate::picks::NARROW_INPUTS;
+use crate::picks::NARROW_PATTERNS;
 use crate::picks::NARROW_SPACE;
 use crate::picks::NO_TABLE;
 use crate::picks::pick4;
+use sheet::Sheet;
 ghost use mathlib.Core.Path.{_≡_};
 ghost use mathlib.Core.Bool.{cond};
 ghost use Prim.Native.Nat.{_+_, _*_, _/_, _%_, _^_, _<_, _≤_, min};
@@ -23,13 +26,21 @@ pub struct Pick {
     pub table: u64,
 }
 
-// Above every table of four inputs, and of five.
-const FOUR_SPACE: u64 = NARROW_SPACE as u64;
+// A section of a table is its bits on as many patterns as four inputs have: the patterns of a section, the sections of the largest table, and above every
+// section.
+pub const SECTION: u8 = NARROW_PATTERNS as u8;
 
-const FIVE_SPACE: u64 = FOUR_SPACE * FOUR_SPACE;
+pub const SECTIONS: u8 = Sheet::MAX_PATTERNS as u8 / SECTION;
+
+pub const SECTION_SPACE: u64 = NARROW_SPACE as u64;
+
+// A table of two sections has one input more than a section, and is below this.
+const FIVE_INPUTS: u8 = NARROW_INPUTS + 1;
+
+const FIVE_SPACE: u64 = SECTION_SPACE * SECTION_SPACE;
 
 // Where no table suits.
-const NONE_OF_FOUR: u64 = NO_TABLE as u64 * FOUR_SPACE;
+const NONE_OF_FOUR: u64 = NO_TABLE as u64 * SECTION_SPACE;
 
 const NONE_OF_FIVE: u64 = NO_TABLE as u64 * FIVE_SPACE;
 
@@ -79,7 +90,7 @@ fn line_fits(low: u32, high: u32) -> bool
 // Four inputs. What two halves have in common often leaves a pattern neither 0 nor 1: then nothing is looked up.
 fn common_four(e: &[u16; LENT], pair: u32) -> u64
     requires { ⌜ Blocks (now e) ⌝ }
-    ensures { λ r. ⌜ PickShown 4 narrowSpace (zerosIn pair) (onesIn pair) r × (narrowSpace ≤ r) × (r ≤ noTable * narrowSpace) ⌝ }
+    ensures { λ r. ⌜ PickShown narrowInputs narrowSpace (zerosIn pair) (onesIn pair) r × (narrowSpace ≤ r) × (r ≤ noTable * narrowSpace) ⌝ }
 {
     if all_covered(pair) {
         pick4(e, pair) as u64
@@ -89,7 +100,7 @@ fn common_four(e: &[u16; LENT], pair: u32) -> u64
 }
 
 // The line of five inputs where it suits, and another number where it does not.
-fn line_or(low: u32, high: u32, other: u64) -> u64
+fn five_line_or(low: u32, high: u32, other: u64) -> u64
     ensures { λ r. ⌜ r ≡ cond (lineFits low high) lineOfFive other ⌝ }
 {
     if line_fits(low, high) {
@@ -107,8 +118,11 @@ fn pick5(e: &[u16; LENT], low: u32, high: u32) -> u64
     let a = pick4(e, low) as u64;
     let b = pick4(e, high) as u64;
     let c = common_four(e, low & high);
-    let two = a / FOUR_SPACE * FIVE_SPACE + a % FOUR_SPACE + b * FOUR_SPACE;
-    lesser_of(c * FOUR_SPACE + c % FOUR_SPACE, line_or(low, high, two))
+    let two = a / SECTION_SPACE * FIVE_SPACE + a % SECTION_SPACE + b * SECTION_SPACE;
+    lesser_of(
+        c * SECTION_SPACE + c % SECTION_SPACE,
+        five_line_or(low, high, two),
+    )
 }
 
 // The same, where some pattern may be left neither 0 nor 1.
@@ -126,7 +140,7 @@ fn common_five(e: &[u16; LENT], low: u32, high: u32) -> u64
 }
 
 // A pick by its key, which is one more than its cells.
-fn pick_of(key: u64, table: u64) -> Pick
+fn pick_by_key(key: u64, table: u64) -> Pick
     requires { ⌜ (1 ≤ key) × (key ≤ 2 * noTable) ⌝ }
     ensures { λ r. ⌜ (1 + r .cells ≡ key) × (r .table ≡ table) ⌝ }
 {
@@ -142,15 +156,15 @@ fn lesser_pick(key: u64, table: u64, cost: u64, other: u64) -> Pick
     ensures { λ r. ⌜ (1 + r .cells) * sixSpace + r .table ≡ min (key * sixSpace + table) (cost * sixSpace + other) ⌝ }
 {
     if key < cost {
-        return pick_of(key, table);
+        return pick_by_key(key, table);
     }
     if cost < key {
-        return pick_of(cost, other);
+        return pick_by_key(cost, other);
     }
     if table < other {
-        return pick_of(key, table);
+        return pick_by_key(key, table);
     }
-    pick_of(cost, other)
+    pick_by_key(cost, other)
 }
 
 // Two halves of five inputs under a selector, or the line in their place; beside what both have in common, twice.
@@ -194,7 +208,7 @@ pub fn wide_pick(e: &[u16; LENT], n: u8, a: u32, b: u32, c: u32, d: u32) -> Pick
     ensures { λ r. ⌜ (r .table ≡ pickOf (cells n) n (fourMasks (zerosIn a) (zerosIn b) (zerosIn c) (zerosIn d)) (fourMasks (onesIn a) (onesIn b) (onesIn c) (onesIn d)))
         × (r .cells ≡ cells n (r .table)) ⌝ }
 {
-    if n == 5 {
+    if n == FIVE_INPUTS {
         let x = pick5(e, a, b);
         return Pick {
             cells: (x / FIVE_SPACE - 1) as u32,

@@ -113,9 +113,9 @@ module _ (cs : List Command) (s : Sound cs) where
       subst (λ x. x < 2 ^ (2 ^ wiresOf cs)) (sym (set-entry p))
       (cond-has (λ x. x < 2 ^ (2 ^ wiresOf cs)) (ltb p (2 ^ inputsOf cs)) (λ _. set-below p) (λ _. omega (arith, set-below p)))
 
-  none-wide : widePattern (inputsOf cs) (wiresOf cs) (relationIn cs .sets) ≡ 2 ^ inputsOf cs
+  none-past-wires : widePattern (inputsOf cs) (wiresOf cs) (relationIn cs .sets) ≡ 2 ^ inputsOf cs
   unfolding widePattern
-  none-wide =
+  none-past-wires =
       lowest-none (2 ^ inputsOf cs) (λ p. leb (2 ^ (2 ^ wiresOf cs)) (getD (relationIn cs .sets) p 0))
       (λ p l. not-T (leb (2 ^ (2 ^ wiresOf cs)) (getD (relationIn cs .sets) p 0))
       (λ t. omega (arith, leb→le (2 ^ (2 ^ wiresOf cs)) (getD (relationIn cs .sets) p 0) t, entry-below p)))
@@ -131,12 +131,12 @@ module _ (cs : List Command) (s : Sound cs) where
     pub refused-empty : emptyIn cs < 2 ^ inputsOf cs → checkOf most (relationIn cs) ≡ refusedCase (refusalAt empty (emptyIn cs))
     unfolding relationIn
     refused-empty l =
-        check-none most (relationIn cs) sizes-pass (omega (arith, none-wide)) (subst (λ x. x < 2 ^ inputsOf cs) (sym empty-told) l)
+        check-none most (relationIn cs) sizes-pass (omega (arith, none-past-wires)) (subst (λ x. x < 2 ^ inputsOf cs) (sym empty-told) l)
         ∙ ap (λ p. refusedCase (refusalAt empty p)) empty-told
 
     pub passes-whole : 2 ^ inputsOf cs ≤ emptyIn cs → checkOf most (relationIn cs) ≡ acceptedCase
     unfolding relationIn
-    passes-whole l = check-passed most (relationIn cs) sizes-pass (omega (arith, none-wide)) (subst (λ x. 2 ^ inputsOf cs ≤ x) (sym empty-told) l)
+    passes-whole l = check-passed most (relationIn cs) sizes-pass (omega (arith, none-past-wires)) (subst (λ x. 2 ^ inputsOf cs ≤ x) (sym empty-told) l)
 
     -- a relation with no empty pattern is fit for the search
     pub fit-told : WellDefined (inputsOf cs) (wiresOf cs) (unitRelation cs) → Fit most (relationIn cs)

@@ -518,7 +518,7 @@ mod tests {
         }
         assert!(checked.held[0] > 5_000 && checked.held[1] > 1_500);
         let Wide { sums, parts, stopped_left, best_left, every_function } = checked.wide;
-        assert!(sums > 400 && parts > 200 && stopped_left < 200 && best_left < 5 && every_function > 400);
+        assert!(sums > 400 && parts > 200 && stopped_left < 200 && best_left == 0 && every_function > 400);
         assert!(checked.copies > 1_500 && checked.stages > 5_000 && checked.written > 10_000);
     }
 

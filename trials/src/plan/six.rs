@@ -1,6 +1,6 @@
 //! The cases of document 02, E5, behind all others: five and six inputs on the
-//! tree board, and what the board that shares selectors, which stays at four
-//! lines, makes of them. No search is run to draw them, so that they stay as they
+//! tree board, and what the board that shares selectors, which has at most four
+//! inputs, makes of them. No search is run to draw them, so that they stay as they
 //! are whatever is counted.
 
 use super::Planner;

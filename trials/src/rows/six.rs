@@ -132,7 +132,7 @@ fn stages() -> Vec<(&'static str, Case)> {
     ]
 }
 
-/// The board that shares selectors, which stays at four lines.
+/// The board that shares selectors, for which these inputs are too many.
 fn shared() -> Vec<(&'static str, Case)> {
     let constant = |n| [0x20, n, 0x01, 0x26, 0x00, 0x00, 0x00, 0x2F];
     let rows = vec![

@@ -1,8 +1,8 @@
 -- A board and its inputs as one number, and the table that picks on it are made from.
--- The number stands behind the entries of that table and goes with it down the whole search: one number more a call costs the search a tenth of its time.
-use Prim.Native.Nat.{ℕ, _+_, _%_, _≤_}
+-- The number stands behind the entries of that table and goes with it down the whole search, so that no call has one number more.
+use Prim.Native.Nat.{ℕ, _+_, _%_, _^_, _≤_}
 use mathlib.Core.Path.{_≡_}
-use mathlib.Core.Bool.{cond}
+use mathlib.Core.Bool.{Bool, cond}
 use mathlib.Core.List.{List}
 use lib.Dec.{ltb, leb}
 use lib.ListN.{getD}
@@ -38,6 +38,14 @@ boardIn e = getD e entries 0
 unfoldable pub lentWires : List ℕ → ℕ
 lentWires e = getD e (entries + 1) 0
 
+-- and behind that the number of patterns
+unfoldable pub lentCount : List ℕ → ℕ
+lentCount e = getD e (entries + 2) 0
+
+-- the board of the table is wide
+abbrev pub lentWide : List ℕ → Bool
+lentWide e = leb wideMark (boardIn e)
+
 abbrev pub lentKind : List ℕ → BoardKind
 lentKind e = kindIn (boardIn e)
 
@@ -55,3 +63,4 @@ pub record Lent (e : List ℕ) : Type 0 where
   pub least : 1 ≤ lentInputs e
   pub most : lentInputs e ≤ mostInputs (lentKind e)
   pub table : LentFor (lentKind e) e
+  pub count : lentCount e ≡ 2 ^ lentInputs e

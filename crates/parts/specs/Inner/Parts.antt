@@ -1,4 +1,4 @@
--- What the code carries of a part: its sets, the masks of its wires' projections as words, and its picks with their cells.
+-- What the code carries of a part: its sets, the masks of its wires' projections, and its picks with their cells.
 use Prim.Native.Nat.{ℕ, _^_, _<_}
 use mathlib.Core.Path.{_≡_}
 use mathlib.Core.List.{List}
@@ -10,7 +10,11 @@ use Rattle.nodes.specs.Counts.{mostInputs}
 use Rattle.relation.specs.Inner.Source.{WellDefined}
 use Rattle.relation.specs.Tests.{ofSets}
 use Rattle.relation.specs.Inner.Narrowed.{NonePast}
+use Rattle.table.specs.Inner.Wide.{sections}
+use Rattle.relation.specs.Inner.Side.{sideBySide}
 use Rattle.parts.specs.Inner.Words.{pairsOf}
+use Rattle.parts.specs.Inner.Masks.{maskCount, Halved, wordsOf}
+use Rattle.parts.specs.Inner.States.{sideAt}
 use Rattle.parts.specs.Inner.Picks.{tablesOf, cellsOf}
 
 -- the sets of a part: as many as there may be patterns, of values there are, empty past the last pattern, none empty before
@@ -20,10 +24,12 @@ pub record PartSets (n m : ℕ) (sets : List ℕ) : Type 0 where
   pub past : NonePast n sets
   pub defined : WellDefined n m (ofSets sets)
 
--- sets s, words w, tables t and cells c are those of one part
-pub record Carried (kind : BoardKind) (n m : ℕ) (s w t : List ℕ) (c : ℕ) : Type 0 where
+-- sets s, masks w, tables (those of the first section and, in the state l, of the others) and cells c are those of one part
+pub record Carried (kind : BoardKind) (n m : ℕ) (s w l : List ℕ) (low c : ℕ) : Type 0 where
   pub sized : Sized (mostInputs kind) n m
   pub sets : PartSets n m s
-  pub pairs : w ≡ pairsOf s
-  pub tables : t ≡ tablesOf kind n s
+  pub long : length w ≡ maskCount
+  pub halved : Halved w
+  pub masks : wordsOf w ≡ pairsOf s
+  pub tables : (q : ℕ) → q < sections → sideAt low l q ≡ sideBySide (tablesOf kind n s) q
   pub cells : c ≡ cellsOf kind n s

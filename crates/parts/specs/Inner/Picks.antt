@@ -1,16 +1,14 @@
 -- The picks of all wires: their tables, and their cells in one number.
-use Prim.Native.Nat.{ℕ}
-use mathlib.Core.Bool.{cond}
+use Prim.Native.Nat.{ℕ, _+_, _*_}
 use mathlib.Core.List.{List}
 use Rattle.sheet.specs.Limits.{maxWires}
 use Rattle.nodes.specs.declared.BoardKind.{BoardKind}
 use Rattle.nodes.specs.Counts.{countOf}
-use Rattle.table.specs.Bits.{bit, tabulate}
-use Rattle.table.specs.Inner.Ranks.{pickOf}
-use Rattle.relation.specs.Tests.{occurs}
-use Rattle.relation.specs.Inner.Members.{member}
+use Rattle.table.specs.Bits.{tabulate}
+use Rattle.table.specs.Inner.Ranks.{narrowSpace, pickOf}
+use Rattle.relation.specs.Inner.Side.{section}
 use Rattle.relation.specs.Inner.Masks.{maskOf}
-use Rattle.parts.specs.Inner.Words.{zerosOf, onesOf, cutWords}
+use Rattle.parts.specs.Inner.Words.{zerosOf, onesOf}
 use Rattle.parts.specs.Inner.Cells.{packed}
 use Rattle.parts.specs.Inner.Boards.{lentKind, lentInputs}
 
@@ -28,13 +26,13 @@ tablesOf kind n sets = tabulate maxWires (tableOf kind n sets)
 unfoldable pub cellsOf : BoardKind → ℕ → List ℕ → ℕ
 cellsOf kind n sets = packed (λ j. countOf kind n (tableOf kind n sets j))
 
--- the pick once pattern p has the set w: a pick whose bit on p still occurs is still the pick
-unfoldable pub tableAgain : BoardKind → (n table p j w : ℕ) → List ℕ → ℕ
-tableAgain kind n table p j w words = cond (occurs maxWires (member w) j (bit table p)) table (pickBetween kind n (cutWords words p w j) j)
-
 -- on the board whose table is lent: the pick, and its cells
 abbrev pub pickOn : (e words : List ℕ) → ℕ → ℕ
 pickOn e words j = pickBetween (lentKind e) (lentInputs e) words j
 
 abbrev pub cellsOn : (e words : List ℕ) → ℕ → ℕ
 cellsOn e words j = countOf (lentKind e) (lentInputs e) (pickOn e words j)
+
+-- both in one number: the cells, and the table on the first section
+abbrev pub sideRank : (e words : List ℕ) → ℕ → ℕ
+sideRank e words j = cellsOn e words j * narrowSpace + section (pickOn e words j) 0

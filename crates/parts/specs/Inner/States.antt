@@ -1,17 +1,53 @@
--- The state that the search lends down as one list. Of all its places a pick changes one, where it leaves its table.
-use Prim.Native.Nat.{ℕ, _<_}
+-- The state that the search lends down as one list: what stands where. The tables of four wires on a section of the patterns stand side by side in one number.
+use Prim.Native.Nat.{ℕ, _+_, _*_, _<_, _≤_}
 use mathlib.Core.Path.{_≡_}
+use mathlib.Core.Bool.{Bool, cond}
 use mathlib.Core.List.{List}
+use lib.Dec.{eqb}
 use lib.ListN.{length, getD}
+use Rattle.sheet.specs.Limits.{maxWires}
+use Rattle.table.specs.Inner.Wide.{sections}
+use Rattle.relation.specs.Inner.Side.{section}
+use Rattle.lanes.specs.Inner.Lanes.{putLane}
 
--- the place of the latest pick's table, behind all that the search keeps
-abbrev pub roomPlace : ℕ
-roomPlace = 8
+-- the best tables so far come first, a number for each section; behind them stand their cells, the visits charged, 1 once a part was left, and the budget
+abbrev pub cellsPlace : ℕ
+cellsPlace = sections
+
+abbrev pub visitsPlace : ℕ
+visitsPlace = cellsPlace + 1
+
+abbrev pub leftPlace : ℕ
+leftPlace = visitsPlace + 1
+
+abbrev pub budgetPlace : ℕ
+budgetPlace = leftPlace + 1
+
+-- the tables of the part at hand on the sections past the first: that of section q stands q places behind the budget
+abbrev pub restPlace : ℕ → ℕ
+restPlace q = budgetPlace + q
+
+-- the whole relation by value
+abbrev pub wholePlace : ℕ
+wholePlace = budgetPlace + sections
+
+abbrev pub wholeWords : ℕ
+wholeWords = sections * maxWires
 
 abbrev pub stateLength : ℕ
-stateLength = 9
+stateLength = wholePlace + wholeWords
 
--- what the search keeps is the same in both
-pub record SameFront (before after : List ℕ) : Type 0 where
+-- the tables of the part at hand on section q: those of the first section are handed down by themselves
+unfoldable pub sideAt : (low : ℕ) → List ℕ → ℕ → ℕ
+sideAt low state q = cond (eqb q 0) low (getD state (restPlace q) 0)
+
+-- all is the same in both but the tables of the part at hand
+pub record SameBut (before after : List ℕ) : Type 0 where
   pub long : length after ≡ stateLength
-  pub same : (i : ℕ) → i < roomPlace → getD after i 0 ≡ getD before i 0
+  pub front : (i : ℕ) → i ≤ budgetPlace → getD after i 0 ≡ getD before i 0
+  pub back : (i : ℕ) → wholePlace ≤ i → getD after i 0 ≡ getD before i 0
+
+-- where the board is wide, wire j has the table t on the sections past the first; where it is not, they are as they were
+pub record PutRest (wide : Bool) (j t : ℕ) (before after : List ℕ) : Type 0 where
+  pub same : SameBut before after
+  pub rest : (q : ℕ) → 1 ≤ q → q < sections → getD after (restPlace q) 0 ≡ cond wide (putLane (getD before (restPlace q) 0) j (section t q)) (getD before (restPlace q) 0)

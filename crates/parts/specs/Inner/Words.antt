@@ -4,17 +4,14 @@ use Prim.Native.Nat.{ℕ, _+_, _*_, _/_, _%_, _^_, _<_}
 use mathlib.Core.Bool.{cond}
 use mathlib.Core.List.{List}
 use lib.Dec.{eqb}
-use lib.ListN.{getD, set}
+use lib.ListN.{getD}
 use Rattle.sheet.specs.Limits.{maxWires, maxPatterns}
 use Rattle.table.specs.Bits.{bit, tabulate, ofBits}
 use Rattle.table.specs.Inner.Blocks.{Covered}
 use Rattle.table.specs.Inner.Pairs.{narrowPatterns, zerosIn, onesIn, paired}
+use Rattle.table.specs.Inner.Wide.{sections}
 use Rattle.relation.specs.Inner.Side.{section}
 use Rattle.relation.specs.Inner.Masks.{maskOf}
-use Rattle.parts.specs.Inner.Pairs.{cutPair}
-
-abbrev pub sections : ℕ
-sections = maxPatterns / narrowPatterns
 
 abbrev pub wordCount : ℕ
 wordCount = sections * maxWires
@@ -44,13 +41,6 @@ zerosOf words j = ofBits maxPatterns (λ p. bit (zerosIn (wordAt words p j)) (p 
 
 unfoldable pub onesOf : List ℕ → ℕ → ℕ
 onesOf words j = ofBits maxPatterns (λ p. bit (onesIn (wordAt words p j)) (p % narrowPatterns))
-
--- wire j's word of pattern p once the pattern has the set w, and the words with it
-abbrev pub cutWord : List ℕ → (p w j : ℕ) → ℕ
-cutWord words p w j = cutPair (wordAt words p j) (p % narrowPatterns) w j
-
-unfoldable pub cutWords : List ℕ → (p w j : ℕ) → List ℕ
-cutWords words p w j = set words (wordPlace (p / narrowPatterns) j) (cutWord words p w j)
 
 -- the words of all wires on section q, and the words with these replaced
 unfoldable pub rowOf : List ℕ → ℕ → List ℕ

@@ -1,5 +1,5 @@
-use Rattle.nodes.proofs.Counts.{most-inputs}
 -- `search_on` meets its contract: what the relation's test accepts is searched, and what it refuses is refused.
+use Rattle.nodes.proofs.Counts.{most-inputs}
 use mathlib.Core.Path.{_≡_, ap, sym, subst, _∙_}
 use lib.ListN.{length}
 use Rattle.sheet.specs.Limits.{maxPatterns}

@@ -3,16 +3,21 @@ use Prim.Native.Nat.{ℕ, _+_, _*_, _/_, _^_}
 use mathlib.Core.Bool.{Bool, not, _&&_}
 use lib.Bits.{bitAnd, bitOr}
 use lib.Dec.{eqb}
+use Rattle.sheet.specs.Limits.{maxInputs, maxPatterns}
 use Rattle.table.specs.Inner.Ranks.{narrowSpace}
-use Rattle.table.specs.Inner.Pairs.{upperHalf, zerosIn, onesIn}
+use Rattle.table.specs.Inner.Pairs.{narrowInputs, narrowPatterns, upperHalf, zerosIn, onesIn}
 use Rattle.table.specs.Inner.Blocks.{PickShown}
+
+-- a section of a table is its bits on narrowPatterns patterns: so many sections of the largest
+abbrev pub sections : ℕ
+sections = maxPatterns / narrowPatterns
 
 -- above every table of five inputs, and of six
 abbrev pub fiveSpace : ℕ
-fiveSpace = 2 ^ (2 ^ 5)
+fiveSpace = 2 ^ (2 ^ (narrowInputs + 1))
 
 abbrev pub sixSpace : ℕ
-sixSpace = 2 ^ (2 ^ 6)
+sixSpace = 2 ^ (2 ^ maxInputs)
 
 -- two masks of four inputs side by side, the first below; and four of them
 unfoldable pub twoMasks : (a b : ℕ) → ℕ
@@ -42,12 +47,12 @@ lineFits low high = hasSeats low zeroSeats && hasSeats high oneSeats
 
 -- a number shows the least table of five inputs between the masks of two pairs
 abbrev pub FiveShown : (low high x : ℕ) → Type 0
-FiveShown low high = PickShown 5 fiveSpace (twoMasks (zerosIn low) (zerosIn high)) (twoMasks (onesIn low) (onesIn high))
+FiveShown low high = PickShown (narrowInputs + 1) fiveSpace (twoMasks (zerosIn low) (zerosIn high)) (twoMasks (onesIn low) (onesIn high))
 
 -- the same of six inputs and four pairs
 abbrev pub SixShown : (a b c d x : ℕ) → Type 0
 SixShown a b c d =
-    PickShown 6 sixSpace (fourMasks (zerosIn a) (zerosIn b) (zerosIn c) (zerosIn d)) (fourMasks (onesIn a) (onesIn b) (onesIn c) (onesIn d))
+    PickShown maxInputs sixSpace (fourMasks (zerosIn a) (zerosIn b) (zerosIn c) (zerosIn d)) (fourMasks (onesIn a) (onesIn b) (onesIn c) (onesIn d))
 
 -- the first of five inputs, and of six, as numbers that show it: its key is 1
 abbrev pub lineOfFive : ℕ

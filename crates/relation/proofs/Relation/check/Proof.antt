@@ -13,7 +13,7 @@ use Rattle.sheet.proofs.Sizes.{sizes-in}
 use Rattle.relation.specs.declared.Relation.{Relation}
 use Rattle.relation.specs.Handed.{widePattern, relationOf}
 use Rattle.relation.specs.Tests.{emptyPattern}
-use Rattle.relation.proofs.Fits.{sized-within, none-wide, empty-zero, check-sizes, check-wide, check-none, check-passed}
+use Rattle.relation.proofs.Fits.{sized-within, sets-below, empty-zero, check-sizes, check-wide, check-none, check-passed}
 use Rattle.relation.proofs.Relation.check.Statement.{statement}
 use Rattle.relation.proofs.Relation.check.Tie as tie
 
@@ -25,7 +25,7 @@ sizes-of most r h e = sized-within most (r .n) (r .m) h (sizes-in most (r .n) (r
 none-is : (r : Relation) (k : ℕ) → 2 ^ r .n ≤ widePattern (r .n) (r .m) (r .sets) → k ≡ lowest (2 ^ r .n) (λ p. eqb (getD (r .sets) p 0) 0)
     → k ≡ emptyPattern (r .n) (r .m) (relationOf r)
 unfolding relationOf
-none-is r k w e = e ∙ sym (empty-zero (r .n) (r .m) (r .sets) (none-wide (r .n) (r .m) (r .sets) w))
+none-is r k w e = e ∙ sym (empty-zero (r .n) (r .m) (r .sets) (sets-below (r .n) (r .m) (r .sets) w))
 
 sizes-out-requires : tie.Need-sizes-out-requires
 sizes-out-requires c κs = search needs

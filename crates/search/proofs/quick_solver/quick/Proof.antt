@@ -7,7 +7,7 @@ use lib.ListN.{length}
 use Rattle.parts.specs.Inner.Boards.{lentKind, lentInputs, lentWires}
 use Rattle.parts.specs.Inner.States.{stateLength}
 use Rattle.parts.specs.Inner.Picks.{tableOf}
-use Rattle.search.proofs.Lending.{board-small, wires-small, inputs-told, wires-told, inputs-few}
+use Rattle.parts.proofs.Lending.{board-small, wires-small, inputs-told, wires-told, inputs-few}
 use Rattle.search.proofs.FirstAnswer.{ChosenBelow, row-long, none-taken, next-taken, all-taken}
 use Rattle.search.proofs.quick_solver.quick.Statement.{statement}
 use Rattle.search.proofs.quick_solver.quick.Tie as tie
@@ -32,12 +32,6 @@ cast-inputs-of c = omega (arith, board-small (c .before .pre .0))
 
 inputs-of-requires : tie.Need-inputs-of-requires Inv-loop μ-loop
 inputs-of-requires c κs = tt
-
-add-m : tie.Need-add-m Inv-loop μ-loop
-add-m c = search needs
-
-mul-m : tie.Need-mul-m Inv-loop μ-loop
-mul-m c = search needs
 
 element-copy-out-m : tie.Need-element-copy-out-m Inv-loop μ-loop
 element-copy-out-m c = search needs
@@ -119,8 +113,6 @@ quick-spec =
     element-copy-out-inputs-of
     cast-inputs-of
     inputs-of-requires
-    add-m
-    mul-m
     element-copy-out-m
     cast-m
     loop-holds

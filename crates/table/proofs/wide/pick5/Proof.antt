@@ -47,15 +47,15 @@ mul-lesser-of c = search needs
 add-lesser-of : tie.Need-add-lesser-of
 add-lesser-of c = search needs
 
-line-or-requires : tie.Need-line-or-requires
-line-or-requires c κs = search needs
+five-line-or-requires : tie.Need-five-line-or-requires
+five-line-or-requires c κs = search needs
 
 lesser-of-requires : tie.Need-lesser-of-requires
 lesser-of-requires c κs = search needs
 
 returns : tie.Need-returns
 returns c =
-    let l = c .before .line-or in
+    let l = c .before .five-line-or in
     let d = c .before .before .common-four in
     let b = c .before .before .before .pick42 in
     let a = c .before .before .before .before .pick4 in
@@ -85,6 +85,6 @@ pick5-spec =
     add-two-2
     mul-lesser-of
     add-lesser-of
-    line-or-requires
+    five-line-or-requires
     lesser-of-requires
     returns)

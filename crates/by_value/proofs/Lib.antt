@@ -1,0 +1,7 @@
+pub mod Lanes
+pub mod Chosen
+pub mod Refused
+pub mod Spreads
+pub mod Words
+pub mod Puts
+pub mod Told

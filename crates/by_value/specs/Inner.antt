@@ -1,0 +1,2 @@
+-- What only inner functions and the laws use.
+pub mod ByValue

@@ -1,0 +1,4 @@
+pub mod Agreeing
+pub mod Making
+pub mod MadeAgain
+pub mod Driven

@@ -1,0 +1,3 @@
+-- Meanings that only inner functions use: no public contract reaches them.
+pub mod Remade
+pub mod Whole

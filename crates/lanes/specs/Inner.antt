@@ -1,0 +1,2 @@
+-- Meanings that only inner functions use: no public contract reaches them.
+pub mod Lanes
