@@ -44,7 +44,7 @@ ghost use Rattle.halves.specs.Inner.Whole.{Whole};
 
 // Steps 2 to 4 of the search for one part, whose cells are fewer than the best: who calls it has made step 1. Its picks are allowed on the patterns below `from`.
 pub fn visit(
-    e: &[u16; LENT],
+    e: &[u32; LENT],
     sets: &mut [u16; Sheet::MAX_PATTERNS],
     masks: &mut [u16; MASKS],
     state: &mut [u64; STATE],
@@ -75,7 +75,7 @@ pub fn visit(
 
 // The two parts of a split, wire j at 0 on pattern p before wire j at 1. A part whose cells reach the best is not visited: it would be discarded.
 fn split(
-    e: &[u16; LENT],
+    e: &[u32; LENT],
     sets: &mut [u16; Sheet::MAX_PATTERNS],
     masks: &mut [u16; MASKS],
     state: &mut [u64; STATE],

@@ -52,7 +52,7 @@ pub fn cut_at(masks: &mut [u16; MASKS], p: u8, row: u64, set: u16)
 
 // The picks of these wires made again, from the first on, as long as the cells of all wires are fewer than the best.
 pub fn again(
-    e: &[u16; LENT],
+    e: &[u32; LENT],
     masks: &[u16; MASKS],
     state: &mut [u64; STATE],
     wires: u64,

@@ -32,7 +32,7 @@ pub fn driven_on(state: &[u64; STATE], low: u64, p: u8) -> u64
 }
 
 // A pattern below which a part is without conflict. Where no pick was made again, the conflict stays where it was.
-pub fn begin_at(e: &[u16; LENT], state: &[u64; STATE], wires: u64, low: u64, p: u8) -> u8
+pub fn begin_at(e: &[u32; LENT], state: &[u64; STATE], wires: u64, low: u64, p: u8) -> u8
     requires { ⌜ Lent (now e) ⌝ }
     ensures { λ r. ⌜ (wires ≡ 0 → r ≡ p) × (0 < wires → AllowedBelow (lentWide (now (e .entry))) (lentInputs (now (e .entry))) low (now (state .entry)) r) ⌝ }
 {

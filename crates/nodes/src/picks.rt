@@ -19,272 +19,272 @@ ghost use mathlib.Core.Path.{_≡_};
 ghost use Prim.Native.Nat.{_<_, _≤_, _+_, _*_, _^_};
 ghost use Rattle.sheet.specs.Limits.{maxSharedInputs};
 ghost use Rattle.table.specs.Inner.Ranks.{pickOf, rank};
-ghost use Rattle.table.specs.Inner.Blocks.{noEntry, Covered};
+ghost use Rattle.table.specs.Inner.Blocks.{Covered};
 ghost use Rattle.table.specs.Inner.Pairs.{zerosIn, onesIn};
 ghost use Rattle.nodes.specs.Nodes.{nodes};
 ghost use Rattle.nodes.specs.Inner.Tops.{Tops};
 ghost use Rattle.nodes.specs.Inner.Ways.{quarterEntryAt, classAt, lineAt, mostClass, noLine, allPlaces, apartAt, halfAt, classIn, lineIn, four, halvesAlike, treeLike, threeAlike, crossedAlike, besideAlike, acrossAlike, wayOf, noInverted};
 
-// The best quarter of each pair of masks, at zeros * BLOCK_SPACE + ones: THREE_SPACE where it needs a selector that counts, and the quarter twice side by side.
+// The best quarter of each pair of masks, at zeros * BLOCK_SPACE + ones: NODE where it needs a selector that counts, and the quarter four times side by side.
 // Where some pattern is in no mask there is none: NO_TABLE selectors. What stands below a quarter is not counted. The places past the entries are
 // the search's.
-const TOPS: [u16; LENT] = [
-    0x8000,
-    0x8000,
-    0x8000,
-    0x8000,
-    0x8000,
-    0x8000,
-    0x8000,
-    0x8000,
-    0x8000,
-    0x8000,
-    0x8000,
-    0x8000,
-    0x8000,
-    0x8000,
-    0x8000,
-    0x00ff,
-    0x8000,
-    0x8000,
-    0x8000,
-    0x8000,
-    0x8000,
-    0x8000,
-    0x8000,
-    0x8000,
-    0x8000,
-    0x8000,
-    0x8000,
-    0x8000,
-    0x8000,
-    0x8000,
-    0x01ee,
-    0x00ff,
-    0x8000,
-    0x8000,
-    0x8000,
-    0x8000,
-    0x8000,
-    0x8000,
-    0x8000,
-    0x8000,
-    0x8000,
-    0x8000,
-    0x8000,
-    0x8000,
-    0x8000,
-    0x01dd,
-    0x8000,
-    0x00ff,
-    0x8000,
-    0x8000,
-    0x8000,
-    0x8000,
-    0x8000,
-    0x8000,
-    0x8000,
-    0x8000,
-    0x8000,
-    0x8000,
-    0x8000,
-    0x8000,
-    0x00cc,
-    0x00cc,
-    0x00cc,
-    0x00cc,
-    0x8000,
-    0x8000,
-    0x8000,
-    0x8000,
-    0x8000,
-    0x8000,
-    0x8000,
-    0x8000,
-    0x8000,
-    0x8000,
-    0x8000,
-    0x01bb,
-    0x8000,
-    0x8000,
-    0x8000,
-    0x00ff,
-    0x8000,
-    0x8000,
-    0x8000,
-    0x8000,
-    0x8000,
-    0x8000,
-    0x8000,
-    0x8000,
-    0x8000,
-    0x8000,
-    0x00aa,
-    0x00aa,
-    0x8000,
-    0x8000,
-    0x00aa,
-    0x00aa,
-    0x8000,
-    0x8000,
-    0x8000,
-    0x8000,
-    0x8000,
-    0x8000,
-    0x8000,
-    0x8000,
-    0x8000,
-    0x0199,
-    0x8000,
-    0x0199,
-    0x8000,
-    0x0199,
-    0x8000,
-    0x00ff,
-    0x8000,
-    0x8000,
-    0x8000,
-    0x8000,
-    0x8000,
-    0x8000,
-    0x8000,
-    0x8000,
-    0x0188,
-    0x0188,
-    0x00aa,
-    0x00aa,
-    0x00cc,
-    0x00cc,
-    0x00aa,
-    0x00aa,
-    0x8000,
-    0x8000,
-    0x8000,
-    0x8000,
-    0x8000,
-    0x8000,
-    0x8000,
-    0x0177,
-    0x8000,
-    0x8000,
-    0x8000,
-    0x8000,
-    0x8000,
-    0x8000,
-    0x8000,
-    0x00ff,
-    0x8000,
-    0x8000,
-    0x8000,
-    0x8000,
-    0x8000,
-    0x8000,
-    0x0166,
-    0x0166,
-    0x8000,
-    0x8000,
-    0x8000,
-    0x8000,
-    0x8000,
-    0x8000,
-    0x0166,
-    0x00ff,
-    0x8000,
-    0x8000,
-    0x8000,
-    0x8000,
-    0x8000,
-    0x0055,
-    0x8000,
-    0x0055,
-    0x8000,
-    0x8000,
-    0x8000,
-    0x8000,
-    0x8000,
-    0x0055,
-    0x8000,
-    0x0055,
-    0x8000,
-    0x8000,
-    0x8000,
-    0x8000,
-    0x0144,
-    0x0055,
-    0x0144,
-    0x0055,
-    0x8000,
-    0x8000,
-    0x8000,
-    0x8000,
-    0x00cc,
-    0x0055,
-    0x00cc,
-    0x0055,
-    0x8000,
-    0x8000,
-    0x8000,
-    0x0133,
-    0x8000,
-    0x8000,
-    0x8000,
-    0x0133,
-    0x8000,
-    0x8000,
-    0x8000,
-    0x0133,
-    0x8000,
-    0x8000,
-    0x8000,
-    0x00ff,
-    0x8000,
-    0x8000,
-    0x0122,
-    0x0122,
-    0x8000,
-    0x8000,
-    0x0122,
-    0x0122,
-    0x8000,
-    0x8000,
-    0x00aa,
-    0x00aa,
-    0x8000,
-    0x8000,
-    0x00aa,
-    0x00aa,
-    0x8000,
-    0x0111,
-    0x8000,
-    0x0111,
-    0x8000,
-    0x0055,
-    0x8000,
-    0x0055,
-    0x8000,
-    0x0111,
-    0x8000,
-    0x0111,
-    0x8000,
-    0x0055,
-    0x8000,
-    0x0055,
-    0x0000,
-    0x0000,
-    0x0000,
-    0x0000,
-    0x0000,
-    0x0000,
-    0x0000,
-    0x0000,
-    0x0000,
-    0x0000,
-    0x0000,
-    0x0000,
-    0x0000,
-    0x0000,
-    0x0000,
-    0x0000,
+const TOPS: [u32; LENT] = [
+    0x800000,
+    0x800000,
+    0x800000,
+    0x800000,
+    0x800000,
+    0x800000,
+    0x800000,
+    0x800000,
+    0x800000,
+    0x800000,
+    0x800000,
+    0x800000,
+    0x800000,
+    0x800000,
+    0x800000,
+    0x00ffff,
+    0x800000,
+    0x800000,
+    0x800000,
+    0x800000,
+    0x800000,
+    0x800000,
+    0x800000,
+    0x800000,
+    0x800000,
+    0x800000,
+    0x800000,
+    0x800000,
+    0x800000,
+    0x800000,
+    0x01eeee,
+    0x00ffff,
+    0x800000,
+    0x800000,
+    0x800000,
+    0x800000,
+    0x800000,
+    0x800000,
+    0x800000,
+    0x800000,
+    0x800000,
+    0x800000,
+    0x800000,
+    0x800000,
+    0x800000,
+    0x01dddd,
+    0x800000,
+    0x00ffff,
+    0x800000,
+    0x800000,
+    0x800000,
+    0x800000,
+    0x800000,
+    0x800000,
+    0x800000,
+    0x800000,
+    0x800000,
+    0x800000,
+    0x800000,
+    0x800000,
+    0x00cccc,
+    0x00cccc,
+    0x00cccc,
+    0x00cccc,
+    0x800000,
+    0x800000,
+    0x800000,
+    0x800000,
+    0x800000,
+    0x800000,
+    0x800000,
+    0x800000,
+    0x800000,
+    0x800000,
+    0x800000,
+    0x01bbbb,
+    0x800000,
+    0x800000,
+    0x800000,
+    0x00ffff,
+    0x800000,
+    0x800000,
+    0x800000,
+    0x800000,
+    0x800000,
+    0x800000,
+    0x800000,
+    0x800000,
+    0x800000,
+    0x800000,
+    0x00aaaa,
+    0x00aaaa,
+    0x800000,
+    0x800000,
+    0x00aaaa,
+    0x00aaaa,
+    0x800000,
+    0x800000,
+    0x800000,
+    0x800000,
+    0x800000,
+    0x800000,
+    0x800000,
+    0x800000,
+    0x800000,
+    0x019999,
+    0x800000,
+    0x019999,
+    0x800000,
+    0x019999,
+    0x800000,
+    0x00ffff,
+    0x800000,
+    0x800000,
+    0x800000,
+    0x800000,
+    0x800000,
+    0x800000,
+    0x800000,
+    0x800000,
+    0x018888,
+    0x018888,
+    0x00aaaa,
+    0x00aaaa,
+    0x00cccc,
+    0x00cccc,
+    0x00aaaa,
+    0x00aaaa,
+    0x800000,
+    0x800000,
+    0x800000,
+    0x800000,
+    0x800000,
+    0x800000,
+    0x800000,
+    0x017777,
+    0x800000,
+    0x800000,
+    0x800000,
+    0x800000,
+    0x800000,
+    0x800000,
+    0x800000,
+    0x00ffff,
+    0x800000,
+    0x800000,
+    0x800000,
+    0x800000,
+    0x800000,
+    0x800000,
+    0x016666,
+    0x016666,
+    0x800000,
+    0x800000,
+    0x800000,
+    0x800000,
+    0x800000,
+    0x800000,
+    0x016666,
+    0x00ffff,
+    0x800000,
+    0x800000,
+    0x800000,
+    0x800000,
+    0x800000,
+    0x005555,
+    0x800000,
+    0x005555,
+    0x800000,
+    0x800000,
+    0x800000,
+    0x800000,
+    0x800000,
+    0x005555,
+    0x800000,
+    0x005555,
+    0x800000,
+    0x800000,
+    0x800000,
+    0x800000,
+    0x014444,
+    0x005555,
+    0x014444,
+    0x005555,
+    0x800000,
+    0x800000,
+    0x800000,
+    0x800000,
+    0x00cccc,
+    0x005555,
+    0x00cccc,
+    0x005555,
+    0x800000,
+    0x800000,
+    0x800000,
+    0x013333,
+    0x800000,
+    0x800000,
+    0x800000,
+    0x013333,
+    0x800000,
+    0x800000,
+    0x800000,
+    0x013333,
+    0x800000,
+    0x800000,
+    0x800000,
+    0x00ffff,
+    0x800000,
+    0x800000,
+    0x012222,
+    0x012222,
+    0x800000,
+    0x800000,
+    0x012222,
+    0x012222,
+    0x800000,
+    0x800000,
+    0x00aaaa,
+    0x00aaaa,
+    0x800000,
+    0x800000,
+    0x00aaaa,
+    0x00aaaa,
+    0x800000,
+    0x011111,
+    0x800000,
+    0x011111,
+    0x800000,
+    0x005555,
+    0x800000,
+    0x005555,
+    0x800000,
+    0x011111,
+    0x800000,
+    0x011111,
+    0x800000,
+    0x005555,
+    0x800000,
+    0x005555,
+    0x000000,
+    0x000000,
+    0x000000,
+    0x000000,
+    0x000000,
+    0x000000,
+    0x000000,
+    0x000000,
+    0x000000,
+    0x000000,
+    0x000000,
+    0x000000,
+    0x000000,
+    0x000000,
+    0x000000,
+    0x000000,
     0,
     0,
     0,
@@ -327,31 +327,30 @@ const FOUR_TIMES: u32 = TWICE + PLACES * TWICE;
 const EIGHT_TIMES: u32 = (1 + ONE_SPACE) * FOUR_TIMES;
 
 // The table of the best quarters, to be lent to the functions below.
-pub fn tops() -> [u16; LENT]
+pub fn tops() -> [u32; LENT]
     ensures { λ r. ⌜ Tops r ⌝ }
 {
     TOPS
 }
 
 // The best quarter between the masks in the lowest byte of `at`: an entry of the table.
-fn quarter_entry(e: &[u16; LENT], at: u32) -> u32
+fn quarter_entry(e: &[u32; LENT], at: u32) -> u32
     requires { ⌜ Tops (now e) ⌝ }
-    ensures { λ r. ⌜ (r ≡ quarterEntryAt at) × (r ≤ noEntry) ⌝ }
+    ensures { λ r. ⌜ (r ≡ quarterEntryAt at) × (r ≤ mostClass) ⌝ }
 {
-    e[(at % PLACES) as usize] as u32
+    e[(at % PLACES) as usize]
 }
 
-// The same for the quarters of a class, at their places: twice the entry has the quarter four times, and the places are cut out.
-fn class(e: &[u16; LENT], at: u32, places: u32) -> u32
+// The same for the quarters of a class, at their places: these are cut out of the entry.
+fn class(e: &[u32; LENT], at: u32, places: u32) -> u32
     requires { ⌜ Tops (now e) × (places ≤ allPlaces) ⌝ }
     ensures { λ r. ⌜ (r ≡ classAt at places) × (r ≤ mostClass) ⌝ }
 {
-    let x = quarter_entry(e, at);
-    (x * THREE_SPACE + x % THREE_SPACE) & (NODES + places * DIGIT)
+    quarter_entry(e, at) & (NODES + places * DIGIT)
 }
 
 // Two classes, of masks x and y at the places i and j.
-fn apart(e: &[u16; LENT], x: u32, y: u32, i: u32, j: u32) -> u32
+fn apart(e: &[u32; LENT], x: u32, y: u32, i: u32, j: u32) -> u32
     requires { ⌜ Tops (now e) × (i ≤ allPlaces) × (j ≤ allPlaces) ⌝ }
     ensures { λ r. ⌜ (r ≡ apartAt x y i j) × (r ≤ 2 * mostClass) ⌝ }
 {
@@ -372,7 +371,7 @@ fn line_rank(x: u32, y: u32, j: u32) -> u32
 }
 
 // The two quarters of a half, of masks x and y at the places i and j: one class, a line, or two classes and a selector.
-fn half(e: &[u16; LENT], x: u32, y: u32, i: u32, j: u32) -> u32
+fn half(e: &[u32; LENT], x: u32, y: u32, i: u32, j: u32) -> u32
     requires { ⌜ Tops (now e) × (i + j ≤ allPlaces) ⌝ }
     ensures { λ r. ⌜ (r ≡ halfAt x y i j) × (r ≤ mostClass) ⌝ }
 {
@@ -383,7 +382,7 @@ fn half(e: &[u16; LENT], x: u32, y: u32, i: u32, j: u32) -> u32
 }
 
 // Equal halves: one class, a line, or two classes and a selector for both halves.
-fn halves_alike(e: &[u16; LENT], a: u32, b: u32, c: u32, d: u32) -> u32
+fn halves_alike(e: &[u32; LENT], a: u32, b: u32, c: u32, d: u32) -> u32
     requires { ⌜ Tops (now e) ⌝ }
     ensures { λ r. ⌜ (r ≡ halvesAlike (classIn (four a b c d)) (lineIn (four a b c d))) × (r ≤ mostClass) ⌝ }
 {
@@ -397,7 +396,7 @@ fn halves_alike(e: &[u16; LENT], a: u32, b: u32, c: u32, d: u32) -> u32
 }
 
 // Halves that share no quarter.
-fn tree_like(e: &[u16; LENT], a: u32, b: u32, c: u32, d: u32) -> u32
+fn tree_like(e: &[u32; LENT], a: u32, b: u32, c: u32, d: u32) -> u32
     requires { ⌜ Tops (now e) ⌝ }
     ensures { λ r. ⌜ r ≡ treeLike (classIn (four a b c d)) (lineIn (four a b c d)) ⌝ }
 {
@@ -405,7 +404,7 @@ fn tree_like(e: &[u16; LENT], a: u32, b: u32, c: u32, d: u32) -> u32
 }
 
 // Three quarters alike: a selector for the half that has the fourth.
-fn three_alike(e: &[u16; LENT], a: u32, b: u32, c: u32, d: u32) -> u32
+fn three_alike(e: &[u32; LENT], a: u32, b: u32, c: u32, d: u32) -> u32
     requires { ⌜ Tops (now e) ⌝ }
     ensures { λ r. ⌜ r ≡ threeAlike (classIn (four a b c d)) ⌝ }
 {
@@ -421,7 +420,7 @@ fn three_alike(e: &[u16; LENT], a: u32, b: u32, c: u32, d: u32) -> u32
 }
 
 // The first quarter of one half is the second of the other.
-fn crossed(e: &[u16; LENT], a: u32, b: u32, c: u32, d: u32) -> u32
+fn crossed(e: &[u32; LENT], a: u32, b: u32, c: u32, d: u32) -> u32
     requires { ⌜ Tops (now e) ⌝ }
     ensures { λ r. ⌜ (r ≡ crossedAlike (classIn (four a b c d))) × (r ≤ 3 * mostClass) ⌝ }
 {
@@ -434,7 +433,7 @@ fn crossed(e: &[u16; LENT], a: u32, b: u32, c: u32, d: u32) -> u32
 }
 
 // The halves have their first quarter in common, or their second.
-fn beside(e: &[u16; LENT], a: u32, b: u32, c: u32, d: u32) -> u32
+fn beside(e: &[u32; LENT], a: u32, b: u32, c: u32, d: u32) -> u32
     requires { ⌜ Tops (now e) ⌝ }
     ensures { λ r. ⌜ (r ≡ besideAlike (classIn (four a b c d))) × (r ≤ 3 * mostClass) ⌝ }
 {
@@ -445,7 +444,7 @@ fn beside(e: &[u16; LENT], a: u32, b: u32, c: u32, d: u32) -> u32
 }
 
 // A quarter of one half is a quarter of the other, and both halves need a selector.
-fn across_alike(e: &[u16; LENT], a: u32, b: u32, c: u32, d: u32) -> u32
+fn across_alike(e: &[u32; LENT], a: u32, b: u32, c: u32, d: u32) -> u32
     requires { ⌜ Tops (now e) ⌝ }
     ensures { λ r. ⌜ r ≡ acrossAlike (classIn (four a b c d)) ⌝ }
 {
@@ -454,7 +453,7 @@ fn across_alike(e: &[u16; LENT], a: u32, b: u32, c: u32, d: u32) -> u32
 
 // The least over the fifteen ways in which the quarters of a pair coincide and over the lines, with no selectors on input 4 counted. Where both halves have
 // the same masks, equal halves are the best: so it is with every pair of fewer than four inputs, repeated.
-fn way(e: &[u16; LENT], pair: u32) -> u32
+fn way(e: &[u32; LENT], pair: u32) -> u32
     requires { ⌜ Tops (now e) ⌝ }
     ensures { λ r. ⌜ (r ≡ wayOf pair) × (r ≤ mostClass) ⌝ }
 {
@@ -483,7 +482,7 @@ fn no_inverted(pair: u32) -> u32
 
 // Four inputs: the least without the inverse of input 4 and with it, which is a selector. What counts for none is less than anything with that selector, so the
 // second turn is for others alone. The two turns stand in a loop, so that the compiled pick stays a function of its own.
-fn pick4(e: &[u16; LENT], pair: u32) -> u32
+fn pick4(e: &[u32; LENT], pair: u32) -> u32
     requires { ⌜ Tops (now e) × Covered 4 (zerosIn pair) (onesIn pair) ⌝ }
     ensures { λ r. ⌜ r ≡ rank (nodes 4) (pickOf (nodes 4) 4 (zerosIn pair) (onesIn pair)) ⌝ }
 {
@@ -502,7 +501,7 @@ fn pick4(e: &[u16; LENT], pair: u32) -> u32
 
 // The rank of the pick between the two masks of a pair, among the tables of n inputs. Fewer than four inputs are looked up as four: the masks of a pair
 // repeated have the pick repeated.
-pub fn pick_shared(e: &[u16; LENT], n: u8, pair: u32) -> u32
+pub fn pick_shared(e: &[u32; LENT], n: u8, pair: u32) -> u32
     requires { ⌜ Tops (now e) × (1 ≤ n) × (n ≤ maxSharedInputs) × (zerosIn pair < 2 ^ (2 ^ n)) × (onesIn pair < 2 ^ (2 ^ n))
         × Covered n (zerosIn pair) (onesIn pair) ⌝ }
     ensures { λ r. ⌜ r ≡ rank (nodes n) (pickOf (nodes n) n (zerosIn pair) (onesIn pair)) ⌝ }

@@ -125,8 +125,8 @@ module _ (e : List ℕ) (board wires count : ℕ) where
   marked-count l =
       getD-set-same (set (set e entries board) (entries + 1) wires) (entries + 2) count 0 (rw (length-set (set e entries board) (entries + 1) wires, length-set e entries board) l)
 
-  marked-blocks : (key : ℕ → ℕ) → BestBlocks key e → BestBlocks key marked
-  marked-blocks key b =
+  marked-blocks : (written key : ℕ → ℕ) → BestBlocks written key e → BestBlocks written key marked
+  marked-blocks written key b =
       record {
         entry = λ zeros ones lz lo.
             let k = zeros * blockSpace + ones in
@@ -136,5 +136,5 @@ module _ (e : List ℕ) (board wires count : ℕ) where
       }
 
   pub marked-entries : (kind : BoardKind) → LentFor kind e → LentFor kind marked
-  marked-entries Tree b = marked-blocks _ b
-  marked-entries Sharing b = marked-blocks _ b
+  marked-entries Tree b = marked-blocks _ _ b
+  marked-entries Sharing b = marked-blocks _ _ b

@@ -33,7 +33,7 @@ ghost use Rattle.parts.specs.Inner.States.{stateLength, PutRest};
 
 // The pick on a wide board, from the words of all sections.
 fn pick_wide(
-    e: &[u16; LENT],
+    e: &[u32; LENT],
     board: u8,
     masks: &[u16; MASKS],
     j: u8,
@@ -56,7 +56,7 @@ fn pick_wide(
 }
 
 // The rank of the pick on any other board, whose masks stand in one word.
-fn pick_narrow(e: &[u16; LENT], board: u8, x: u32) -> u32
+fn pick_narrow(e: &[u32; LENT], board: u8, x: u32) -> u32
     requires { ⌜ Lent (now e) × (board ≡ boardIn (now e)) × (board < wideMark) × (zerosIn x < 2 ^ (2 ^ lentInputs (now e))) × (onesIn x < 2 ^ (2 ^ lentInputs (now e)))
         × Covered (lentInputs (now e)) (zerosIn x) (onesIn x) ⌝ }
     ensures { λ r. ⌜ r ≡ rank (countOf (lentKind (now (e .entry))) (lentInputs (now (e .entry))))
@@ -70,7 +70,7 @@ fn pick_narrow(e: &[u16; LENT], board: u8, x: u32) -> u32
 }
 
 // The pick of wire j. The board of trees with as many inputs as one word has is asked for first: it is the commonest, and its pick then needs no register saved.
-pub fn pick_at(e: &[u16; LENT], masks: &[u16; MASKS], j: u8, state: &mut [u64; STATE]) -> u32
+pub fn pick_at(e: &[u32; LENT], masks: &[u16; MASKS], j: u8, state: &mut [u64; STATE]) -> u32
     requires { ⌜ Lent (now e) × (j < maxWires) × Covers (lentInputs (now e)) (wordsOf (now masks)) j × (length (now state) ≡ stateLength) ⌝ }
     ensures { λ r. ⌜ (r ≡ sideRank (now (e .entry)) (wordsOf (now (masks .entry))) j)
         × PutRest (lentWide (now (e .entry))) j (pickOn (now (e .entry)) (wordsOf (now (masks .entry))) j) (now (state .entry)) (now (state .exit)) ⌝ }

@@ -57,7 +57,7 @@ pub struct WholePart {
 
 // The picks of all wires are made. Those of the sections past the first are put into the state.
 pub fn whole_part(
-    e: &[u16; LENT],
+    e: &[u32; LENT],
     sets: &[u16; Sheet::MAX_PATTERNS],
     state: &mut [u64; STATE],
 ) -> WholePart
@@ -100,7 +100,7 @@ fn keep_tables(
 
 // The first answer is kept as the best so far. Its picks change the tables of the part at hand, which are put back.
 pub fn keep_first(
-    e: &[u16; LENT],
+    e: &[u32; LENT],
     sets: [u16; Sheet::MAX_PATTERNS],
     low: u64,
     cells: u64,
@@ -133,7 +133,7 @@ fn seen_of(wide: bool) -> u8
 
 // The search begins, and the state has the relation by value.
 pub fn begin_search(
-    e: &[u16; LENT],
+    e: &[u32; LENT],
     sets: &[u16; Sheet::MAX_PATTERNS],
     budget: u32,
     state: &mut [u64; STATE],

@@ -62,7 +62,7 @@ pub struct Answer {
 
 // The search of the whole relation as the first part. Where its cells reach the best, which is the first answer, it is discarded.
 fn search_whole(
-    e: &[u16; LENT],
+    e: &[u32; LENT],
     sets: [u16; Sheet::MAX_PATTERNS],
     masks: [u16; MASKS],
     low: u64,
@@ -110,7 +110,7 @@ fn reply(state: &[u64; STATE], floor: u64) -> Answer
 
 // The search of a relation whose sizes and sets were tested, with its sets past the last pattern emptied. The table lent has the numbers of the board, of the
 // wires and of the patterns behind its entries.
-fn search_sets(e: &[u16; LENT], sets: [u16; Sheet::MAX_PATTERNS], budget: u32) -> Answer
+fn search_sets(e: &[u32; LENT], sets: [u16; Sheet::MAX_PATTERNS], budget: u32) -> Answer
     requires { ⌜ Lent (now e) × Sized (mostInputs (lentKind (now e))) (lentInputs (now e)) (lentWires (now e)) × PartSets (lentInputs (now e)) (lentWires (now e)) sets ⌝ }
     ensures { λ r. ⌜ searchReply r ≡ answerOf (boardOf (lentKind (now (e .entry))) (lentInputs (now (e .entry))) (lentWires (now (e .entry)))) (ofSets sets)
         (run (boardOf (lentKind (now (e .entry))) (lentInputs (now (e .entry))) (lentWires (now (e .entry)))) budget (ofSets sets)) ⌝ }
@@ -127,7 +127,7 @@ fn search_sets(e: &[u16; LENT], sets: [u16; Sheet::MAX_PATTERNS], budget: u32) -
 }
 
 // The table that a board's picks are made from, with the numbers of the board, of its wires and of its patterns behind its entries.
-fn lent_for(kind: BoardKind, n: u8, m: u8) -> [u16; LENT]
+fn lent_for(kind: BoardKind, n: u8, m: u8) -> [u32; LENT]
     requires { ⌜ Sized (mostInputs kind) n m ⌝ }
     ensures { λ r. ⌜ Lent r × (lentKind r ≡ kind) × (lentInputs r ≡ n) × (lentWires r ≡ m) ⌝ }
 {
@@ -135,9 +135,9 @@ fn lent_for(kind: BoardKind, n: u8, m: u8) -> [u16; LENT]
         BoardKind::Tree => blocks(),
         BoardKind::Sharing => tops(),
     };
-    table[BOARD_PLACE] = board_of(kind, n) as u16;
-    table[WIRES_PLACE] = m as u16;
-    table[COUNT_PLACE] = patterns_of(n) as u16;
+    table[BOARD_PLACE] = board_of(kind, n) as u32;
+    table[WIRES_PLACE] = m as u32;
+    table[COUNT_PLACE] = patterns_of(n) as u32;
     table
 }
 

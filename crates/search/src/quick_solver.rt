@@ -49,7 +49,7 @@ fn table_at(wide: bool, found: u32, j: u8, state: &[u64; STATE]) -> u64
 // Wire j's pick once the wires before it are chosen: its table is put in its place, and its cells are the result. Before the first wire nothing is chosen: its pick
 // is the whole relation's, which the caller has.
 fn pick_left(
-    e: &[u16; LENT],
+    e: &[u32; LENT],
     left: &[u16; Sheet::MAX_PATTERNS],
     j: u8,
     table: u64,
@@ -77,7 +77,7 @@ fn pick_left(
 }
 
 pub fn quick(
-    e: &[u16; LENT],
+    e: &[u32; LENT],
     sets: [u16; Sheet::MAX_PATTERNS],
     table: u64,
     first: u32,

@@ -16,12 +16,12 @@ use Rattle.table.specs.Inner.Pairs.{blockSpace}
 use Rattle.table.specs.Inner.Blocks.{entries, noTable, noEntry, blockEntry, bestBlock, BestBlocks, bestAt}
 use Rattle.table.proofs.Least.{Least, least-is}
 
-module _ (count : ℕ → ℕ) where
+module _ (written count : ℕ → ℕ) where
   -- the rule of such a list is one test over all of its entries; what stands past them is not asked for
   unfoldable pub right : ℕ → ℕ → Bool
-  right k x = eqb x (bestAt count k)
+  right k x = eqb x (written (bestAt count k))
 
-  pub tested : (list : List ℕ) → entries ≤ length list → T (every right 0 (take entries list)) → BestBlocks count list
+  pub tested : (list : List ℕ) → entries ≤ length list → T (every right 0 (take entries list)) → BestBlocks written count list
   unfolding right
   tested list long t =
       record {
@@ -29,7 +29,8 @@ module _ (count : ℕ → ℕ) where
             let k = zeros * blockSpace + ones in
             let l : k < entries = omega arith in
             let r = at right (take entries list) t k (omega (arith, length-take entries list)) in
-            sym (getD-take entries list k 0 l) ∙ eqb→eq (getD (take entries list) k 0) (bestAt count k) r ∙ ap₂ (bestBlock count) (digits-div zeros lo) (digits-mod zeros lo);
+            sym (getD-take entries list k 0 l) ∙ eqb→eq (getD (take entries list) k 0) (written (bestAt count k)) r
+            ∙ ap written (ap₂ (bestBlock count) (digits-div zeros lo) (digits-mod zeros lo));
       }
 
   -- where no table counts for as much as none
@@ -45,8 +46,7 @@ module _ (count : ℕ → ℕ) where
         go none h = omega arith
         go (some t) h = omega (arith, h .0, few t)
 
-    pub entry-at : {e : List ℕ} → BestBlocks count e → (k : ℕ) → k < entries → (getD e k 0 ≡ bestAt count k) × (getD e k 0 ≤ noEntry)
+    pub entry-at : {e : List ℕ} → BestBlocks written count e → (k : ℕ) → k < entries → (getD e k 0 ≡ written (bestAt count k)) × (bestAt count k ≤ noEntry)
     entry-at {e} b k l =
         let d : k ≡ k / blockSpace * blockSpace + k % blockSpace = omega arith in
-        let r : getD e k 0 ≡ bestAt count k = ap (λ i. getD e i 0) d ∙ b .entry (k / blockSpace) (k % blockSpace) (omega arith) (omega arith) in
-        (r, omega (arith, r, entry-le (k / blockSpace) (k % blockSpace)))
+        (ap (λ i. getD e i 0) d ∙ b .entry (k / blockSpace) (k % blockSpace) (omega arith) (omega arith), entry-le (k / blockSpace) (k % blockSpace))

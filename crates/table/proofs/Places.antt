@@ -28,8 +28,8 @@ use Rattle.table.proofs.Entries.{entry-some, twoBlocks, three-shown, tw
 pub block-at : {e : List ℕ} → Blocks e → (at : ℕ) → at < entries → (getD e at 0 ≡ blockAt at) × (threeSpace ≤ getD e at 0) × (getD e at 0 ≤ noEntry)
 unfolding bestBlock
 block-at {e} b at l =
-    let h = entry-at (pickKey 2) (λ t. omega (arith, cells-lt 2 t)) b at l in
-    (h .0, omega (arith, h .0, entry-some (leastOf (pickKey 2) 2 (masked (at / blockSpace) (at % blockSpace)))), h .1)
+    let h = entry-at (λ x. x) (pickKey 2) (λ t. omega (arith, cells-lt 2 t)) b at l in
+    (h .0, omega (arith, h .0, entry-some (leastOf (pickKey 2) 2 (masked (at / blockSpace) (at % blockSpace)))), omega (arith, h .0, h .1))
 
 -- two places bit by bit together are the place of what both pairs of masks have
 place-and : (a b z o y n : ℕ) → Place a z o → Place b y n → Place (bitAnd a b) (bitAnd z y) (bitAnd o n)

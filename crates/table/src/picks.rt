@@ -65,7 +65,7 @@ pub const NO_TABLE: u32 = 128;
 // The pick of each pair of masks of two inputs, at zeros * BLOCK_SPACE + ones: its key, one more than its cells, times THREE_SPACE, and table * 17, the table
 // twice side by side. Where some pattern is in no mask there is none: NO_TABLE for its key. The places past
 // the entries are the search's.
-const BLOCKS: [u16; LENT] = [
+const BLOCKS: [u32; LENT] = [
     0x8000,
     0x8000,
     0x8000,
@@ -328,7 +328,7 @@ const BLOCKS: [u16; LENT] = [
 ];
 
 // The table of blocks, to be lent to the functions below.
-pub fn blocks() -> [u16; LENT]
+pub fn blocks() -> [u32; LENT]
     ensures { λ r. ⌜ Blocks r ⌝ }
 {
     BLOCKS
@@ -341,11 +341,11 @@ pub fn lesser(a: u32, b: u32) -> u32
 }
 
 // Two inputs: an entry of the table.
-fn block(e: &[u16; LENT], at: u32) -> u32
+fn block(e: &[u32; LENT], at: u32) -> u32
     requires { ⌜ Blocks (now e) × (at < entries) ⌝ }
     ensures { λ r. ⌜ (r ≡ blockAt at) × (threeSpace ≤ r) × (r ≤ noEntry) ⌝ }
 {
-    e[at as usize] as u32
+    e[at as usize]
 }
 
 // The line of an input where a pair has what it needs, and another number where it does not.
@@ -358,7 +358,7 @@ fn line_or(pair: u32, needed: u32, line: u32, other: u32) -> u32
 // Three inputs, from the lower two bytes of a pair, which are the places of the lower and the upper half: key * THREE_SPACE + table. Two places, bit by bit
 // together, are the place of what both blocks have. Keys have one more than the cells, so that those of two halves add up to that of both under a selector.
 // Where the line suits it is less than any two halves.
-fn pick3(e: &[u16; LENT], pair: u32) -> u32
+fn pick3(e: &[u32; LENT], pair: u32) -> u32
     requires { ⌜ Blocks (now e) ⌝ }
     ensures { λ r. ⌜ HalvesShow (pair % entries) (pair / entries % entries) r × (threeSpace ≤ r) × (r ≤ noEntry) ⌝ }
 {
@@ -373,7 +373,7 @@ fn pick3(e: &[u16; LENT], pair: u32) -> u32
 
 // Four inputs, and no more: key * NARROW_SPACE + table. The four bytes of the pair are the places of its blocks, and two tables of three inputs side by side
 // fill NARROW_SPACE.
-pub fn pick4(e: &[u16; LENT], pair: u32) -> u32
+pub fn pick4(e: &[u32; LENT], pair: u32) -> u32
     requires { ⌜ Blocks (now e) ⌝ }
     ensures { λ r. ⌜ PickShown 4 narrowSpace (zerosIn pair) (onesIn pair) r × (narrowSpace ≤ r) × (r ≤ noTable * narrowSpace) ⌝ }
 {
@@ -391,7 +391,7 @@ pub fn pick4(e: &[u16; LENT], pair: u32) -> u32
 // The rank of the pick between the two masks of a pair, among the tables of n inputs. The search calls it with the masks of a wire, which cover every
 // pattern. There is an arm for each number of inputs up to four. The cells are one less than the key.
 // One input is looked up as two, the patterns of each mask beside themselves.
-pub fn pick(e: &[u16; LENT], n: u8, pair: u32) -> u32
+pub fn pick(e: &[u32; LENT], n: u8, pair: u32) -> u32
     requires { ⌜ Blocks (now e) × (1 ≤ n) × (n ≤ narrowInputs) × (zerosIn pair < 2 ^ (2 ^ n)) × (onesIn pair < 2 ^ (2 ^ n))
         × Covered n (zerosIn pair) (onesIn pair) ⌝ }
     ensures { λ r. ⌜ r ≡ rank (cells n) (pickOf (cells n) n (zerosIn pair) (onesIn pair)) ⌝ }

@@ -88,7 +88,7 @@ fn line_fits(low: u32, high: u32) -> bool
 }
 
 // Four inputs. What two halves have in common often leaves a pattern neither 0 nor 1: then nothing is looked up.
-fn common_four(e: &[u16; LENT], pair: u32) -> u64
+fn common_four(e: &[u32; LENT], pair: u32) -> u64
     requires { ⌜ Blocks (now e) ⌝ }
     ensures { λ r. ⌜ PickShown narrowInputs narrowSpace (zerosIn pair) (onesIn pair) r × (narrowSpace ≤ r) × (r ≤ noTable * narrowSpace) ⌝ }
 {
@@ -111,7 +111,7 @@ fn five_line_or(low: u32, high: u32, other: u64) -> u64
 }
 
 // Five inputs: key * FIVE_SPACE + table. Keys have one more than the cells, so that those of two halves add up (`picks`).
-fn pick5(e: &[u16; LENT], low: u32, high: u32) -> u64
+fn pick5(e: &[u32; LENT], low: u32, high: u32) -> u64
     requires { ⌜ Blocks (now e) ⌝ }
     ensures { λ r. ⌜ FiveShown low high r × (fiveSpace ≤ r) × (r ≤ noTable * fiveSpace) ⌝ }
 {
@@ -126,7 +126,7 @@ fn pick5(e: &[u16; LENT], low: u32, high: u32) -> u64
 }
 
 // The same, where some pattern may be left neither 0 nor 1.
-fn common_five(e: &[u16; LENT], low: u32, high: u32) -> u64
+fn common_five(e: &[u32; LENT], low: u32, high: u32) -> u64
     requires { ⌜ Blocks (now e) ⌝ }
     ensures { λ r. ⌜ FiveShown low high r × (fiveSpace ≤ r) × (r ≤ noTable * fiveSpace) ⌝ }
 {
@@ -189,7 +189,7 @@ fn join6(low: u64, high: u64, both: u64, line: bool) -> Pick
 }
 
 // Six inputs. What two pairs have in common stands in one pair, bit by bit together.
-fn pick6(e: &[u16; LENT], a: u32, b: u32, c: u32, d: u32) -> Pick
+fn pick6(e: &[u32; LENT], a: u32, b: u32, c: u32, d: u32) -> Pick
     requires { ⌜ Blocks (now e) ⌝ }
     ensures { λ r. ⌜ SixShown a b c d ((1 + r .cells) * sixSpace + r .table) ⌝ }
 {
@@ -201,7 +201,7 @@ fn pick6(e: &[u16; LENT], a: u32, b: u32, c: u32, d: u32) -> Pick
 
 // The pick between the masks of four pairs, among the tables of n inputs, five or six; with five inputs the last two pairs are empty. The search calls it with
 // the masks of a wire, which cover every pattern.
-pub fn wide_pick(e: &[u16; LENT], n: u8, a: u32, b: u32, c: u32, d: u32) -> Pick
+pub fn wide_pick(e: &[u32; LENT], n: u8, a: u32, b: u32, c: u32, d: u32) -> Pick
     requires { ⌜ Blocks (now e) × (narrowInputs < n) × (n ≤ maxInputs)
         × (fourMasks (zerosIn a) (zerosIn b) (zerosIn c) (zerosIn d) < 2 ^ (2 ^ n)) × (fourMasks (onesIn a) (onesIn b) (onesIn c) (onesIn d) < 2 ^ (2 ^ n))
         × Covered n (fourMasks (zerosIn a) (zerosIn b) (zerosIn c) (zerosIn d)) (fourMasks (onesIn a) (onesIn b) (onesIn c) (onesIn d)) ⌝ }

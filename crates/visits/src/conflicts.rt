@@ -81,7 +81,7 @@ fn later_conflict(state: &[u64; STATE], count: u8) -> u8
 
 // A pattern below which the tables of the part at hand are without conflict: the lowest in conflict with the whole relation, or the number of patterns. What a split dropped of
 // the whole is no value of the picks, so that it is the lowest in conflict with the part too.
-pub fn first_conflict(e: &[u16; LENT], state: &[u64; STATE], low: u64) -> u8
+pub fn first_conflict(e: &[u32; LENT], state: &[u64; STATE], low: u64) -> u8
     requires { ⌜ Lent (now e) ⌝ }
     ensures { λ r. ⌜ AllowedBelow (lentWide (now (e .entry))) (lentInputs (now (e .entry))) low (now (state .entry)) r ⌝ }
 {
@@ -99,7 +99,7 @@ pub fn first_conflict(e: &[u16; LENT], state: &[u64; STATE], low: u64) -> u8
 // The lowest pattern on which the picks' value is not allowed, and the lowest wire open there. A pattern in conflict has an open wire, since every pick
 // fits its projection. Patterns below `from` are known to be without conflict.
 pub fn first_open(
-    e: &[u16; LENT],
+    e: &[u32; LENT],
     from: u8,
     sets: &[u16; Sheet::MAX_PATTERNS],
     state: &[u64; STATE],

@@ -7,7 +7,7 @@ use lib.Dec.{eqb}
 use Rattle.table.specs.Inner.Ranks.{narrowSpace}
 use Rattle.table.specs.Inner.Pairs.{blockSpace, byteBits, pairBits}
 use Rattle.table.specs.Inner.Blocks.{entries, threeSpace, noTable, noEntry, bestAt}
-use Rattle.nodes.specs.Inner.Tops.{topPrice}
+use Rattle.nodes.specs.Inner.Tops.{topPrice, fourTimes}
 
 -- a selector, in a rank
 abbrev pub oneNode : ℕ
@@ -26,13 +26,11 @@ allNodes = 0xffff0000
 
 -- the entry of the masks in the lowest byte of `at`
 unfoldable pub quarterEntryAt : ℕ → ℕ
-quarterEntryAt at = bestAt topPrice (at % entries)
+quarterEntryAt at = fourTimes (bestAt topPrice (at % entries))
 
--- the entry at the places of a class: twice the entry has the quarter four times, and the places are cut out
+-- the entry at the places of a class, which are cut out
 unfoldable pub classAt : (at places : ℕ) → ℕ
-classAt at places =
-    let x = quarterEntryAt at in
-    bitAnd (x * threeSpace + x % threeSpace) (allNodes + places * (blockSpace - 1))
+classAt at places = bitAnd (quarterEntryAt at) (allNodes + places * (blockSpace - 1))
 
 -- no class gives more
 abbrev pub mostClass : ℕ

@@ -35,17 +35,17 @@ blockEntry count (some t) = count t * threeSpace + t * (blockSpace + 1)
 unfoldable pub bestBlock : (ℕ → ℕ) → (zeros ones : ℕ) → ℕ
 bestBlock count zeros ones = blockEntry count (leastOf count 2 (masked zeros ones))
 
--- the entry of two masks stands at the place zeros * blockSpace + ones
-pub record BestBlocks (count : ℕ → ℕ) (e : List ℕ) : Type 0 where
-  pub entry : (zeros ones : ℕ) → zeros < blockSpace → ones < blockSpace → getD e (zeros * blockSpace + ones) 0 ≡ bestBlock count zeros ones
+-- the entry of two masks stands at the place zeros * blockSpace + ones, in the form that a board has its entries written in
+pub record BestBlocks (written count : ℕ → ℕ) (e : List ℕ) : Type 0 where
+  pub entry : (zeros ones : ℕ) → zeros < blockSpace → ones < blockSpace → getD e (zeros * blockSpace + ones) 0 ≡ written (bestBlock count zeros ones)
 
 -- the entry at a place
 abbrev pub bestAt : (ℕ → ℕ) → ℕ → ℕ
 bestAt count at = bestBlock count (at / blockSpace) (at % blockSpace)
 
--- the same where the key counts by which picks are found
+-- the same where the key counts by which picks are found, and entries are written as they are
 abbrev pub Blocks : List ℕ → Type 0
-Blocks = BestBlocks (pickKey 2)
+Blocks = BestBlocks (λ x. x) (pickKey 2)
 
 abbrev pub blockOf : (zeros ones : ℕ) → ℕ
 blockOf = bestBlock (pickKey 2)

@@ -13,15 +13,9 @@ mul-result c = search needs
 add-result : tie.Need-add-result
 add-result c = search needs
 
-mul-result-2 : tie.Need-mul-result-2
-mul-result-2 c = search needs
-
-add-result-2 : tie.Need-add-result-2
-add-result-2 c = search needs
-
 returns : tie.Need-returns
 returns c = class-at (c .before .args .at) (c .before .args .places) (c .quarter-entry .result) (c .quarter-entry .ensures .0) (c .quarter-entry .ensures .1)
 
 pub class-spec : {M : Type 1} → statement M
 class-spec =
-    tie.close (tie.spec quarter-entry-requires mul-result add-result mul-result-2 add-result-2 returns)
+    tie.close (tie.spec quarter-entry-requires mul-result add-result returns)

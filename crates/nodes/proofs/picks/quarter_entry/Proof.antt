@@ -1,5 +1,4 @@
 -- `quarter_entry` meets its contract: the table has it at its place.
-use native.Mathlib.Omega.{arith}
 use Rattle.nodes.proofs.QuarterEntries.{quarter-at}
 use borrow.Author.Needs.{needs}
 use Rattle.nodes.proofs.picks.quarter_entry.Statement.{statement}
@@ -14,12 +13,9 @@ mul-result c = search needs
 element-copy-out-result : tie.Need-element-copy-out-result
 element-copy-out-result c = search needs
 
-cast-result-2 : tie.Need-cast-result-2
-cast-result-2 c = omega (arith, quarter-at (c .before .pre) (c .before .args .at) .1)
-
 returns : tie.Need-returns
 returns c = quarter-at (c .before .pre) (c .before .args .at)
 
 pub quarter-entry-spec : {M : Type 1} → statement M
 quarter-entry-spec =
-    tie.close (tie.spec cast-result mul-result element-copy-out-result cast-result-2 returns)
+    tie.close (tie.spec cast-result mul-result element-copy-out-result returns)

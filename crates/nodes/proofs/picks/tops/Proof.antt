@@ -7,13 +7,13 @@ use Rattle.table.specs.Inner.Ranks.{masked}
 use Rattle.table.specs.Inner.Blocks.{blockEntry, bestBlock}
 use Rattle.table.proofs.BestBlocks.{right, tested}
 use Rattle.nodes.specs.Nodes.{price}
-use Rattle.nodes.specs.Inner.Tops.{topPrice}
+use Rattle.nodes.specs.Inner.Tops.{topPrice, fourTimes}
 use Rattle.nodes.proofs.picks.tops.Statement.{statement}
 use Rattle.nodes.proofs.picks.tops.Tie as tie
 
 returns : tie.Need-returns
 unfolding right bestBlock blockEntry topPrice price leastOf least nearer suits masked all bit low high full wiredTable selectorCells
-returns c = tested topPrice _ (omega arith) tt
+returns c = tested fourTimes topPrice _ (omega arith) tt
 
 pub tops-spec : {M : Type 1} → statement M
 tops-spec = tie.close (tie.spec returns)

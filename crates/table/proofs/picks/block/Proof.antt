@@ -1,5 +1,4 @@
 -- `block` meets its contract: the entry at its place.
-use native.Mathlib.Omega.{arith}
 use Rattle.table.proofs.Places.{block-at}
 use borrow.Author.Needs.{needs}
 use Rattle.table.proofs.picks.block.Statement.{statement}
@@ -11,11 +10,8 @@ mul-result c = search needs
 element-copy-out-result : tie.Need-element-copy-out-result
 element-copy-out-result c = search needs
 
-cast-result : tie.Need-cast-result
-cast-result c = omega (arith, block-at (c .before .pre .0) (c .before .args .at) (c .before .pre .1) .2)
-
 returns : tie.Need-returns
 returns c = block-at (c .before .pre .0) (c .before .args .at) (c .before .pre .1)
 
 pub block-spec : {M : Type 1} → statement M
-block-spec = tie.close (tie.spec mul-result element-copy-out-result cast-result returns)
+block-spec = tie.close (tie.spec mul-result element-copy-out-result returns)

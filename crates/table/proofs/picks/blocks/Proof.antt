@@ -11,7 +11,7 @@ use Rattle.table.proofs.picks.blocks.Tie as tie
 
 returns : tie.Need-returns
 unfolding right bestBlock blockEntry leastOf least nearer suits masked all bit cells low high full wiredTable selectorCells
-returns c = tested (pickKey 2) _ (omega arith) tt
+returns c = tested (λ x. x) (pickKey 2) _ (omega arith) tt
 
 pub blocks-spec : {M : Type 1} → statement M
 blocks-spec = tie.close (tie.spec returns)
