@@ -34,10 +34,10 @@ use Rattle.parts.specs.Inner.Cells.{cellsSum}
 use Rattle.parts.specs.Inner.Masks.{wordsOf}
 use Rattle.parts.specs.Inner.Picks.{tableOf, tablesOf}
 use Rattle.parts.specs.Inner.Parts.{Carried}
-use Rattle.parts.specs.Inner.States.{cellsPlace, budgetPlace, restPlace, wholePlace, stateLength, sideAt}
+use Rattle.parts.specs.Inner.States.{cellsPlace, budgetPlace, restPlace, wholePlace, stateLength, sideAt, SameWhole}
 use Rattle.parts.proofs.Keeping.{table-at}
 use Rattle.visits.specs.Inner.Conflicts.{Settled, Seen, AllowedBelow}
-use Rattle.visits.specs.Inner.States.{budgetIn, SameWhole, Held}
+use Rattle.visits.specs.Inner.States.{budgetIn, Held}
 use Rattle.halves.specs.declared.Picks.{Picks}
 use Rattle.halves.specs.Inner.Remade.{FewCells, Remade}
 use Rattle.halves.specs.Inner.Whole.{Agrees, Whole}

@@ -30,7 +30,7 @@ use Rattle.parts.specs.Inner.States.{cellsPlace, restPlace, stateLength, SameBu
 use Rattle.parts.proofs.Keeping.{kept-floor}
 use Rattle.parts.proofs.MaskRows.{with-long, row-again}
 use Rattle.parts.proofs.Narrowing.{with-keep}
-use Rattle.visits.specs.Inner.States.{stateOf, budgetIn, SameRest, SameWhole, restOf, withRest, Held, Ran}
+use Rattle.visits.specs.Inner.States.{stateOf, budgetIn, SameRest, restOf, withRest, Held, Ran}
 use Rattle.visits.proofs.StateChanges.{same-state, same-budget, rest-long, with-rest, rest-at}
 use Rattle.halves.specs.declared.Picks.{Picks}
 use Rattle.halves.specs.Inner.Remade.{Remade}

@@ -12,7 +12,6 @@ use visits::states::rest_of;
 ghost use mathlib.Core.Path.{_≡_};
 ghost use mathlib.Core.Bool.{cond};
 ghost use Prim.Native.Nat.{ℕ, _/_, _%_, _<_};
-ghost use lib.Dec.{T};
 ghost use lib.ListN.{length};
 ghost use Rattle.sheet.specs.Limits.{maxWires, maxPatterns};
 ghost use Rattle.table.specs.Bits.{bit};
@@ -20,7 +19,7 @@ ghost use Rattle.table.specs.Inner.Pairs.{narrowPatterns};
 ghost use Rattle.lanes.specs.Inner.Lanes.{laneOf, LanesBelow};
 ghost use Rattle.parts.specs.Inner.Boards.{lentInputs, lentWide, Lent};
 ghost use Rattle.parts.specs.Inner.States.{stateLength, sideAt};
-ghost use Rattle.visits.specs.Inner.States.{restOf, withRest};
+ghost use Rattle.visits.specs.Inner.States.{savedOf, withRest};
 ghost use Rattle.visits.specs.Inner.Conflicts.{AllowedBelow};
 
 // The bits of all wires' tables on pattern p.
@@ -42,9 +41,9 @@ pub fn begin_at(e: &[u32; LENT], state: &[u64; STATE], wires: u64, low: u64, p: 
     first_conflict(e, state, low)
 }
 
-// The tables on the sections past the first, where the board is wide.
+// The tables on the sections past the first, where the board is wide; zeros where it is not.
 pub fn saved(wide: bool, state: &[u64; STATE]) -> [u64; RESTS]
-    ensures { λ r. ⌜ (T wide → r ≡ restOf (now (state .entry))) ⌝ }
+    ensures { λ r. ⌜ r ≡ savedOf wide (now (state .entry)) ⌝ }
 {
     if wide { rest_of(state) } else { [0; RESTS] }
 }

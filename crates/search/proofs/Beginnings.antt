@@ -26,10 +26,10 @@ use Rattle.parts.specs.Inner.Boards.{lentInputs, lentCount, Lent}
 use Rattle.parts.specs.Inner.Cells.{byteIn}
 use Rattle.parts.specs.Inner.Parts.{PartSets}
 use Rattle.parts.specs.Inner.Picks.{tableOf, tablesOf, cellsOf}
-use Rattle.parts.specs.Inner.States.{restPlace, stateLength, sideAt}
+use Rattle.parts.specs.Inner.States.{restPlace, stateLength, sideAt, AtHand}
 use Rattle.parts.proofs.Keeping.{few, table-at, table-lt, cells-byte}
 use Rattle.parts.proofs.Lending.{inputs-few}
-use Rattle.visits.specs.Inner.Conflicts.{AtHand, Seen}
+use Rattle.visits.specs.Inner.Conflicts.{Seen}
 use Rattle.visits.specs.Inner.States.{joinedOf, stateOf, SameRest, keptBest, withRest, restOf, Ran, Begun}
 use Rattle.search.proofs.WholePicks.{side-past}
 use Rattle.visits.proofs.StateChanges.{sides-join, kept-ran, same-state, rest-long, with-rest, rest-at}

@@ -41,9 +41,9 @@ ghost use Rattle.branch_bound.specs.Boards.{boardOf};
 ghost use Rattle.parts.specs.Inner.Boards.{lentKind, lentInputs, lentWires, lentWide, Lent};
 ghost use Rattle.parts.specs.Inner.Parts.{PartSets, Carried};
 ghost use Rattle.parts.specs.Inner.Picks.{tablesOf, cellsOf};
-ghost use Rattle.parts.specs.Inner.States.{restPlace, stateLength};
+ghost use Rattle.parts.specs.Inner.States.{restPlace, stateLength, AtHand};
 ghost use Rattle.visits.specs.Inner.States.{stateOf, budgetIn, Held, SameRest, restOf};
-ghost use Rattle.visits.specs.Inner.Conflicts.{AtHand, Seen};
+ghost use Rattle.visits.specs.Inner.Conflicts.{Seen};
 
 // Above the cells of all wires together: with so many for the best, every pick is made.
 const NO_BEST: u64 = CELLS_1;

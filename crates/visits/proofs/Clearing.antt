@@ -20,10 +20,10 @@ use Rattle.relation.specs.Inner.Members.{member}
 use Rattle.by_value.specs.Inner.ByValue.{filled, SectionWords, Agreeing, allowsAt, wordPlace, firstRefused}
 use Rattle.by_value.proofs.Told.{allowed-below, refused-there, filled-there}
 use Rattle.parts.specs.Inner.Boards.{sharingMark, wideMark, boardIn, lentKind, lentInputs, lentWide, lentCount, Lent}
-use Rattle.parts.specs.Inner.States.{restPlace, wholePlace, sideAt}
+use Rattle.parts.specs.Inner.States.{restPlace, wholePlace, sideAt, AtHand}
 use Rattle.parts.proofs.BoardNumbers.{number-shares, number-narrow}
 use Rattle.parts.proofs.Lending.{inputs-few}
-use Rattle.visits.specs.Inner.Conflicts.{Cleared, ClearedBy, Seen, AtHand, RestAtHand, AllowedFrom, AllowedLater, AllowedBelow}
+use Rattle.visits.specs.Inner.Conflicts.{Cleared, ClearedBy, Seen, RestAtHand, AllowedFrom, AllowedLater, AllowedBelow}
 
 -- what the four words of a section say, as its lowest pattern that is refused
 pub clear : (state : List ℕ) (q at tables r : ℕ) → q < sections → at ≡ wholePlace + wordPlace q 0

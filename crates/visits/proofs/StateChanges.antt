@@ -2,14 +2,14 @@
 use Prim.Native.Nat.{ℕ, zero, suc, _+_, _*_, _/_, _%_, _^_, _<_}
 use mathlib.Core.Path.{_≡_, refl, sym, ap, _∙_}
 use mathlib.Core.Logic.{⊎-elim}
-use mathlib.Core.Bool.{false, not, cond}
+use mathlib.Core.Bool.{Bool, false, not, cond}
 use mathlib.Core.List.{List}
 use native.Mathlib.Nat.{mod-lt, mod-eq-of-lt}
 use borrow.Author.Count.{below-more}
 use lib.Dec.{T, T-not, not-T, leb, leb→le}
 use lib.Pow.{pow-pos}
 use lib.Seq.{getD-set-same, getD-set-other}
-use Rattle.base.proofs.Tests.{decide, test-yes, test-no}
+use Rattle.base.proofs.Tests.{decide, test-yes, test-no, cond-has}
 use native.Mathlib.Omega.{arith}
 use lib.ListN.{length, getD, set, length-set}
 use Rattle.sheet.specs.Limits.{maxWires, maxPatterns}
@@ -22,9 +22,8 @@ use Rattle.lanes.proofs.Lanes.{lane-lanes, side-lanes}
 use Rattle.by_value.specs.Inner.ByValue.{allWords}
 use Rattle.branch_bound.specs.declared.State.{State}
 use Rattle.branch_bound.specs.Search.{halted, charged, improved}
-use Rattle.parts.specs.Inner.States.{cellsPlace, visitsPlace, leftPlace, budgetPlace, restPlace, wholePlace, stateLength, sideAt, SameBut}
-use Rattle.visits.specs.Inner.States.{joinedOf, stateOf, budgetIn, spentIn, Held, SameRest, keptBest, withRest, restOf, Ran, Begun}
-use Rattle.visits.specs.Inner.Conflicts.{AtHand}
+use Rattle.parts.specs.Inner.States.{cellsPlace, visitsPlace, leftPlace, budgetPlace, restPlace, wholePlace, stateLength, sideAt, AtHand, SameBut}
+use Rattle.visits.specs.Inner.States.{joinedOf, stateOf, budgetIn, spentIn, Held, SameRest, keptBest, withRest, restOf, savedOf, Ran, Begun}
 use Rattle.base.proofs.Tabulate.{filled-tabulate}
 
 -- a test of the code that fails, as the meanings write it
@@ -334,3 +333,7 @@ module _ {budget : ℕ} {whole before after : List ℕ} (b : Begun budget whole 
         b .visits,
         b .left,
       )
+
+-- on a wide board all tables of the part at hand are saved
+pub saved-wide : (wide : Bool) (l : List ℕ) → T wide → savedOf wide l ≡ restOf l
+saved-wide wide l w = cond-has (λ r. r ≡ restOf l) wide (λ _. refl) (λ h. absurd (T-not wide h w))

@@ -29,8 +29,8 @@ ghost use Rattle.sheet.specs.Inner.Sized.{Sized};
 ghost use Rattle.parts.specs.Inner.Boards.{lentKind, lentInputs, lentWires, lentWide, Lent};
 ghost use Rattle.parts.specs.Inner.Parts.{PartSets};
 ghost use Rattle.parts.specs.Inner.Picks.{tablesOf};
-ghost use Rattle.parts.specs.Inner.States.{sideAt};
-ghost use Rattle.visits.specs.Inner.Conflicts.{Settled, splitPlace, AtHand, ClearedBy, AllowedLater, AllowedBelow};
+ghost use Rattle.parts.specs.Inner.States.{sideAt, AtHand};
+ghost use Rattle.visits.specs.Inner.Conflicts.{Settled, splitPlace, ClearedBy, AllowedLater, AllowedBelow};
 
 // The words of a section by value.
 const SECTION_WORDS: usize = by_value::WORDS / SECTIONS as usize;

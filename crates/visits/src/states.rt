@@ -10,6 +10,7 @@ use parts::states::VISITS;
 use parts::states::WHOLE;
 use sheet::Sheet;
 use table::wide::SECTION_SPACE;
+use table::wide::SECTIONS;
 ghost use mathlib.Core.Path.{_≡_};
 ghost use mathlib.Core.Bool.{not, cond};
 ghost use Prim.Native.Nat.{_+_, _<_};
@@ -19,7 +20,7 @@ ghost use Rattle.parts.specs.Inner.States.{leftPlace, visitsPlace, stateLength}
 ghost use Rattle.visits.specs.Inner.States.{joinedOf, stateOf, spentIn, Held, keptBest, restOf, withRest, Begun};
 
 // The sections past the first.
-pub const RESTS: usize = 3;
+pub const RESTS: usize = SECTIONS as usize - 1;
 
 // What the lowest bit of the second, the third and the fourth section counts for.
 const SECOND: u64 = SECTION_SPACE;

@@ -26,7 +26,7 @@ use Rattle.parts.proofs.Lending.{board-small}
 use Rattle.parts.proofs.MaskRows.{row-back}
 use Rattle.visits.specs.Inner.States.{stateOf, budgetIn, SameRest, restOf, Ran}
 use Rattle.visits.proofs.Opening.{found-open, found-below}
-use Rattle.visits.proofs.StateChanges.{lt→nleb, left-ran, left-rest, not-charged, was-charged, kept-ran, held-after}
+use Rattle.visits.proofs.StateChanges.{lt→nleb, left-ran, left-rest, not-charged, was-charged, kept-ran, held-after, saved-wide}
 use Rattle.halves.specs.Inner.Remade.{Remade}
 use Rattle.halves.proofs.Making.{Half, partSets, partMasks, half-floor, made-over}
 use Rattle.branches.proofs.Carrying.{carried-floor, carried-tables, carried-fit, tables-long, tables-small, carried-back, pattern-lt}
@@ -230,7 +230,7 @@ unfolding boardIn
 split-wide c = c .is-wide .ensures
 
 split-rest : {t : ℕ} (c : split-lts.After-saved (split-claims t) (split-at t) split.Post) → T (lentWide (c .before .before .before .before .before .before .before .before .before .args .e .now)) → c .saved .result ≡ restOf (c .before .before .before .before .before .before .before .before .before .args .state .now)
-split-rest c w = c .saved .ensures (subst T (sym (split-wide (c .before .before))) w)
+split-rest c w = c .saved .ensures ∙ saved-wide (c .before .before .is-wide .result) _ (subst T (sym (split-wide (c .before .before))) w)
 
 split-zero-treated : {t : ℕ} (c : split-lts.Joined1 (split-claims t) (split-at t) split.Post)
     → let a = c .before .before .before .before .before .before .before .before .before .before .before .before .before .before .before .before .before .before .args in Reached (a .e .now) (lentWires (a .e .now)) (a .sets .now) (a .masks .now) (a .p) (a .j) (a .state .now) 1 (c .if1 .sets) (c .if1 .masks) (restored (lentWide (a .e .now)) (c .before .before .before .before .before .before .before .before .before .saved .result) (c .if1 .state))

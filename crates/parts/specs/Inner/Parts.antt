@@ -10,11 +10,9 @@ use Rattle.nodes.specs.Counts.{mostInputs}
 use Rattle.relation.specs.Inner.Source.{WellDefined}
 use Rattle.relation.specs.Tests.{ofSets}
 use Rattle.relation.specs.Inner.Narrowed.{NonePast}
-use Rattle.table.specs.Inner.Wide.{sections}
-use Rattle.relation.specs.Inner.Side.{sideBySide}
 use Rattle.parts.specs.Inner.Words.{pairsOf}
 use Rattle.parts.specs.Inner.Masks.{maskCount, Halved, wordsOf}
-use Rattle.parts.specs.Inner.States.{sideAt}
+use Rattle.parts.specs.Inner.States.{AtHand}
 use Rattle.parts.specs.Inner.Picks.{tablesOf, cellsOf}
 
 -- the sets of a part: as many as there may be patterns, of values there are, empty past the last pattern, none empty before
@@ -31,5 +29,5 @@ pub record Carried (kind : BoardKind) (n m : ℕ) (s w l : List ℕ) (low c : �
   pub long : length w ≡ maskCount
   pub halved : Halved w
   pub masks : wordsOf w ≡ pairsOf s
-  pub tables : (q : ℕ) → q < sections → sideAt low l q ≡ sideBySide (tablesOf kind n s) q
+  pub tables : AtHand low l (tablesOf kind n s)
   pub cells : c ≡ cellsOf kind n s

@@ -7,7 +7,7 @@ use lib.Dec.{eqb}
 use lib.ListN.{length, getD}
 use Rattle.sheet.specs.Limits.{maxWires}
 use Rattle.table.specs.Inner.Wide.{sections}
-use Rattle.relation.specs.Inner.Side.{section}
+use Rattle.relation.specs.Inner.Side.{section, sideBySide}
 use Rattle.lanes.specs.Inner.Lanes.{putLane}
 
 -- the best tables so far come first, a number for each section; behind them stand their cells, the visits charged, 1 once a part was left, and the budget
@@ -41,11 +41,19 @@ stateLength = wholePlace + wholeWords
 unfoldable pub sideAt : (low : ℕ) → List ℕ → ℕ → ℕ
 sideAt low state q = cond (eqb q 0) low (getD state (restPlace q) 0)
 
+-- these are the tables of the part at hand, side by side on every section
+abbrev pub AtHand : (low : ℕ) → (state tables : List ℕ) → Type 0
+AtHand low state tables = (q : ℕ) → q < sections → sideAt low state q ≡ sideBySide tables q
+
+-- the relation by value is the same
+abbrev pub SameWhole : (before after : List ℕ) → Type 0
+SameWhole before after = (i : ℕ) → wholePlace ≤ i → getD after i 0 ≡ getD before i 0
+
 -- all is the same in both but the tables of the part at hand
 pub record SameBut (before after : List ℕ) : Type 0 where
   pub long : length after ≡ stateLength
   pub front : (i : ℕ) → i ≤ budgetPlace → getD after i 0 ≡ getD before i 0
-  pub back : (i : ℕ) → wholePlace ≤ i → getD after i 0 ≡ getD before i 0
+  pub back : SameWhole before after
 
 -- where the board is wide, wire j has the table t on the sections past the first; where it is not, they are as they were
 pub record PutRest (wide : Bool) (j t : ℕ) (before after : List ℕ) : Type 0 where

@@ -13,7 +13,7 @@ use Rattle.table.specs.Inner.Pairs.{narrowPatterns}
 use Rattle.table.specs.Inner.Wide.{sections}
 use Rattle.relation.specs.Inner.Side.{sideBySide}
 use Rattle.by_value.specs.Inner.ByValue.{wordPlace, filled, SectionWords, allowsAt}
-use Rattle.parts.specs.Inner.States.{restPlace, wholePlace, sideAt}
+use Rattle.parts.specs.Inner.States.{restPlace, wholePlace, AtHand}
 use Rattle.visits.specs.declared.SplitPlace.{SplitPlace}
 use Rattle.visits.specs.declared.SplitPlace.the-variants.{Pair, Nowhere}
 
@@ -36,10 +36,6 @@ SectionSeen n S state q =
 -- those of the first section are, and those of all sections where the board is wide
 abbrev pub Seen : (wide : Bool) (n : ℕ) → (S state : List ℕ) → Type 0
 Seen wide n S state = (q : ℕ) → q < sections → (q ≡ 0) ⊎ T wide → SectionSeen n S state q
-
--- the tables of the part at hand are these, side by side on every section
-abbrev pub AtHand : (low : ℕ) → (state tables : List ℕ) → Type 0
-AtHand low state tables = (q : ℕ) → q < sections → sideAt low state q ≡ sideBySide tables q
 
 -- the tables of the part at hand are these on the sections past the first
 abbrev pub RestAtHand : (state tables : List ℕ) → Type 0

@@ -1,7 +1,7 @@
--- `saved` meets its contract: only on a wide board something is asked of it.
-use mathlib.Core.Path.{subst}
-use lib.Dec.{T}
+-- `saved` meets its contract: what each branch gives is the meaning's.
+use mathlib.Core.Path.{ap, sym, _∙_}
 use borrow.Author.Needs.{needs}
+use Rattle.visits.specs.Inner.States.{savedOf}
 use Rattle.halves.proofs.tables.saved.Statement.{statement}
 use Rattle.halves.proofs.tables.saved.Tie as tie
 use Rattle.halves.proofs.tables.saved.Reads as reads
@@ -12,10 +12,10 @@ rest-of-requires : tie.Need-rest-of-requires
 rest-of-requires c κs = search needs
 
 returns : tie.Need-returns
-returns c = search needs
+returns c = c .rest-of .ensures ∙ ap (λ b. savedOf b (c .before .before .args .state .now)) (sym (c .before .if1 .taken))
 
 returns-2 : tie.Need-returns-2
-returns-2 c = λ t. absurd (subst T (c .if1 .left) t)
+returns-2 c = ap (λ b. savedOf b (c .before .args .state .now)) (sym (c .if1 .left))
 
 pub saved-spec : {M : Type 1} → statement M
 saved-spec = tie.close (tie.spec rest-of-requires returns returns-2)

@@ -1,3 +1,4 @@
+use mathlib.Core.Path.{refl}
 use Rattle.visits.specs.Inner.States.{joinedOf}
 use borrow.Author.Needs.{needs}
 use Rattle.visits.proofs.states.joined.Statement.{statement}
@@ -36,7 +37,7 @@ add-result-3 c = search needs
 returns : tie.Need-returns
 unfolding joinedOf
 returns c =
-    rw (c .before .before .before .lane .ensures .0, c .before .before .lane2 .ensures .0, c .before .lane3 .ensures .0, c .lane4 .ensures .0)
+    rw (c .before .before .before .lane .ensures .0, c .before .before .lane2 .ensures .0, c .before .lane3 .ensures .0, c .lane4 .ensures .0) refl
 
 pub joined-spec : {M : Type 1} → statement M
 joined-spec =
