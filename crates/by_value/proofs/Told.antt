@@ -6,11 +6,10 @@ use mathlib.Core.Bool.{Bool, true, false, cond, not}
 use mathlib.Core.List.{List, [], _∷_}
 use native.Mathlib.Omega.{arith}
 use lib.Dec.{T, T-not, eqb, ltb, ltb→lt, nltb→le}
-use lib.ListN.{getD, length}
+use lib.ListN.{getD}
 use borrow.Author.Tests.{lt-ltb, le-ltb}
 use Rattle.base.specs.Lowest.{lowest}
 use Rattle.base.proofs.Tests.{decide, eq-test}
-use Rattle.base.proofs.Tabulate.{filled-tabulate}
 use Rattle.base.proofs.Lowest.{lowest-is, lowest-below, lowest-none, lowest-cong}
 use Rattle.sheet.specs.Limits.{maxWires, maxPatterns, maxValues}
 use Rattle.table.specs.Bits.{bit, isOne}
@@ -23,7 +22,7 @@ use Rattle.relation.specs.Source.{value}
 use Rattle.relation.specs.Inner.Members.{member}
 use Rattle.relation.specs.Inner.Side.{sideBySide, valueIn}
 use Rattle.relation.proofs.Side.{side-value}
-use Rattle.by_value.specs.Inner.ByValue.{wordValues, wordWidth, sectionWords, allWords, wordPlace, valueWord, byValue, SectionWords, allowedAt, allowsAt, Agreeing, everyValue, filled, WordsBelow, firstRefused}
+use Rattle.by_value.specs.Inner.ByValue.{wordValues, wordWidth, sectionWords, wordPlace, valueWord, SectionWords, allowedAt, allowsAt, Agreeing, everyValue, filled, WordsBelow, firstRefused}
 
 value-lt : (tables p : ℕ) → valueIn tables p < maxValues
 unfolding valueIn
@@ -110,16 +109,6 @@ module _ (sets : List ℕ) (q a b c d tables r : ℕ) (words : SectionWords sets
 pub below-words : (seen : ℕ) (sets words : List ℕ) (q : ℕ) → WordsBelow seen sets words → narrowPatterns * q < seen
     → SectionWords sets q (getD words (wordPlace q 0) 0) (getD words (wordPlace q 1) 0) (getD words (wordPlace q 2) 0) (getD words (wordPlace q 3) 0)
 below-words seen sets words q h l = (h .0 q 0 l (omega arith), h .0 q 1 l (omega arith), h .0 q 2 l (omega arith), h .0 q 3 l (omega arith))
-
--- with all patterns they are the words of all sections
-pub below-all : (sets words : List ℕ) → length words ≡ allWords → WordsBelow maxPatterns sets words → words ≡ byValue sets
-unfolding byValue
-below-all sets words e h =
-    filled-tabulate allWords (λ i. valueWord sets (i / sectionWords) (i % sectionWords)) words e λ i l.
-    let q = i / sectionWords in
-    let k = i % sectionWords in
-    let s : i ≡ wordPlace q k = omega arith in
-    ap (λ j. getD words j 0) s ∙ h .0 q k (omega arith) (omega arith)
 
 -- the filled sets: those there are, and past them every value
 module _ (count : ℕ) (sets : List ℕ) (p : ℕ) (lp : p < maxPatterns) where

@@ -16,9 +16,9 @@ const FULL: u64 = CELL_SPACE - 1;
 // What the lowest bit of the cells of wires 1, 2 and 3 counts for.
 pub const CELLS_1: u64 = CELL_SPACE;
 
-pub const CELLS_2: u64 = CELLS_1 * CELL_SPACE;
+const CELLS_2: u64 = CELLS_1 * CELL_SPACE;
 
-pub const CELLS_3: u64 = CELLS_2 * CELL_SPACE;
+const CELLS_3: u64 = CELLS_2 * CELL_SPACE;
 
 // One in each wire's byte.
 const EACH: u64 = 1 + CELLS_1 + CELLS_2 + CELLS_3;

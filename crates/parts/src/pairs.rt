@@ -68,7 +68,7 @@ fn put_pair(x: u32, p: u8, set: u16, j: u8) -> u32
 }
 
 // Where the word of section q and wire j stands.
-pub fn place_of(q: u8, j: u8) -> usize
+fn place_of(q: u8, j: u8) -> usize
     requires { ⌜ (q < sections) × (j < maxWires) ⌝ }
     ensures { λ r. ⌜ (r ≡ wordPlace q j) × (r < wordCount) ⌝ }
 {

@@ -39,10 +39,6 @@ unfoldable pub valueWord : List ℕ → (q k : ℕ) → ℕ
 valueWord sets q k =
     ofBits wordWidth (λ b. isOne (member (getD sets (narrowPatterns * q + b % narrowPatterns) 0) (wordValues * k + b / narrowPatterns)))
 
--- the words of all sections
-unfoldable pub byValue : List ℕ → List ℕ
-byValue sets = tabulate allWords (λ i. valueWord sets (i / sectionWords) (i % sectionWords))
-
 -- what the four words of a section say of its p-th pattern, for the value that tables side by side drive there
 unfoldable pub allowedAt : (a b c d tables p : ℕ) → ℕ
 allowedAt a b c d tables p =
