@@ -26,9 +26,9 @@ const WORD_VALUES: u8 = 4;
 const VALUES_SPACE: u16 = 1 << WORD_VALUES;
 
 // The words that have all values of a section, and of all sections.
-const SECTION_WORDS: u8 = Sheet::MAX_VALUES as u8 / WORD_VALUES;
+pub const SECTION_WORDS: usize = Sheet::MAX_VALUES / WORD_VALUES as usize;
 
-pub const WORDS: usize = SECTION_WORDS as usize * SECTIONS as usize;
+pub const WORDS: usize = SECTION_WORDS * SECTIONS as usize;
 
 // How far a lane stands above the next lower one, and two lanes above the next lower two.
 const LANE: u64 = SECTION as u64;
@@ -131,7 +131,7 @@ fn place_of(q: u8, k: u8) -> usize
     requires { ⌜ (q < sections) × (k < sectionWords) ⌝ }
     ensures { λ r. ⌜ (r ≡ wordPlace q k) × (r < allWords) ⌝ }
 {
-    (SECTION_WORDS * q + k) as usize
+    SECTION_WORDS * q as usize + k as usize
 }
 
 // The words with pattern p, which they lack, put into word k of its section by its set.

@@ -15,7 +15,6 @@ use lib.ListN.{length, getD, set, length-set}
 use Rattle.sheet.specs.Limits.{maxWires, maxPatterns}
 use Rattle.table.specs.Bits.{tabulate}
 use Rattle.table.specs.Inner.Pairs.{narrowPatterns}
-use Rattle.table.specs.Inner.Wide.{sections}
 use Rattle.relation.specs.Inner.Side.{section, sideBySide}
 use Rattle.lanes.specs.Inner.Lanes.{laneSpace, laneOf}
 use Rattle.lanes.proofs.Lanes.{lane-lanes, side-lanes}

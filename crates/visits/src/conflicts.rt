@@ -1,6 +1,7 @@
 // The pattern and wire to split at.
 // Inner functions: the cycle and the entry of the search meet what they require.
 use crate::SplitPlace;
+use by_value::SECTION_WORDS;
 use by_value::agreeing;
 use by_value::first_refused;
 use parts::boards::BOARD_PLACE;
@@ -31,9 +32,6 @@ ghost use Rattle.parts.specs.Inner.Parts.{PartSets};
 ghost use Rattle.parts.specs.Inner.Picks.{tablesOf};
 ghost use Rattle.parts.specs.Inner.States.{sideAt, AtHand};
 ghost use Rattle.visits.specs.Inner.Conflicts.{Settled, splitPlace, ClearedBy, AllowedLater, AllowedBelow};
-
-// The words of a section by value.
-const SECTION_WORDS: usize = by_value::WORDS / SECTIONS as usize;
 
 // The tables of the part at hand on section q.
 pub fn word_of(state: &[u64; STATE], low: u64, q: u8) -> u64

@@ -5,10 +5,10 @@ use mathlib.Core.Bool.{Bool, cond}
 use mathlib.Core.List.{List}
 use lib.Dec.{eqb}
 use lib.ListN.{length, getD}
-use Rattle.sheet.specs.Limits.{maxWires}
 use Rattle.table.specs.Inner.Wide.{sections}
 use Rattle.relation.specs.Inner.Side.{section, sideBySide}
 use Rattle.lanes.specs.Inner.Lanes.{putLane}
+use Rattle.by_value.specs.Inner.ByValue.{allWords}
 
 -- the best tables so far come first, a number for each section; behind them stand their cells, the visits charged, 1 once a part was left, and the budget
 abbrev pub cellsPlace : ℕ
@@ -31,11 +31,8 @@ restPlace q = budgetPlace + q
 abbrev pub wholePlace : ℕ
 wholePlace = budgetPlace + sections
 
-abbrev pub wholeWords : ℕ
-wholeWords = sections * maxWires
-
 abbrev pub stateLength : ℕ
-stateLength = wholePlace + wholeWords
+stateLength = wholePlace + allWords
 
 -- the tables of the part at hand on section q: those of the first section are handed down by themselves
 unfoldable pub sideAt : (low : ℕ) → List ℕ → ℕ → ℕ
