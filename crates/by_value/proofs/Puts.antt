@@ -17,6 +17,16 @@ use Rattle.table.specs.Inner.Pairs.{narrowPatterns}
 use Rattle.table.proofs.Bits.{tabulate-at, tabulate-cong}
 use Rattle.by_value.specs.Inner.ByValue.{sectionWords, allWords, wordPlace, added, wordAt, HasRoom, withWord, withSet}
 
+-- whether a number is below k is the same where k counts too, but for k itself
+pub below-same : (x k : ℕ) → (x ≡ k → ⊥) → ltb x k ≡ ltb x (suc k)
+below-same x k d =
+    ⊎-elim (λ t. let l = ltb→lt x k t in lt-ltb x k l ∙ sym (lt-ltb x (suc k) (omega arith)))
+    (λ t. let l = nltb→le x k t in le-ltb x k l ∙ sym (le-ltb x (suc k) (above l)))
+    (decide (ltb x k))
+  where
+    above : k ≤ x → suc k ≤ x
+    above l = omega arith
+
 -- the words of section q below word k
 abbrev done : (q k i : ℕ) → Bool
 done q k i = eqb (i / sectionWords) q && ltb (i % sectionWords) k
@@ -37,23 +47,13 @@ module _ (q k : ℕ) (lk : k < sectionWords) where
   done-other : (i : ℕ) → (i ≡ wordPlace q k → ⊥) → done q k i ≡ done q (suc k) i
   done-other i ne =
       ⊎-elim
-      (λ t. let e = eqb→eq (i / sectionWords) q t in ap (λ s. eqb (i / sectionWords) q && s) (same (apart e)))
+      (λ t. let e = eqb→eq (i / sectionWords) q t in ap (λ s. eqb (i / sectionWords) q && s) (below-same (i % sectionWords) k (apart e)))
       (λ t. let e : i / sectionWords ≡ q → ⊥ = λ d. T-not (eqb (i / sectionWords) q) t (eq-test d) in
       ap (λ s. s && ltb (i % sectionWords) k) (ne-eqb (i / sectionWords) q e) ∙ sym (ap (λ s. s && ltb (i % sectionWords) (suc k)) (ne-eqb (i / sectionWords) q e)))
       (decide (eqb (i / sectionWords) q))
     where
       apart : i / sectionWords ≡ q → i % sectionWords ≡ k → ⊥
       apart e d = ne (omega arith)
-
-      above : (x : ℕ) → (x ≡ k → ⊥) → k ≤ x → suc k ≤ x
-      above x d l = omega arith
-
-      same : (i % sectionWords ≡ k → ⊥) → ltb (i % sectionWords) k ≡ ltb (i % sectionWords) (suc k)
-      same d =
-          let x = i % sectionWords in
-          ⊎-elim (λ t. let l = ltb→lt x k t in lt-ltb x k l ∙ sym (lt-ltb x (suc k) (omega arith)))
-          (λ t. let l = nltb→le x k t in le-ltb x k l ∙ sym (le-ltb x (suc k) (above x d l)))
-          (decide (ltb x k))
 
 -- the words with pattern p put into those of its section below word k
 module _ (words : List ℕ) (p w : ℕ) where

@@ -2,11 +2,12 @@
 use Prim.Native.Nat.{ℕ, zero, suc, _+_, _*_, _-_, _/_, _%_, _^_, _<_}
 use mathlib.Core.Path.{_≡_, refl, sym, ap, ap₂, _∙_}
 use native.Mathlib.Omega.{arith}
-use native.Mathlib.Nat.{add-zero, mod-lt, mod-eq-of-lt, div-add-mod'}
-use lib.Bits.{bitAnd, and-mask, and-zero-r, and-block}
-use lib.Pow.{pow-pos, shl-exact}
+use native.Mathlib.Nat.{mod-eq-of-lt}
+use lib.Bits.{bitAnd}
+use lib.Pow.{shl-exact}
 use Rattle.sheet.specs.Limits.{maxWires}
 use Rattle.table.specs.Bits.{sum}
+use Rattle.lanes.proofs.Replaced.{kept}
 use Rattle.parts.specs.Inner.Cells.{cellSpace, packed, byteIn, putCells, cellsSum}
 
 -- the bits of a byte, and of the number that the code keeps
@@ -16,17 +17,10 @@ byteBits = 8
 abbrev wordBits : ℕ
 wordBits = 64
 
--- a byte by a mask
-byte-kept : (x s : ℕ) → bitAnd x ((2 ^ byteBits - 1) * 2 ^ s) ≡ x / 2 ^ s % 2 ^ byteBits * 2 ^ s
-byte-kept x s =
-    ap₂ bitAnd (sym (div-add-mod' x (2 ^ s))) (sym (add-zero ((2 ^ byteBits - 1) * 2 ^ s)))
-    ∙ and-block s (x / 2 ^ s) (2 ^ byteBits - 1) (x % 2 ^ s) 0 (mod-lt x (pow-pos s)) (pow-pos s)
-    ∙ ap₂ (λ y z. y * 2 ^ s + z) (and-mask (x / 2 ^ s) byteBits) (and-zero-r (x % 2 ^ s)) ∙ add-zero (x / 2 ^ s % 2 ^ byteBits * 2 ^ s)
-
 -- the code's byte, and its new cells
 module _ (x j k : ℕ) (lj : j < maxWires) (lk : k < cellSpace) (lx : x < 2 ^ wordBits) where
   taken : bitAnd x ((2 ^ byteBits - 1) * 2 ^ (byteBits * j) % 2 ^ wordBits) ≡ x / 2 ^ (byteBits * j) % 2 ^ byteBits * 2 ^ (byteBits * j)
-  taken = ap (bitAnd x) (shl-exact byteBits (byteBits * j) wordBits (omega arith) (omega arith)) ∙ byte-kept x (byteBits * j)
+  taken = ap (bitAnd x) (shl-exact byteBits (byteBits * j) wordBits (omega arith) (omega arith)) ∙ kept x byteBits (byteBits * j)
 
   put : k * 2 ^ (byteBits * j) % 2 ^ wordBits ≡ k * 2 ^ (byteBits * j)
   put = shl-exact byteBits (byteBits * j) wordBits lk (omega arith)

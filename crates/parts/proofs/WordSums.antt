@@ -1,20 +1,20 @@
 -- The words of all wires: they are put together pattern by pattern, each section by itself.
-use Prim.Native.Nat.{ℕ, zero, suc, _+_, _*_, _-_, _/_, _%_, _^_, _<_, _≤_, min}
+use Prim.Native.Nat.{ℕ, suc, _+_, _*_, _-_, _/_, _%_, _^_, _<_, _≤_}
 use mathlib.Core.Path.{_≡_, refl, sym, ap, ap₂, _∙_}
 use mathlib.Core.Logic.{⊎-elim}
 use mathlib.Core.Bool.{cond}
 use mathlib.Core.List.{List}
 use native.Mathlib.Omega.{arith}
 use native.Mathlib.Nat.{le-refl, mul-le-mul-right}
-use lib.Dec.{T-not, eqb, eqb→eq, ltb, ltb→lt, nltb→le, leb, leb→le, nleb→lt}
+use lib.Dec.{T, T-not, eqb, eqb→eq, ltb, ltb→lt, leb, leb→le, nleb→lt}
 use lib.ListN.{getD, set}
 use borrow.Author.Tests.{lt-ltb, le-ltb}
-use Rattle.base.proofs.Tests.{cond-has, decide, below-suc, eq-test, eqb-yes, eqb-not}
+use Rattle.base.proofs.Tests.{cond-has, decide, eq-test, eqb-yes, eqb-not}
 use Rattle.base.proofs.Tabulate.{tabulate-set}
 use Rattle.sheet.specs.Limits.{maxWires, maxPatterns}
 use Rattle.table.specs.Bits.{bit, sum, tabulate, isOne}
 use Rattle.table.specs.Inner.Pairs.{narrowPatterns, upperHalf, pairBits, seat, paired}
-use Rattle.table.proofs.Bits.{sum-cong, sum-le, sum-short, tabulate-at, tabulate-cong}
+use Rattle.table.proofs.Bits.{sum-cong, sum-short, tabulate-cong}
 use Rattle.table.proofs.BitColumns.{isOne-lt-two}
 use Rattle.relation.specs.Tests.{occurs}
 use Rattle.relation.specs.Inner.Members.{member}
@@ -24,6 +24,8 @@ use Rattle.relation.specs.Inner.Narrowed.{NonePast}
 use Rattle.relation.proofs.Masks.{none-occurs, mask-bit}
 use Rattle.relation.proofs.Members.{member-sets}
 use Rattle.relation.proofs.Side.{section-bit}
+use Rattle.by_value.proofs.Puts.{below-same}
+use Rattle.by_value.proofs.SectionSums.{within, part, wordBelow, below-none, below-whole, below-other, below-more, below-room, wordsTo, to-none, word-at}
 use Rattle.parts.specs.Inner.Pairs.{bothSides, sidesOf}
 use Rattle.table.specs.Inner.Wide.{sections}
 use Rattle.parts.specs.Inner.Words.{wordCount, wordPlace, wordOf, pairsOf, wordsFor, wordAt}
@@ -43,39 +45,26 @@ pattern-section p l = omega arith
 
 -- what counts for those below k is the same for all but k itself where k counts too
 pub others-same : {A : Type 0} (x y : A) (i k : ℕ) → (i ≡ k → ⊥) → cond (ltb i k) x y ≡ cond (ltb i (suc k)) x y
-others-same x y i k ne =
-    ⊎-elim (λ t. let l = ltb→lt i k t in rw (lt-ltb i k l, lt-ltb i (suc k) (omega arith)))
-    (λ t. let l = nltb→le i k t in rw (le-ltb i k l, le-ltb i (suc k) (above l)))
-    (decide (ltb i k))
-  where
-    above : k ≤ i → suc k ≤ i
-    above l = omega arith
+others-same x y i k ne = ap (λ t. cond t x y) (below-same i k ne)
 
 pub sides-le : (w j : ℕ) → sidesOf w j ≤ bothSides
 unfolding sidesOf
 sides-le w j = omega (arith, isOne-lt-two (occurs maxWires (member w) j 1), isOne-lt-two (occurs maxWires (member w) j 0))
 
--- a pair with the patterns below r has room for r itself
-grows : (f : ℕ → ℕ) (k l : ℕ) → k < suc l → sum k f ≤ sum l f
-unfolding sum
-grows f k zero h = let e : k ≡ 0 = omega arith in rw e (omega arith)
-grows f k (suc l) h = ⊎-elim (λ e. rw e (le-refl (sum (suc l) f))) (λ g. omega (arith, grows f k l g)) (below-suc h)
+-- what the set of a section's r-th pattern puts into wire j's word, and the most that it does: a word has room for all of these
+abbrev put : (w j r : ℕ) → ℕ
+put w j r = sidesOf w j * 2 ^ seat r
 
-has-room : (g : ℕ → ℕ) → ((q : ℕ) → g q ≤ bothSides) → (r : ℕ) → r < narrowPatterns → sum r (λ q. g q * 2 ^ seat q) + bothSides * 2 ^ seat r < 2 ^ pairBits
+abbrev most : ℕ → ℕ
+most r = bothSides * 2 ^ seat r
+
+most-fits : T (ltb (sum narrowPatterns most) (2 ^ pairBits))
 unfolding sum seat
-has-room g small r l =
-    let full : ℕ → ℕ = λ q. bothSides * 2 ^ seat q in
-    let a = sum-le r (λ q. g q * 2 ^ seat q) full (λ q _. mul-le-mul-right (2 ^ seat q) (small q)) in
-    let b : sum (suc r) full ≤ sum narrowPatterns full = grows full (suc r) narrowPatterns (omega arith) in
-    omega arith
+most-fits = tt
 
--- what the pattern r of section q puts into wire j's word
 module _ (sets : List ℕ) (q j : ℕ) where
-  abbrev part : ℕ → ℕ
-  part r = sidesOf (getD sets (narrowPatterns * q + r) 0) j * 2 ^ seat r
-
   -- the word is the sum over the section
-  word-sum : q < sections → wordOf sets q j ≡ sum narrowPatterns part
+  word-sum : q < sections → wordOf sets q j ≡ sum narrowPatterns (part put sets q j)
   unfolding wordOf paired sidesOf
   word-sum lq =
       let at : (b r : ℕ) → r < narrowPatterns → bit (section (maskOf sets j b) q) r ≡ isOne (occurs maxWires (member (getD sets (narrowPatterns * q + r) 0)) j b) =
@@ -87,7 +76,7 @@ module _ (sets : List ℕ) (q j : ℕ) where
       (λ r l. ap₂ (λ x y. (x + upperHalf * y) * 2 ^ seat r) (at 1 r l) (at 0 r l))
 
   -- a pattern with no value puts in nothing
-  part-none : (r : ℕ) → getD sets (narrowPatterns * q + r) 0 ≡ 0 → part r ≡ 0
+  part-none : (r : ℕ) → getD sets (narrowPatterns * q + r) 0 ≡ 0 → part put sets q j r ≡ 0
   unfolding sidesOf
   part-none r e =
       let p = narrowPatterns * q + r in
@@ -95,56 +84,17 @@ module _ (sets : List ℕ) (q j : ℕ) where
       λ b. ap (λ S. isOne (occurs maxWires S j b)) (sym (member-sets sets p)) ∙ none-occurs sets p j b e in
       rw (none 1, none 0) (omega arith)
 
--- the patterns below p that are in section q, and the word of these
-abbrev within : ℕ → ℕ → ℕ
-within p q = min narrowPatterns (p - narrowPatterns * q)
-
-unfoldable pub wordBelow : ℕ → List ℕ → ℕ → ℕ → ℕ
-wordBelow p sets q j = sum (within p q) (part sets q j)
-
-below-none : (sets : List ℕ) (q j : ℕ) → wordBelow 0 sets q j ≡ 0
-unfolding wordBelow sum
-below-none sets q j = let e : within 0 q ≡ 0 = omega arith in ap (λ k. sum k (part sets q j)) e
-
--- one pattern more changes the word of its section alone
-below-more : (p : ℕ) (sets : List ℕ) (j : ℕ)
-    → wordBelow (p + 1) sets (p / narrowPatterns) j ≡ wordBelow p sets (p / narrowPatterns) j + sidesOf (getD sets p 0) j * 2 ^ seat (p % narrowPatterns)
-unfolding wordBelow sum
-below-more p sets j =
-    let q = p / narrowPatterns in
-    let r = p % narrowPatterns in
-    let a : within p q ≡ r = omega arith in
-    let b : within (p + 1) q ≡ suc r = omega arith in
-    let e : narrowPatterns * q + r ≡ p = omega arith in
-    ap (λ k. sum k (part sets q j)) b
-    ∙ ap₂ (λ x y. x + y) (ap (λ k. sum k (part sets q j)) (sym a)) (ap (λ i. sidesOf (getD sets i 0) j * 2 ^ seat r) e)
-
-below-other : (p : ℕ) (sets : List ℕ) (q j : ℕ) → (q ≡ p / narrowPatterns → ⊥) → wordBelow p sets q j ≡ wordBelow (p + 1) sets q j
-unfolding wordBelow
-below-other p sets q j ne = ap (λ k. sum k (part sets q j)) (same ne)
-  where
-    same : (q ≡ p / narrowPatterns → ⊥) → within p q ≡ within (p + 1) q
-    same ne = omega arith
-
-below-room : (p : ℕ) (sets : List ℕ) (j : ℕ) → wordBelow p sets (p / narrowPatterns) j + bothSides * 2 ^ seat (p % narrowPatterns) < 2 ^ pairBits
-unfolding wordBelow
-below-room p sets j =
-    let q = p / narrowPatterns in
-    let r = p % narrowPatterns in
-    let a : within p q ≡ r = omega arith in
-    rw a (has-room (λ i. sidesOf (getD sets (narrowPatterns * q + i) 0) j) (λ i. sides-le (getD sets (narrowPatterns * q + i) 0) j) r (omega arith))
-
 -- all patterns passed: it is the whole word
-below-all : (n p : ℕ) (sets : List ℕ) (q j : ℕ) → q < sections → NonePast n sets → p ≡ 2 ^ n → wordBelow p sets q j ≡ wordOf sets q j
+below-all : (n p : ℕ) (sets : List ℕ) (q j : ℕ) → q < sections → NonePast n sets → p ≡ 2 ^ n → wordBelow put p sets q j ≡ wordOf sets q j
 unfolding wordBelow
 below-all n p sets q j lq past e =
     ⊎-elim
-    (λ t. let l = leb→le (narrowPatterns * q + narrowPatterns) p t in let a : within p q ≡ narrowPatterns = omega arith in ap (λ k. sum k (part sets q j)) a)
+    (λ t. below-whole put sets q j p (leb→le (narrowPatterns * q + narrowPatterns) p t))
     (λ t.
     let l = nleb→lt (narrowPatterns * q + narrowPatterns) p t in
     let a : within p q ≡ p - narrowPatterns * q = omega arith in
-    ap (λ k. sum k (part sets q j)) a
-    ∙ sym (sum-short (part sets q j) (p - narrowPatterns * q) narrowPatterns (omega arith)
+    ap (λ k. sum k (part put sets q j)) a
+    ∙ sym (sum-short (part put sets q j) (p - narrowPatterns * q) narrowPatterns (omega arith)
     (λ r h. part-none sets q j r (past (narrowPatterns * q + r) (rw (← e) (beyond r h))))))
     (decide (leb (narrowPatterns * q + narrowPatterns) p))
     ∙ sym (word-sum sets q j lq)
@@ -153,54 +103,51 @@ below-all n p sets q j lq past e =
     beyond r h = omega arith
 
 -- the words of all wires, where wire j has the patterns below g j
-abbrev pub wordsTo : List ℕ → (ℕ → ℕ) → List ℕ
-wordsTo sets g = tabulate wordCount (λ i. wordBelow (g (i % maxWires)) sets (i / maxWires) (i % maxWires))
+abbrev pub pairsTo : List ℕ → (ℕ → ℕ) → List ℕ
+pairsTo sets g = wordsTo put wordCount maxWires sets g
 
-pub to-none : (sets : List ℕ) (g : ℕ → ℕ) → ((i : ℕ) → g i ≡ 0) → tabulate wordCount (λ _. 0) ≡ wordsTo sets g
-to-none sets g none =
-    tabulate-cong wordCount (λ _. 0) (λ i. wordBelow (g (i % maxWires)) sets (i / maxWires) (i % maxWires))
-    (λ i _. sym (ap (λ k. wordBelow k sets (i / maxWires) (i % maxWires)) (none (i % maxWires)) ∙ below-none sets (i / maxWires) (i % maxWires)))
+pub pairs-none : (sets : List ℕ) (g : ℕ → ℕ) → ((i : ℕ) → g i ≡ 0) → tabulate wordCount (λ _. 0) ≡ pairsTo sets g
+pairs-none sets g none = to-none put wordCount maxWires sets g none
 
-module _ (sets : List ℕ) (g : ℕ → ℕ) (p j : ℕ) {words : List ℕ} (lp : p < maxPatterns) (lj : j < maxWires) (e : words ≡ wordsTo sets g) (at : g j ≡ p) where
-  word-at : wordAt words p j ≡ wordBelow p sets (p / narrowPatterns) j
-  word-at =
-      let i = wordPlace (p / narrowPatterns) j in
-      let q = place-section (p / narrowPatterns) j lj in
-      let w = place-wire (p / narrowPatterns) j lj in
-      ap (λ x. getD x i 0) e
-      ∙ tabulate-at wordCount (λ i. wordBelow (g (i % maxWires)) sets (i / maxWires) (i % maxWires)) i (place-lt (p / narrowPatterns) j (pattern-section p lp) lj)
-      ∙ ap₂ (λ x y. wordBelow (g x) sets y x) w q ∙ ap (λ x. wordBelow x sets (p / narrowPatterns) j) at
+module _ (sets : List ℕ) (g : ℕ → ℕ) (p j : ℕ) {words : List ℕ} (lp : p < maxPatterns) (lj : j < maxWires) (e : words ≡ pairsTo sets g) (at : g j ≡ p) where
+  wire-at : wordAt words p j ≡ wordBelow put p sets (p / narrowPatterns) j
+  wire-at =
+      let q = p / narrowPatterns in
+      word-at put wordCount maxWires sets g e (wordPlace q j) q j (place-lt q j (pattern-section p lp) lj) (place-section q j lj) (place-wire q j lj)
+      ∙ ap (λ x. wordBelow put x sets q j) at
 
   -- there is room for the next pattern, and with it put in it is there
   pub to-room : wordAt words p j + bothSides * 2 ^ seat (p % narrowPatterns) < 2 ^ pairBits
-  to-room = rw word-at (below-room p sets j)
+  to-room =
+      rw wire-at
+      (below-room put sets p j most (2 ^ pairBits) (λ w r. mul-le-mul-right (2 ^ seat r) (sides-le w j)) (ltb→lt (sum narrowPatterns most) (2 ^ pairBits) most-fits))
 
   pub to-more : (h : ℕ → ℕ) → h j ≡ p + 1 → ((i : ℕ) → (i ≡ j → ⊥) → g i ≡ h i) → {r : List ℕ}
       → r ≡ set words (wordPlace (p / narrowPatterns) j) (wordAt words p j + sidesOf (getD sets p 0) j * 2 ^ seat (p % narrowPatterns))
-      → r ≡ wordsTo sets h
+      → r ≡ pairsTo sets h
   to-more h next others er =
       let q = p / narrowPatterns in
       let k = wordPlace q j in
       let x = wordAt words p j + sidesOf (getD sets p 0) j * 2 ^ seat (p % narrowPatterns) in
-      let new : wordBelow (h (k % maxWires)) sets (k / maxWires) (k % maxWires) ≡ wordBelow (p + 1) sets q j =
-      ap₂ (λ x y. wordBelow (h x) sets y x) (place-wire q j lj) (place-section q j lj) ∙ ap (λ x. wordBelow x sets q j) next in
+      let new : wordBelow put (h (k % maxWires)) sets (k / maxWires) (k % maxWires) ≡ wordBelow put (p + 1) sets q j =
+      ap₂ (λ x y. wordBelow put (h x) sets y x) (place-wire q j lj) (place-section q j lj) ∙ ap (λ x. wordBelow put x sets q j) next in
       er ∙ ap (λ l. set l k x) e
-      ∙ tabulate-set wordCount (λ i. wordBelow (g (i % maxWires)) sets (i / maxWires) (i % maxWires)) (λ i. wordBelow (h (i % maxWires)) sets (i / maxWires) (i % maxWires))
+      ∙ tabulate-set wordCount (λ i. wordBelow put (g (i % maxWires)) sets (i / maxWires) (i % maxWires)) (λ i. wordBelow put (h (i % maxWires)) sets (i / maxWires) (i % maxWires))
       k x (place-lt q j (pattern-section p lp) lj)
-      (ap (λ y. y + sidesOf (getD sets p 0) j * 2 ^ seat (p % narrowPatterns)) word-at ∙ sym (below-more p sets j) ∙ sym new) other
+      (ap (λ y. y + sidesOf (getD sets p 0) j * 2 ^ seat (p % narrowPatterns)) wire-at ∙ sym (below-more put sets p j) ∙ sym new) other
     where
       apart : (i : ℕ) → (i ≡ wordPlace (p / narrowPatterns) j → ⊥) → i % maxWires ≡ j → i / maxWires ≡ p / narrowPatterns → ⊥
       apart i ne d s = ne (omega arith)
 
       other : (i : ℕ) → (i ≡ wordPlace (p / narrowPatterns) j → ⊥)
-          → wordBelow (g (i % maxWires)) sets (i / maxWires) (i % maxWires) ≡ wordBelow (h (i % maxWires)) sets (i / maxWires) (i % maxWires)
+          → wordBelow put (g (i % maxWires)) sets (i / maxWires) (i % maxWires) ≡ wordBelow put (h (i % maxWires)) sets (i / maxWires) (i % maxWires)
       other i ne =
           ⊎-elim
           (λ t.
           let d = eqb→eq (i % maxWires) j t in
-          ap (λ k. wordBelow k sets (i / maxWires) (i % maxWires)) (ap g d ∙ at) ∙ below-other p sets (i / maxWires) (i % maxWires) (apart i ne d)
-          ∙ ap (λ k. wordBelow k sets (i / maxWires) (i % maxWires)) (sym (ap h d ∙ next)))
-          (λ t. ap (λ k. wordBelow k sets (i / maxWires) (i % maxWires)) (others (i % maxWires) (λ d. T-not (eqb (i % maxWires) j) t (eq-test d))))
+          ap (λ k. wordBelow put k sets (i / maxWires) (i % maxWires)) (ap g d ∙ at) ∙ below-other put sets (i / maxWires) (i % maxWires) p (apart i ne d)
+          ∙ ap (λ k. wordBelow put k sets (i / maxWires) (i % maxWires)) (sym (ap h d ∙ next)))
+          (λ t. ap (λ k. wordBelow put k sets (i / maxWires) (i % maxWires)) (others (i % maxWires) (λ d. T-not (eqb (i % maxWires) j) t (eq-test d))))
           (decide (eqb (i % maxWires) j))
 
 -- one wire alone
@@ -216,22 +163,22 @@ alone-at p j = eqb-yes j j p 0 refl
 pub alone-other : (p j i : ℕ) → (i ≡ j → ⊥) → alone p j i ≡ alone (p + 1) j i
 alone-other p j i ne = eqb-not i j p 0 ne ∙ sym (eqb-not i j (p + 1) 0 ne)
 
-pub alone-all : (n p : ℕ) (sets : List ℕ) (j : ℕ) → NonePast n sets → p ≡ 2 ^ n → wordsTo sets (alone p j) ≡ wordsFor sets j
+pub alone-all : (n p : ℕ) (sets : List ℕ) (j : ℕ) → NonePast n sets → p ≡ 2 ^ n → pairsTo sets (alone p j) ≡ wordsFor sets j
 unfolding wordsFor
 alone-all n p sets j past e =
-    tabulate-cong wordCount (λ i. wordBelow (alone p j (i % maxWires)) sets (i / maxWires) (i % maxWires)) (λ i. cond (eqb (i % maxWires) j) (wordOf sets (i / maxWires) j) 0)
+    tabulate-cong wordCount (λ i. wordBelow put (alone p j (i % maxWires)) sets (i / maxWires) (i % maxWires)) (λ i. cond (eqb (i % maxWires) j) (wordOf sets (i / maxWires) j) 0)
     (λ i l.
     ⊎-elim
     (λ t.
     let d = eqb→eq (i % maxWires) j t in
     let s : i / maxWires < sections = omega arith in
-    ap (λ k. wordBelow k sets (i / maxWires) (i % maxWires)) (eqb-yes (i % maxWires) j p 0 d)
-    ∙ ap (wordBelow p sets (i / maxWires)) d ∙ below-all n p sets (i / maxWires) j s past e
+    ap (λ k. wordBelow put k sets (i / maxWires) (i % maxWires)) (eqb-yes (i % maxWires) j p 0 d)
+    ∙ ap (wordBelow put p sets (i / maxWires)) d ∙ below-all n p sets (i / maxWires) j s past e
     ∙ sym (eqb-yes (i % maxWires) j (wordOf sets (i / maxWires) j) 0 d))
     (λ t.
     let ne : i % maxWires ≡ j → ⊥ = λ d. T-not (eqb (i % maxWires) j) t (eq-test d) in
-    ap (λ k. wordBelow k sets (i / maxWires) (i % maxWires)) (eqb-not (i % maxWires) j p 0 ne)
-    ∙ below-none sets (i / maxWires) (i % maxWires) ∙ sym (eqb-not (i % maxWires) j (wordOf sets (i / maxWires) j) 0 ne))
+    ap (λ k. wordBelow put k sets (i / maxWires) (i % maxWires)) (eqb-not (i % maxWires) j p 0 ne)
+    ∙ below-none put sets (i / maxWires) (i % maxWires) 0 (omega arith) ∙ sym (eqb-not (i % maxWires) j (wordOf sets (i / maxWires) j) 0 ne))
     (decide (eqb (i % maxWires) j)))
 
 -- all wires, of which the first k have pattern p too
@@ -250,18 +197,18 @@ firsts-other p k i ne = others-same (p + 1) p i k ne
 pub firsts-none : (p i : ℕ) → firsts p 0 i ≡ p
 firsts-none p i = rw (le-ltb i 0 (omega arith))
 
-pub firsts-end : (p : ℕ) (sets : List ℕ) → wordsTo sets (firsts p maxWires) ≡ wordsTo sets (firsts (p + 1) 0)
+pub firsts-end : (p : ℕ) (sets : List ℕ) → pairsTo sets (firsts p maxWires) ≡ pairsTo sets (firsts (p + 1) 0)
 firsts-end p sets =
-    tabulate-cong wordCount (λ i. wordBelow (firsts p maxWires (i % maxWires)) sets (i / maxWires) (i % maxWires))
-    (λ i. wordBelow (firsts (p + 1) 0 (i % maxWires)) sets (i / maxWires) (i % maxWires))
+    tabulate-cong wordCount (λ i. wordBelow put (firsts p maxWires (i % maxWires)) sets (i / maxWires) (i % maxWires))
+    (λ i. wordBelow put (firsts (p + 1) 0 (i % maxWires)) sets (i / maxWires) (i % maxWires))
     (λ i _.
     let a : firsts p maxWires (i % maxWires) ≡ p + 1 = rw (lt-ltb (i % maxWires) maxWires (omega arith)) in
-    ap (λ k. wordBelow k sets (i / maxWires) (i % maxWires)) (a ∙ sym (firsts-none (p + 1) (i % maxWires))))
+    ap (λ k. wordBelow put k sets (i / maxWires) (i % maxWires)) (a ∙ sym (firsts-none (p + 1) (i % maxWires))))
 
-pub firsts-all : (n p : ℕ) (sets : List ℕ) → NonePast n sets → p ≡ 2 ^ n → wordsTo sets (firsts p 0) ≡ pairsOf sets
+pub firsts-all : (n p : ℕ) (sets : List ℕ) → NonePast n sets → p ≡ 2 ^ n → pairsTo sets (firsts p 0) ≡ pairsOf sets
 unfolding pairsOf
 firsts-all n p sets past e =
-    tabulate-cong wordCount (λ i. wordBelow (firsts p 0 (i % maxWires)) sets (i / maxWires) (i % maxWires)) (λ i. wordOf sets (i / maxWires) (i % maxWires))
+    tabulate-cong wordCount (λ i. wordBelow put (firsts p 0 (i % maxWires)) sets (i / maxWires) (i % maxWires)) (λ i. wordOf sets (i / maxWires) (i % maxWires))
     (λ i l.
     let s : i / maxWires < sections = omega arith in
-    ap (λ k. wordBelow k sets (i / maxWires) (i % maxWires)) (firsts-none p (i % maxWires)) ∙ below-all n p sets (i / maxWires) (i % maxWires) s past e)
+    ap (λ k. wordBelow put k sets (i / maxWires) (i % maxWires)) (firsts-none p (i % maxWires)) ∙ below-all n p sets (i / maxWires) (i % maxWires) s past e)

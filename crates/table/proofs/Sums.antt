@@ -1,9 +1,9 @@
 -- Laws of sums over the numbers below a bound.
 use Prim.Native.Nat.{ℕ, zero, suc, _+_, _*_, _<_, _≤_}
-use mathlib.Core.Path.{_≡_, refl, ap}
+use mathlib.Core.Path.{_≡_, refl, ap, _∙_}
 use mathlib.Core.Logic.{_⊎_, inl, inr, ⊎-elim}
 use native.Mathlib.Omega.{arith}
-use native.Mathlib.Nat.{not-suc-le-zero, le-of-suc-le-suc, eq-or-lt-of-le}
+use native.Mathlib.Nat.{not-suc-le-zero, le-of-suc-le-suc, eq-or-lt-of-le, le-refl, add-suc}
 use Rattle.base.proofs.Tests.{below-suc}
 use Rattle.table.specs.Bits.{sum}
 
@@ -35,6 +35,24 @@ pub sum-constant : (k c : ℕ) → sum k (λ _. c) ≡ c * k
 unfolding sum
 sum-constant zero c = omega arith
 sum-constant (suc k) c = omega (arith, sum-constant k c)
+
+-- sums of two parts, and of two functions
+pub sum-append : (m n : ℕ) (f : ℕ → ℕ) → sum (m + n) f ≡ sum m f + sum n (λ j. f (m + j))
+unfolding sum
+sum-append m zero f = let e : m + 0 ≡ m = omega arith in ap (λ k. sum k f) e ∙ omega arith
+sum-append m (suc n) f = ap (λ k. sum k f) (add-suc m n) ∙ omega (arith, sum-append m n f)
+
+pub sum-add : (n : ℕ) (f g : ℕ → ℕ) → sum n f + sum n g ≡ sum n (λ i. f i + g i)
+unfolding sum
+sum-add zero f g = omega arith
+sum-add (suc n) f g = omega (arith, sum-add n f g)
+
+-- a sum over more numbers is no less
+pub sum-grows : (f : ℕ → ℕ) (k l : ℕ) → k ≤ l → sum k f ≤ sum l f
+unfolding sum
+sum-grows f k zero h = let e : k ≡ 0 = omega arith in rw e (omega arith)
+sum-grows f k (suc l) h =
+    ⊎-elim (λ (e : k ≡ suc l). rw e (le-refl (sum (suc l) f))) (λ b. omega (arith, sum-grows f k l (le-of-suc-le-suc b))) (eq-or-lt-of-le h)
 
 -- what is 0 from m on adds nothing
 pub sum-short : (f : ℕ → ℕ) (m k : ℕ) → m ≤ k → ((i : ℕ) → m ≤ i → f i ≡ 0) → sum k f ≡ sum m f

@@ -1,17 +1,18 @@
 -- `whole_of` meets its contract: one pattern after the other is put in.
 use Prim.Native.Nat.{_-_, _<_, _≤_}
-use mathlib.Core.Path.{_≡_, ap, _∙_}
+use mathlib.Core.Path.{_≡_, refl, ap, _∙_}
 use native.Mathlib.Omega.{arith}
 use Rattle.sheet.specs.Limits.{maxPatterns}
 use Rattle.table.specs.Bits.{tabulate}
-use Rattle.by_value.specs.Inner.ByValue.{allWords, filled, withSet}
-use Rattle.by_value.proofs.Words.{wordsTo, to-none, to-length, to-room, to-more, to-all}
+use Rattle.by_value.specs.Inner.ByValue.{sectionWords, allWords, added, filled, withSet}
+use Rattle.by_value.proofs.SectionSums.{to-none}
+use Rattle.by_value.proofs.Words.{valueWordsTo, to-length, to-room, to-more, to-all}
 use borrow.Author.Needs.{needs}
 use Rattle.by_value.proofs.whole_of.Statement.{statement}
 use Rattle.by_value.proofs.whole_of.Tie as tie
 
 abbrev Inv-loop : tie.InvT-loop
-Inv-loop count seen sets words₀ p₀ words p = (p ≤ seen) × (words ≡ wordsTo p (filled count sets))
+Inv-loop count seen sets words₀ p₀ words p = (p ≤ seen) × (words ≡ valueWordsTo p (filled count sets))
 
 abbrev μ-loop : tie.MeasureT-loop
 μ-loop count seen sets words₀ p₀ words p = seen - p
@@ -19,7 +20,8 @@ abbrev μ-loop : tie.MeasureT-loop
 loop-holds : tie.Need-loop-holds Inv-loop μ-loop
 unfolding tabulate
 loop-holds c =
-    let e : tabulate allWords (λ _. 0) ≡ wordsTo 0 (filled (c .args .count) (c .args .sets .now)) = to-none (filled (c .args .count) (c .args .sets .now)) in
+    let sets = filled (c .args .count) (c .args .sets .now) in
+    let e : tabulate allWords (λ _. 0) ≡ valueWordsTo 0 sets = to-none added allWords sectionWords sets (λ _. 0) (λ _. refl) in
     (omega arith, e)
 
 set-at-requires : tie.Need-set-at-requires Inv-loop μ-loop
@@ -54,7 +56,7 @@ returns c =
     let s = c .before .before in
     let e : l .p ≡ s .args .seen = omega arith in
     let sets = filled (s .args .count) (s .args .sets .now) in
-    to-all (s .args .seen) sets (l .words) (s .pre .0) (s .pre .1) (l .inv .1 ∙ ap (λ p. wordsTo p sets) e)
+    to-all (s .args .seen) sets (l .words) (s .pre .0) (s .pre .1) (l .inv .1 ∙ ap (λ p. valueWordsTo p sets) e)
 
 pub whole-of-spec : {M : Type 1} → statement M
 whole-of-spec =

@@ -1,5 +1,5 @@
 -- The state that the search lends down as one list: what stands where. The tables of four wires on a section of the patterns stand side by side in one number.
-use Prim.Native.Nat.{ℕ, _+_, _*_, _<_, _≤_}
+use Prim.Native.Nat.{ℕ, _+_, _<_, _≤_}
 use mathlib.Core.Path.{_≡_}
 use mathlib.Core.Bool.{Bool, cond}
 use mathlib.Core.List.{List}

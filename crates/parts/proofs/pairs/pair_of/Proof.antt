@@ -5,13 +5,13 @@ use native.Mathlib.Omega.{arith}
 use Rattle.sheet.specs.Limits.{maxPatterns}
 use Rattle.table.specs.Bits.{tabulate}
 use Rattle.parts.specs.Inner.Words.{wordCount}
-use Rattle.parts.proofs.WordSums.{wordsTo, to-none, to-room, to-more, alone, alone-none, alone-at, alone-other, alone-all}
+use Rattle.parts.proofs.WordSums.{pairsTo, pairs-none, to-room, to-more, alone, alone-none, alone-at, alone-other, alone-all}
 use borrow.Author.Needs.{needs}
 use Rattle.parts.proofs.pairs.pair_of.Statement.{statement}
 use Rattle.parts.proofs.pairs.pair_of.Tie as tie
 
 abbrev Inv-loop : tie.InvT-loop
-Inv-loop n sets j count words₀ p₀ words p = (p ≤ count) × (words ≡ wordsTo sets (alone p j))
+Inv-loop n sets j count words₀ p₀ words p = (p ≤ count) × (words ≡ pairsTo sets (alone p j))
 
 abbrev μ-loop : tie.MeasureT-loop
 μ-loop n sets j count words₀ p₀ words p = count - p
@@ -22,7 +22,7 @@ patterns-of-requires c κs = search needs
 loop-holds : tie.Need-loop-holds Inv-loop μ-loop
 unfolding tabulate
 loop-holds c =
-    let e : tabulate wordCount (λ _. 0) ≡ wordsTo (c .before .args .sets .now) (alone 0 (c .before .args .j)) = to-none (c .before .args .sets .now) (alone 0 (c .before .args .j)) (alone-none (c .before .args .j)) in
+    let e : tabulate wordCount (λ _. 0) ≡ pairsTo (c .before .args .sets .now) (alone 0 (c .before .args .j)) = pairs-none (c .before .args .sets .now) (alone 0 (c .before .args .j)) (alone-none (c .before .args .j)) in
     (omega arith, e)
 
 cast-put-in : tie.Need-cast-put-in Inv-loop μ-loop

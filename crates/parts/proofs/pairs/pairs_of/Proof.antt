@@ -9,13 +9,13 @@ use Rattle.table.specs.Bits.{tabulate}
 use Rattle.table.specs.Inner.Pairs.{narrowPatterns, pairBits, seat}
 use Rattle.parts.specs.Inner.Pairs.{bothSides, sidesOf}
 use Rattle.parts.specs.Inner.Words.{wordCount, wordPlace, wordAt}
-use Rattle.parts.proofs.WordSums.{wordsTo, to-none, to-room, to-more, firsts, firsts-none, firsts-at, firsts-next, firsts-other, firsts-end, firsts-all}
+use Rattle.parts.proofs.WordSums.{pairsTo, pairs-none, to-room, to-more, firsts, firsts-none, firsts-at, firsts-next, firsts-other, firsts-end, firsts-all}
 use borrow.Author.Needs.{needs}
 use Rattle.parts.proofs.pairs.pairs_of.Statement.{statement}
 use Rattle.parts.proofs.pairs.pairs_of.Tie as tie
 
 abbrev Inv-loop : tie.InvT-loop
-Inv-loop n sets count words₀ p₀ words p = (p ≤ count) × (words ≡ wordsTo sets (firsts p 0))
+Inv-loop n sets count words₀ p₀ words p = (p ≤ count) × (words ≡ pairsTo sets (firsts p 0))
 
 abbrev μ-loop : tie.MeasureT-loop
 μ-loop n sets count words₀ p₀ words p = count - p
@@ -26,7 +26,7 @@ patterns-of-requires c κs = search needs
 loop-holds : tie.Need-loop-holds Inv-loop μ-loop
 unfolding tabulate
 loop-holds c =
-    let e : tabulate wordCount (λ _. 0) ≡ wordsTo (c .before .args .sets .now) (firsts 0 0) = to-none (c .before .args .sets .now) (firsts 0 0) (firsts-none 0) in
+    let e : tabulate wordCount (λ _. 0) ≡ pairsTo (c .before .args .sets .now) (firsts 0 0) = pairs-none (c .before .args .sets .now) (firsts 0 0) (firsts-none 0) in
     (omega arith, e)
 
 cast-set : tie.Need-cast-set Inv-loop μ-loop
@@ -42,12 +42,12 @@ element-copy-out-set c = omega (arith, c .before .before .patterns-of .ensures .
 abbrev Asked : (words : List ℕ) (p k : ℕ) → Type 0
 Asked words p k = (p < maxPatterns) × (k < maxWires) × (wordAt words p k + bothSides * 2 ^ seat (p % narrowPatterns) < 2 ^ pairBits)
 
-module _ (sets : List ℕ) (p k : ℕ) (lp : p < maxPatterns) (lk : k < maxWires) {words : List ℕ} (e : words ≡ wordsTo sets (firsts p k)) where
+module _ (sets : List ℕ) (p k : ℕ) (lp : p < maxPatterns) (lk : k < maxWires) {words : List ℕ} (e : words ≡ pairsTo sets (firsts p k)) where
   asked : Asked words p k
   asked = (lp, lk, to-room sets (firsts p k) p k lp lk e (firsts-at p k))
 
   next : {r : List ℕ} → r ≡ set words (wordPlace (p / narrowPatterns) k) (wordAt words p k + sidesOf (getD sets p 0) k * 2 ^ seat (p % narrowPatterns))
-      → r ≡ wordsTo sets (firsts p (suc k))
+      → r ≡ pairsTo sets (firsts p (suc k))
   next er = to-more sets (firsts p k) p k lp lk e (firsts-at p k) (firsts p (suc k)) (firsts-next p k) (firsts-other p k) er
 
 put-in-requires : tie.Need-put-in-requires Inv-loop μ-loop
@@ -55,7 +55,7 @@ put-in-requires c κs =
     let l = c .before .before .before .loop in
     asked (c .before .before .before .before .before .args .sets .now) (l .p) 0 (omega (arith, c .before .before .before .before .patterns-of .ensures .1)) (omega arith) (l .inv .1)
 
-first : (c : tie.After-put-in Inv-loop μ-loop) → c .put-in .last .0 ≡ wordsTo (c .before .before .before .before .before .before .args .sets .now) (firsts (c .before .before .before .before .loop .p) 1)
+first : (c : tie.After-put-in Inv-loop μ-loop) → c .put-in .last .0 ≡ pairsTo (c .before .before .before .before .before .before .args .sets .now) (firsts (c .before .before .before .before .loop .p) 1)
 first c =
     let l = c .before .before .before .before .loop in
     next (c .before .before .before .before .before .before .args .sets .now) (l .p) 0 (omega (arith, c .before .before .before .before .before .patterns-of .ensures .1)) (omega arith) (c .before .before .before .before .loop .inv .1) (c .put-in .ensures)
@@ -65,7 +65,7 @@ put-in-requires-2 c κs =
     let l = c .before .before .before .before .before .loop in
     asked (c .before .before .before .before .before .before .before .args .sets .now) (l .p) 1 (omega (arith, c .before .before .before .before .before .before .patterns-of .ensures .1)) (omega arith) (first (c .before))
 
-second : (c : tie.After-put-in2 Inv-loop μ-loop) → c .put-in2 .last .0 ≡ wordsTo (c .before .before .before .before .before .before .before .before .args .sets .now) (firsts (c .before .before .before .before .before .before .loop .p) 2)
+second : (c : tie.After-put-in2 Inv-loop μ-loop) → c .put-in2 .last .0 ≡ pairsTo (c .before .before .before .before .before .before .before .before .args .sets .now) (firsts (c .before .before .before .before .before .before .loop .p) 2)
 second c =
     let l = c .before .before .before .before .before .before .loop in
     next (c .before .before .before .before .before .before .before .before .args .sets .now) (l .p) 1 (omega (arith, c .before .before .before .before .before .before .before .patterns-of .ensures .1)) (omega arith) (first (c .before .before)) (c .put-in2 .ensures)
@@ -75,7 +75,7 @@ put-in-requires-3 c κs =
     let l = c .before .before .before .before .before .before .before .loop in
     asked (c .before .before .before .before .before .before .before .before .before .args .sets .now) (l .p) 2 (omega (arith, c .before .before .before .before .before .before .before .before .patterns-of .ensures .1)) (omega arith) (second (c .before))
 
-third : (c : tie.After-put-in3 Inv-loop μ-loop) → c .put-in3 .last .0 ≡ wordsTo (c .before .before .before .before .before .before .before .before .before .before .args .sets .now) (firsts (c .before .before .before .before .before .before .before .before .loop .p) 3)
+third : (c : tie.After-put-in3 Inv-loop μ-loop) → c .put-in3 .last .0 ≡ pairsTo (c .before .before .before .before .before .before .before .before .before .before .args .sets .now) (firsts (c .before .before .before .before .before .before .before .before .loop .p) 3)
 third c =
     let l = c .before .before .before .before .before .before .before .before .loop in
     next (c .before .before .before .before .before .before .before .before .before .before .args .sets .now) (l .p) 2 (omega (arith, c .before .before .before .before .before .before .before .before .before .patterns-of .ensures .1)) (omega arith) (second (c .before .before)) (c .put-in3 .ensures)
@@ -85,7 +85,7 @@ put-in-requires-4 c κs =
     let l = c .before .before .before .before .before .before .before .before .before .loop in
     asked (c .before .before .before .before .before .before .before .before .before .before .before .args .sets .now) (l .p) 3 (omega (arith, c .before .before .before .before .before .before .before .before .before .before .patterns-of .ensures .1)) (omega arith) (third (c .before))
 
-fourth : (c : tie.After-put-in4 Inv-loop μ-loop) → c .put-in4 .last .0 ≡ wordsTo (c .before .before .before .before .before .before .before .before .before .before .before .before .args .sets .now) (firsts (c .before .before .before .before .before .before .before .before .before .before .loop .p) 4)
+fourth : (c : tie.After-put-in4 Inv-loop μ-loop) → c .put-in4 .last .0 ≡ pairsTo (c .before .before .before .before .before .before .before .before .before .before .before .before .args .sets .now) (firsts (c .before .before .before .before .before .before .before .before .before .before .loop .p) 4)
 fourth c =
     let l = c .before .before .before .before .before .before .before .before .before .before .loop in
     next (c .before .before .before .before .before .before .before .before .before .before .before .before .args .sets .now) (l .p) 3 (omega (arith, c .before .before .before .before .before .before .before .before .before .before .before .patterns-of .ensures .1)) (omega arith) (third (c .before .before)) (c .put-in4 .ensures)
