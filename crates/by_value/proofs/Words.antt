@@ -17,8 +17,9 @@ use Rattle.table.specs.Inner.Wide.{sections}
 use Rattle.table.proofs.Bits.{sum-cong, bit-lt, bit-mod, bit-div, bit-cases, tabulate-length, tabulate-cong}
 use Rattle.table.proofs.Sums.{sum-append, sum-add}
 use Rattle.relation.specs.Inner.Members.{member}
+use Rattle.lanes.specs.Inner.Lanes.{eachLane, lanesOf}
 use Rattle.by_value.proofs.SectionSums.{part, wordBelow, below-none, below-whole, below-other, below-more, below-room, wordsTo, word-at}
-use Rattle.by_value.specs.Inner.ByValue.{wordValues, wordWidth, sectionWords, allWords, wordPlace, valueWord, lowestPlaces, valuesIn, spreadOf, added, wordAt, HasRoom, withSet, WordsBelow}
+use Rattle.by_value.specs.Inner.ByValue.{wordValues, wordWidth, sectionWords, allWords, wordPlace, valueWord, valuesIn, added, wordAt, HasRoom, withSet, WordsBelow}
 
 -- a sum over the bits of a word, lane by lane
 abbrev lane : (ℕ → ℕ) → (i r : ℕ) → ℕ
@@ -70,11 +71,11 @@ module _ (sets : List ℕ) (q k : ℕ) where
       ∙ sym (mul-assoc (bit (valuesIn w k) i) (2 ^ (narrowPatterns * i)) (2 ^ r))
 
   part-lanes : (r : ℕ) → r < narrowPatterns → lane place 0 r + lane place 1 r + lane place 2 r + lane place 3 r ≡ part added sets q k r
-  unfolding added spreadOf sum
+  unfolding added lanesOf sum
   part-lanes r lr =
       let x = valuesIn (getD sets (narrowPatterns * q + r) 0) k in
       let g : ℕ → ℕ = λ i. bit x i * 2 ^ (narrowPatterns * i) in
-      let e : spreadOf x ≡ g 0 + g 1 + g 2 + g 3 = omega arith in
+      let e : lanesOf (bit x) ≡ g 0 + g 1 + g 2 + g 3 = omega arith in
       let s = ap (λ y. y * 2 ^ r) e ∙ four-times (g 0) (g 1) (g 2) (g 3) (2 ^ r) in
       omega (
         arith,
@@ -94,16 +95,16 @@ module _ (sets : List ℕ) (q k : ℕ) where
 bit-small : (x i : ℕ) → bit x i ≤ 1
 bit-small x i = omega (arith, bit-lt x i)
 
-spread-le : (x : ℕ) → spreadOf x ≤ lowestPlaces
-unfolding spreadOf sum
+spread-le : (x : ℕ) → lanesOf (bit x) ≤ eachLane
+unfolding lanesOf sum
 spread-le x = omega (arith, bit-small x 0, bit-small x 1, bit-small x 2, bit-small x 3)
 
-added-le : (w k r : ℕ) → added w k r ≤ lowestPlaces * 2 ^ r
+added-le : (w k r : ℕ) → added w k r ≤ eachLane * 2 ^ r
 unfolding added
 added-le w k r = mul-le-mul-right (2 ^ r) (spread-le (valuesIn w k))
 
 abbrev most : ℕ → ℕ
-most i = lowestPlaces * 2 ^ i
+most i = eachLane * 2 ^ i
 
 most-fits : T (ltb (sum narrowPatterns most) (2 ^ wordWidth))
 unfolding sum

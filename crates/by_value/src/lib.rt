@@ -2,6 +2,9 @@
 // allowed is so told of all patterns of a section at once, with no step for each pattern and no branch.
 // A word has four lanes, one for each of four values, and a lane has one bit for each pattern of the section. Four words have all values of a section.
 // Inner functions: the search meets what they require, sections and patterns that there are and words that lack the pattern put in.
+use lanes::LANE;
+use lanes::LANES;
+use lanes::lane;
 use sheet::Sheet;
 use table::wide::SECTION;
 use table::wide::SECTION_SPACE;
@@ -16,8 +19,8 @@ ghost use Rattle.table.specs.Bits.{bit};
 ghost use Rattle.table.specs.Inner.Pairs.{narrowPatterns};
 ghost use Rattle.table.specs.Inner.Ranks.{narrowSpace};
 ghost use Rattle.table.specs.Inner.Wide.{sections};
-ghost use Rattle.relation.specs.Inner.Side.{section};
-ghost use Rattle.by_value.specs.Inner.ByValue.{wordValues, wordWidth, sectionWords, allWords, wordPlace, Agreeing, lowestPlaces, valuesIn, spreadOf, added, wordAt, HasRoom, withWord, withSet, filled, WordsBelow, firstRefused};
+ghost use Rattle.lanes.specs.Inner.Lanes.{eachLane, lanesOf};
+ghost use Rattle.by_value.specs.Inner.ByValue.{wordValues, wordWidth, sectionWords, allWords, wordPlace, Agreeing, valuesIn, added, wordAt, HasRoom, withWord, withSet, filled, WordsBelow, firstRefused};
 
 // The values of a word, a lane for each: so many lanes fill its bits.
 const WORD_VALUES: u8 = 4;
@@ -30,13 +33,8 @@ pub const SECTION_WORDS: usize = Sheet::MAX_VALUES / WORD_VALUES as usize;
 
 pub const WORDS: usize = SECTION_WORDS * SECTIONS as usize;
 
-// How far a lane stands above the next lower one, and two lanes above the next lower two.
-const LANE: u64 = SECTION as u64;
-
-const TWO_LANES: u64 = 2 * LANE;
-
-// The lowest bit of each lane.
-const LOWEST: u64 = 1 + (1 << LANE) + (1 << (2 * LANE)) + (1 << (3 * LANE));
+// How far two lanes stand above the next lower two.
+const TWO_LANES: u8 = 2 * LANE;
 
 // Times this, a number of four bits has its bit i in lane i's lowest place too: each copy stands one place less than a lane above the one before.
 const COPIES: u64 = 1 + (1 << (LANE - 1)) + (1 << (2 * (LANE - 1))) + (1 << (3 * (LANE - 1)));
@@ -53,20 +51,12 @@ fn choose(t: u64, zero: u64, one: u64) -> u64
     zero ^ ((zero ^ one) & t)
 }
 
-// Lane j of a number.
-fn lane_of(x: u64, j: u8) -> u64
-    requires { ⌜ j < wordValues ⌝ }
-    ensures { λ r. ⌜ (r ≡ section x j) × (r < narrowSpace) ⌝ }
-{
-    (x >> (SECTION * j)) % SECTION_SPACE
-}
-
 // A lane's number in each of the four lanes.
 fn in_lanes(x: u64) -> u64
     requires { ⌜ x < narrowSpace ⌝ }
     ensures { λ r. ⌜ ((i p : ℕ) → i < wordValues → p < narrowPatterns → bit r (narrowPatterns * i + p) ≡ bit x p) ⌝ }
 {
-    x * LOWEST
+    x * LANES
 }
 
 // Lane j of a number in each of the four lanes, so that it can choose in each of them.
@@ -74,7 +64,7 @@ fn lane_in_lanes(x: u64, j: u8) -> u64
     requires { ⌜ j < wordValues ⌝ }
     ensures { λ r. ⌜ ((i p : ℕ) → i < wordValues → p < narrowPatterns → bit r (narrowPatterns * i + p) ≡ bit x (narrowPatterns * j + p)) ⌝ }
 {
-    in_lanes(lane_of(x, j))
+    in_lanes(lane(x, j))
 }
 
 // The patterns of a section that allow the value which four tables side by side drive there, by the section's four words. Wires 3 and 2 choose the word,
@@ -113,14 +103,14 @@ fn values_in(set: u16, k: u8) -> u64
 // The values of a word with a lane for each.
 fn spread(x: u64) -> u64
     requires { ⌜ x < 2 ^ wordValues ⌝ }
-    ensures { λ r. ⌜ (r ≡ spreadOf x) × (r ≤ lowestPlaces) ⌝ }
+    ensures { λ r. ⌜ (r ≡ lanesOf (bit x)) × (r ≤ eachLane) ⌝ }
 {
-    (x * COPIES) & LOWEST
+    (x * COPIES) & LANES
 }
 
 // A word with the p-th pattern of its section, which it lacks, put in by the pattern's set.
 fn put_lanes(word: u64, p: u8, set: u16, k: u8) -> u64
-    requires { ⌜ (p < narrowPatterns) × (k < sectionWords) × (word + lowestPlaces * 2 ^ p < 2 ^ wordWidth) ⌝ }
+    requires { ⌜ (p < narrowPatterns) × (k < sectionWords) × (word + eachLane * 2 ^ p < 2 ^ wordWidth) ⌝ }
     ensures { λ r. ⌜ r ≡ word + added set k p ⌝ }
 {
     word + (spread(values_in(set, k)) << p)

@@ -10,7 +10,7 @@ use Rattle.sheet.specs.Limits.{maxWires}
 use Rattle.lanes.specs.Inner.Lanes.{laneBits, lanesSpace, laneOf, LanesBelow}
 use Rattle.lanes.proofs.Lanes.{lane-and, lane-xor}
 
-bit-chosen : (d z o : ℕ) → d < 2 → z < 2 → o < 2 → bitXor z (bitAnd (bitXor z o) d) ≡ cond (eqb d 1) o z
+pub bit-chosen : (d z o : ℕ) → d < 2 → z < 2 → o < 2 → bitXor z (bitAnd (bitXor z o) d) ≡ cond (eqb d 1) o z
 bit-chosen zero z o ld lz lo = ap (bitXor z) (and-zero-r (bitXor z o)) ∙ xor-zero-r z
 bit-chosen (suc zero) zero zero ld lz lo = refl
 bit-chosen (suc zero) zero (suc zero) ld lz lo = refl

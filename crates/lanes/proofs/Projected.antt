@@ -15,9 +15,9 @@ use Rattle.table.proofs.BitColumns.{isOne-lt-two}
 use Rattle.relation.specs.Tests.{occurs}
 use Rattle.relation.specs.Inner.Members.{member, withBit}
 use Rattle.relation.proofs.Members.{occurs-with, with-le}
-use Rattle.lanes.specs.Inner.Lanes.{laneSpace, halfLane, lanesSpace, laneOf, lanesOf, LanesBelow}
+use Rattle.lanes.specs.Inner.Lanes.{laneSpace, halfLane, lanesSpace, eachLane, laneOf, lanesOf, LanesBelow}
 use Rattle.lanes.proofs.Lanes.{lane-lanes, lane-and, lanes-lt, lanes-are, lanes-cong}
-use Rattle.lanes.proofs.Empty.{each}
+use Rattle.lanes.proofs.Empty.{each-times}
 
 column-lt : (j b : ℕ) → columnOf j b < laneSpace
 unfolding columnOf
@@ -52,17 +52,12 @@ half-none w e =
     (λ t. let z : w / 2 ≡ 0 = omega (arith, eqb→eq w 0 t) in eq-test z)
 
 module _ (s : ℕ) (ls : s < laneSpace) where
-  -- the set in every lane
-  spread : s * each ≡ lanesOf (λ _. s)
-  unfolding lanesOf sum
-  spread = omega arith
-
   -- kept by a number whose lanes are columns
-  kept : (y b : ℕ) → y ≡ lanesOf (λ j. columnOf j b) → (j : ℕ) → j < maxWires → laneOf (bitAnd (s * each) y) j ≡ withBit s j b
+  kept : (y b : ℕ) → y ≡ lanesOf (λ j. columnOf j b) → (j : ℕ) → j < maxWires → laneOf (bitAnd (s * eachLane) y) j ≡ withBit s j b
   unfolding withBit
   kept y b e j l =
-      lane-and (s * each) y j
-      ∙ ap₂ bitAnd (ap (λ z. laneOf z j) spread ∙ lane-lanes (λ _. s) (λ _ _. ls) j l)
+      lane-and (s * eachLane) y j
+      ∙ ap₂ bitAnd (ap (λ z. laneOf z j) (each-times s) ∙ lane-lanes (λ _. s) (λ _ _. ls) j l)
       (ap (λ z. laneOf z j) e ∙ lane-lanes (λ i. columnOf i b) (λ i _. column-lt i b) j l)
 
   absent : (j b : ℕ) → eqb (withBit s j b) 0 ≡ not (occurs maxWires (member s) j b)
@@ -70,30 +65,30 @@ module _ (s : ℕ) (ls : s < laneSpace) where
 
   -- by a mask of the values that have each wire at 0
   pub zeros-absent : (y : ℕ) → T (eqb y (lanesOf (λ j. columnOf j 0)))
-      → lanesOf (λ j. isOne (eqb (laneOf (bitAnd (s * each) y) j) 0)) ≡ lanesOf (λ j. isOne (not (occurs maxWires (member s) j 0)))
+      → lanesOf (λ j. isOne (eqb (laneOf (bitAnd (s * eachLane) y) j) 0)) ≡ lanesOf (λ j. isOne (not (occurs maxWires (member s) j 0)))
   zeros-absent y t =
       let e = eqb→eq y (lanesOf (λ j. columnOf j 0)) t in
-      lanes-cong (λ j. isOne (eqb (laneOf (bitAnd (s * each) y) j) 0)) (λ j. isOne (not (occurs maxWires (member s) j 0)))
+      lanes-cong (λ j. isOne (eqb (laneOf (bitAnd (s * eachLane) y) j) 0)) (λ j. isOne (not (occurs maxWires (member s) j 0)))
       (λ j l. ap (λ z. isOne (eqb z 0)) (kept y 0 e j l) ∙ ap isOne (absent j 0))
 
   -- by a mask of the values that have each wire at 1, set and values one bit lower
   module _ (y : ℕ) (t : T (eqb (2 * y) (lanesOf (λ j. columnOf j 1)))) where
-    lowered : bitAnd (s * each / 2) y ≡ lanesOf (λ j. withBit s j 1 / 2)
+    lowered : bitAnd (s * eachLane / 2) y ≡ lanesOf (λ j. withBit s j 1 / 2)
     lowered =
         let e = eqb→eq (2 * y) (lanesOf (λ j. columnOf j 1)) t in
         let half : y ≡ 2 * y / 2 = omega arith in
         let small : 2 * y < lanesSpace = rw e (lanes-lt (λ j. columnOf j 1) (λ j _. column-lt j 1)) in
-        ap (bitAnd (s * each / 2)) half ∙ sym (and-shr (s * each) (2 * y) 1)
+        ap (bitAnd (s * eachLane / 2)) half ∙ sym (and-shr (s * eachLane) (2 * y) 1)
         ∙ ap (λ z. z / 2)
-        (lanes-are (bitAnd (s * each) (2 * y)) (λ j. withBit s j 1) (lt-of-le-of-lt (and-le-r (s * each) (2 * y)) small) (kept (2 * y) 1 e))
+        (lanes-are (bitAnd (s * eachLane) (2 * y)) (λ j. withBit s j 1) (lt-of-le-of-lt (and-le-r (s * eachLane) (2 * y)) small) (kept (2 * y) 1 e))
         ∙ halved (λ j. withBit s j 1) (with-even s)
 
-    lowered-lane : (j : ℕ) → j < maxWires → laneOf (bitAnd (s * each / 2) y) j ≡ withBit s j 1 / 2
+    lowered-lane : (j : ℕ) → j < maxWires → laneOf (bitAnd (s * eachLane / 2) y) j ≡ withBit s j 1 / 2
     lowered-lane j l =
         ap (λ z. laneOf z j) lowered
         ∙ lane-lanes (λ i. withBit s i 1 / 2) (λ i _. omega (arith, lt-of-le-of-lt (with-le s i 1) ls)) j l
 
-    pub ones-absent : lanesOf (λ j. isOne (eqb (laneOf (bitAnd (s * each / 2) y) j) 0)) ≡ lanesOf (λ j. isOne (not (occurs maxWires (member s) j 1)))
+    pub ones-absent : lanesOf (λ j. isOne (eqb (laneOf (bitAnd (s * eachLane / 2) y) j) 0)) ≡ lanesOf (λ j. isOne (not (occurs maxWires (member s) j 1)))
     ones-absent =
-        lanes-cong (λ j. isOne (eqb (laneOf (bitAnd (s * each / 2) y) j) 0)) (λ j. isOne (not (occurs maxWires (member s) j 1)))
+        lanes-cong (λ j. isOne (eqb (laneOf (bitAnd (s * eachLane / 2) y) j) 0)) (λ j. isOne (not (occurs maxWires (member s) j 1)))
         (λ j l. ap (λ z. isOne (eqb z 0)) (lowered-lane j l) ∙ ap isOne (half-none (withBit s j 1) (with-even s j) ∙ absent j 1))

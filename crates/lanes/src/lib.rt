@@ -12,7 +12,7 @@ ghost use Rattle.relation.specs.Inner.Members.{member};
 ghost use Rattle.lanes.specs.Inner.Lanes.{laneSpace, halfLane, lanesSpace, laneOf, lanesOf, putLane, firstWire, LanesBelow};
 
 // The bits of a lane: one for each value of a set.
-const LANE: u8 = Sheet::MAX_VALUES as u8;
+pub const LANE: u8 = Sheet::MAX_VALUES as u8;
 
 const LANE_SPACE: u64 = 1 << LANE;
 
@@ -23,7 +23,7 @@ const FULL: u64 = LANE_SPACE - 1;
 const TOP: u8 = LANE - 1;
 
 // One in each lane. A set times it stands in every lane.
-pub const LANES: u64 = 0x0001_0001_0001_0001;
+pub const LANES: u64 = 1 + (1 << LANE) + (1 << (2 * LANE)) + (1 << (3 * LANE));
 
 // The highest bit of each lane.
 const HIGHEST: u64 = LANES << TOP;

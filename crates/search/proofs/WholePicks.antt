@@ -20,9 +20,9 @@ use Rattle.table.specs.Inner.Wide.{sections}
 use Rattle.nodes.specs.declared.BoardKind.{BoardKind}
 use Rattle.nodes.specs.Counts.{mostInputs, countOf}
 use Rattle.relation.specs.Inner.Side.{section, sideBySide}
-use Rattle.lanes.specs.Inner.Lanes.{laneOf, lanesOf, LanesBelow}
+use Rattle.lanes.specs.Inner.Lanes.{eachLane, laneOf, lanesOf, LanesBelow}
 use Rattle.lanes.proofs.Lanes.{lanes-cong, side-lanes}
-use Rattle.lanes.proofs.Empty.{each, each-lane}
+use Rattle.lanes.proofs.Empty.{each-lane}
 use Rattle.parts.specs.Inner.Boards.{wideMark, boardIn, lentKind, lentInputs, lentWide, Lent}
 use Rattle.parts.specs.Inner.Words.{pairsOf, Covers}
 use Rattle.parts.specs.Inner.Masks.{maskCount, Halved, wordsOf}
@@ -38,7 +38,7 @@ use Rattle.halves.specs.Inner.Remade.{marked, FewCells, cellsAgain, sideAgain, 
 use Rattle.halves.proofs.Making.{past-section}
 
 -- every wire is marked
-pub all-below : LanesBelow 2 each
+pub all-below : LanesBelow 2 eachLane
 all-below j l = omega (arith, each-lane j l)
 
 -- no wire has cells before
@@ -79,23 +79,23 @@ module _ {e : List ℕ} (lent : Lent e) {m : ℕ} (sz : Sized (mostInputs (lentK
   new-pick : (i : ℕ) → i < maxWires → pickOn e words i ≡ tableOf kind n S i
   new-pick i li = ap (λ x. pickBetween kind n x i) ew ∙ pick-told (pairsOf S) S i (pairs-tell S i li) kind n
 
-  chosen-first : (i : ℕ) → i < maxWires → (x y : ℕ) → cond (marked each i) x y ≡ x
+  chosen-first : (i : ℕ) → i < maxWires → (x y : ℕ) → cond (marked eachLane i) x y ≡ x
   chosen-first i li x y = rw (each-lane i li)
 
-  again-cells : (i : ℕ) → i < maxWires → cellsAgain e words each 0 i ≡ countOf kind n (tableOf kind n S i)
+  again-cells : (i : ℕ) → i < maxWires → cellsAgain e words eachLane 0 i ≡ countOf kind n (tableOf kind n S i)
   again-cells i li = chosen-first i li (cellsOn e words i) (byteIn 0 i) ∙ ap (countOf kind n) (new-pick i li)
 
-  again-side : (side q : ℕ) → lanesOf (sideAgain e words each side q) ≡ sideBySide (tablesOf kind n S) q
+  again-side : (side q : ℕ) → lanesOf (sideAgain e words eachLane side q) ≡ sideBySide (tablesOf kind n S) q
   again-side side q =
-      lanes-cong (sideAgain e words each side q) (λ i. section (getD (tablesOf kind n S) i 0) q)
+      lanes-cong (sideAgain e words eachLane side q) (λ i. section (getD (tablesOf kind n S) i 0) q)
       (λ i li.
       chosen-first i li (section (pickOn e words i) q) (laneOf side i) ∙ ap (λ t. section t q) (new-pick i li ∙ sym (table-at kind n S i li)))
       ∙ sym (side-lanes (tablesOf kind n S) q)
 
-  all-cells : packed (cellsAgain e words each 0) ≡ cellsOf kind n S
+  all-cells : packed (cellsAgain e words eachLane 0) ≡ cellsOf kind n S
   unfolding packed cellsOf
   all-cells =
-      sum-cong maxWires (λ i. cellsAgain e words each 0 i * cellSpace ^ i) (λ i. countOf kind n (tableOf kind n S i) * cellSpace ^ i)
+      sum-cong maxWires (λ i. cellsAgain e words eachLane 0 i * cellSpace ^ i) (λ i. countOf kind n (tableOf kind n S i) * cellSpace ^ i)
       (λ i li. ap (λ x. x * cellSpace ^ i) (again-cells i li))
 
   -- on a board that is not wide no table reaches past the first section
@@ -110,11 +110,11 @@ module _ {e : List ℕ} (lent : Lent e) {m : ℕ} (sz : Sized (mostInputs (lentK
       (λ i li. ap (λ t. section t q) (table-at kind n S i li) ∙ past-section (tableOf kind n S i) q (small i) lq)
 
   module _ {before after : List ℕ} {r : Picks} (none : (q : ℕ) → 1 ≤ q → q < sections → getD before (restPlace q) 0 ≡ 0) (space : getD before cellsPlace 0 ≡ cellSpace)
-      (made : Remade e (wordsOf masks) each 0 0 before after r) where
+      (made : Remade e (wordsOf masks) eachLane 0 0 before after r) where
     -- the cells of all wires together are below the space of a byte, so that every pick is made
-    all-few : sum maxWires (cellsAgain e words each 0) ≤ maxWires * (2 ^ maxInputs - 1)
+    all-few : sum maxWires (cellsAgain e words eachLane 0) ≤ maxWires * (2 ^ maxInputs - 1)
     all-few =
-        sum-bound maxWires (2 ^ maxInputs - 1) (cellsAgain e words each 0)
+        sum-bound maxWires (2 ^ maxInputs - 1) (cellsAgain e words eachLane 0)
         (λ j l. omega (arith, again-cells j l, table-few kind n (few kind sz) S j))
 
     is-kept : T (r .kept)
@@ -126,8 +126,8 @@ module _ {e : List ℕ} (lent : Lent e) {m : ℕ} (sz : Sized (mostInputs (lentK
         let x = getD before (restPlace q) 0 in
         made .rest is-kept q l1 lq
         ∙ ⊎-elim
-        (λ t. ap (λ y. cond y (lanesOf (sideAgain e words each x q)) x) (test-yes (lentWide e) t) ∙ again-side x q)
-        (λ t. ap (λ y. cond y (lanesOf (sideAgain e words each x q)) x) (test-no (lentWide e) t) ∙ none q l1 lq ∙ sym (narrow-side t q l1))
+        (λ t. ap (λ y. cond y (lanesOf (sideAgain e words eachLane x q)) x) (test-yes (lentWide e) t) ∙ again-side x q)
+        (λ t. ap (λ y. cond y (lanesOf (sideAgain e words eachLane x q)) x) (test-no (lentWide e) t) ∙ none q l1 lq ∙ sym (narrow-side t q l1))
         (decide (lentWide e))
 
     whole-tables : (q : ℕ) → q < sections → sideAt (r .low) after q ≡ sideBySide (tablesOf kind n S) q

@@ -23,8 +23,20 @@ choose-requires-2 c κs = search needs
 choose-requires-3 : tie.Need-choose-requires-3
 choose-requires-3 c κs = search needs
 
+cast-choose : tie.Need-cast-choose
+cast-choose c = search needs
+
+shr-choose : tie.Need-shr-choose
+shr-choose c = search needs
+
 choose-requires-4 : tie.Need-choose-requires-4
 choose-requires-4 c κs = search needs
+
+cast-choose-2 : tie.Need-cast-choose-2
+cast-choose-2 c = search needs
+
+shr-choose-2 : tie.Need-shr-choose-2
+shr-choose-2 c = search needs
 
 choose-requires-5 : tie.Need-choose-requires-5
 choose-requires-5 c κs = search needs
@@ -51,6 +63,10 @@ agreeing-spec =
     choose-requires
     choose-requires-2
     choose-requires-3
+    cast-choose
+    shr-choose
     choose-requires-4
+    cast-choose-2
+    shr-choose-2
     choose-requires-5
     returns)

@@ -1,7 +1,9 @@
 -- `put_lanes` meets its contract: there is room for the pattern, so that nothing is carried.
 use Prim.Native.Nat.{_+_, _*_, _^_}
 use mathlib.Core.Path.{ap, _∙_}
-use Rattle.by_value.specs.Inner.ByValue.{spreadOf, added}
+use Rattle.table.specs.Bits.{bit}
+use Rattle.lanes.specs.Inner.Lanes.{lanesOf}
+use Rattle.by_value.specs.Inner.ByValue.{added}
 use Rattle.by_value.proofs.Spreads.{moved, moved-fits}
 use borrow.Author.Needs.{needs}
 use Rattle.by_value.proofs.put_lanes.Statement.{statement}
@@ -27,7 +29,7 @@ returns c =
     let i = c .before .before in
     ap (λ y. i .args .word + y)
     (moved (i .args .word) (c .spread .result) (i .args .p) (c .spread .ensures .1) (i .pre .2)
-    ∙ ap (λ y. y * 2 ^ (i .args .p)) (c .spread .ensures .0 ∙ ap spreadOf (c .before .values-in .ensures .0)))
+    ∙ ap (λ y. y * 2 ^ (i .args .p)) (c .spread .ensures .0 ∙ ap (λ y. lanesOf (bit y)) (c .before .values-in .ensures .0)))
 
 pub put-lanes-spec : {M : Type 1} → statement M
 put-lanes-spec =

@@ -8,13 +8,14 @@ use lib.Dec.{ltb, eqb}
 use lib.ListN.{getD, set}
 use Rattle.base.specs.Lowest.{lowest}
 use Rattle.sheet.specs.Limits.{maxWires, maxPatterns, maxValues}
-use Rattle.table.specs.Bits.{bit, sum, tabulate, ofBits, isOne}
+use Rattle.table.specs.Bits.{bit, tabulate, ofBits, isOne}
 use Rattle.table.specs.Cells.{wires}
 use Rattle.table.specs.Inner.Pairs.{narrowPatterns}
 use Rattle.table.specs.Inner.Wide.{sections}
 use Rattle.relation.specs.Source.{value}
 use Rattle.relation.specs.Inner.Members.{member}
 use Rattle.relation.specs.Inner.Side.{valueIn}
+use Rattle.lanes.specs.Inner.Lanes.{eachLane, lanesOf}
 
 -- the values of a word, and its bits: as many for each value as a section has patterns
 abbrev pub wordValues : ℕ
@@ -56,20 +57,13 @@ Agreeing a b c d tables r = (p : ℕ) → p < narrowPatterns → bit r p ≡ all
 abbrev pub allowsAt : (sets tables : List ℕ) → ℕ → Bool
 allowsAt sets tables p = member (getD sets p 0) (value maxWires (wires tables) p)
 
--- a one in the lowest place of each lane
-abbrev pub lowestPlaces : ℕ
-lowestPlaces = 1 + 2 ^ narrowPatterns + 2 ^ (2 * narrowPatterns) + 2 ^ (3 * narrowPatterns)
-
--- the values of word k that are in a set, and these with a lane for each: its lowest bit
+-- the values of word k that are in a set
 abbrev pub valuesIn : (set k : ℕ) → ℕ
 valuesIn set k = set / 2 ^ (wordValues * k) % 2 ^ wordValues
 
-unfoldable pub spreadOf : ℕ → ℕ
-spreadOf x = sum wordValues (λ i. bit x i * 2 ^ (narrowPatterns * i))
-
--- what a set adds to word k at place p of the lanes
+-- what a set adds to word k at place p of the lanes: each value has a lane
 unfoldable pub added : (set k p : ℕ) → ℕ
-added set k p = spreadOf (valuesIn set k) * 2 ^ p
+added set k p = lanesOf (bit (valuesIn set k)) * 2 ^ p
 
 -- word k of the section of pattern p
 abbrev pub wordAt : List ℕ → (p k : ℕ) → ℕ
@@ -77,7 +71,7 @@ wordAt words p k = getD words (wordPlace (p / narrowPatterns) k) 0
 
 -- a word has room for pattern p
 abbrev pub HasRoom : (word p : ℕ) → Type 0
-HasRoom word p = word + lowestPlaces * 2 ^ (p % narrowPatterns) < 2 ^ wordWidth
+HasRoom word p = word + eachLane * 2 ^ (p % narrowPatterns) < 2 ^ wordWidth
 
 -- the words with the set of pattern p put into word k, and into all words of its section
 abbrev pub withWord : List ℕ → (p set k : ℕ) → List ℕ

@@ -1,5 +1,5 @@
 -- What is kept for all wires side by side in one number: a lane of equal width for each wire, so that one step is made for all of them.
-use Prim.Native.Nat.{ℕ, _*_, _-_, _/_, _%_, _^_, _<_}
+use Prim.Native.Nat.{ℕ, _+_, _*_, _-_, _/_, _%_, _^_, _<_}
 use mathlib.Core.Bool.{cond}
 use lib.Dec.{eqb}
 use Rattle.base.specs.Lowest.{lowest}
@@ -21,6 +21,10 @@ halfLane = 2 ^ (laneBits - 1)
 -- the numbers that have a lane for each wire and nothing above them
 abbrev pub lanesSpace : ℕ
 lanesSpace = 2 ^ (laneBits * maxWires)
+
+-- one in each lane
+abbrev pub eachLane : ℕ
+eachLane = 1 + laneSpace + laneSpace ^ 2 + laneSpace ^ 3
 
 -- the lane of wire j
 unfoldable pub laneOf : ℕ → ℕ → ℕ
