@@ -26,7 +26,7 @@ use Rattle.relation.specs.Inner.Side.{section, sideBySide}
 use Rattle.relation.proofs.Side.{section-lt, section-bit}
 use Rattle.lanes.specs.Inner.Lanes.{lanesSpace, laneOf, LanesBelow}
 use Rattle.lanes.proofs.Lanes.{lane-lanes, lanes-lt, side-lanes}
-use Rattle.by_value.specs.Inner.ByValue.{wordPlace}
+use Rattle.by_value.specs.Inner.ByValue.{valueWordPlace}
 use borrow.Author.Tests.{ne-eqb}
 use Rattle.parts.specs.Inner.Boards.{lentKind, lentInputs, lentWide, Lent}
 use Rattle.parts.specs.Inner.Words.{Covers}
@@ -53,10 +53,10 @@ whole-after wide n S l state same w =
       sets = w .sets;
       seen = λ q lq h.
           let s = w .seen q lq h in (
-            same (wholePlace + wordPlace q 0) (omega arith) ∙ s .0,
-            same (wholePlace + wordPlace q 1) (omega arith) ∙ s .1,
-            same (wholePlace + wordPlace q 2) (omega arith) ∙ s .2,
-            same (wholePlace + wordPlace q 3) (omega arith) ∙ s .3,
+            same (wholePlace + valueWordPlace q 0) (omega arith) ∙ s .0,
+            same (wholePlace + valueWordPlace q 1) (omega arith) ∙ s .1,
+            same (wholePlace + valueWordPlace q 2) (omega arith) ∙ s .2,
+            same (wholePlace + valueWordPlace q 3) (omega arith) ∙ s .3,
           );
       agrees = w .agrees;
     }

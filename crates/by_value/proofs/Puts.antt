@@ -15,7 +15,7 @@ use Rattle.sheet.specs.Limits.{maxPatterns}
 use Rattle.table.specs.Bits.{tabulate}
 use Rattle.table.specs.Inner.Pairs.{narrowPatterns}
 use Rattle.table.proofs.Bits.{tabulate-at, tabulate-cong}
-use Rattle.by_value.specs.Inner.ByValue.{sectionWords, allWords, wordPlace, added, wordAt, HasRoom, withWord, withSet}
+use Rattle.by_value.specs.Inner.ByValue.{sectionWords, allWords, valueWordPlace, added, valueWordAt, HasRoom, withWord, withSet}
 
 -- whether a number is below k is the same where k counts too, but for k itself
 pub below-same : (x k : ℕ) → (x ≡ k → ⊥) → ltb x k ≡ ltb x (suc k)
@@ -32,19 +32,19 @@ abbrev done : (q k i : ℕ) → Bool
 done q k i = eqb (i / sectionWords) q && ltb (i % sectionWords) k
 
 module _ (q k : ℕ) (lk : k < sectionWords) where
-  at-section : wordPlace q k / sectionWords ≡ q
+  at-section : valueWordPlace q k / sectionWords ≡ q
   at-section = omega arith
 
-  at-word : wordPlace q k % sectionWords ≡ k
+  at-word : valueWordPlace q k % sectionWords ≡ k
   at-word = omega arith
 
-  done-before : done q k (wordPlace q k) ≡ false
-  done-before = ap (λ t. eqb (wordPlace q k / sectionWords) q && t) (ap (λ x. ltb x k) at-word ∙ le-ltb k k (le-refl k)) ∙ and-false (eqb (wordPlace q k / sectionWords) q)
+  done-before : done q k (valueWordPlace q k) ≡ false
+  done-before = ap (λ t. eqb (valueWordPlace q k / sectionWords) q && t) (ap (λ x. ltb x k) at-word ∙ le-ltb k k (le-refl k)) ∙ and-false (eqb (valueWordPlace q k / sectionWords) q)
 
-  done-after : done q (suc k) (wordPlace q k) ≡ true
-  done-after = ap₂ (λ s t. s && t) (eq-eqb (wordPlace q k / sectionWords) q at-section) (ap (λ x. ltb x (suc k)) at-word ∙ lt-ltb k (suc k) (omega arith))
+  done-after : done q (suc k) (valueWordPlace q k) ≡ true
+  done-after = ap₂ (λ s t. s && t) (eq-eqb (valueWordPlace q k / sectionWords) q at-section) (ap (λ x. ltb x (suc k)) at-word ∙ lt-ltb k (suc k) (omega arith))
 
-  done-other : (i : ℕ) → (i ≡ wordPlace q k → ⊥) → done q k i ≡ done q (suc k) i
+  done-other : (i : ℕ) → (i ≡ valueWordPlace q k → ⊥) → done q k i ≡ done q (suc k) i
   done-other i ne =
       ⊎-elim
       (λ t. let e = eqb→eq (i / sectionWords) q t in ap (λ s. eqb (i / sectionWords) q && s) (below-same (i % sectionWords) k (apart e)))
@@ -84,21 +84,21 @@ module _ (words : List ℕ) (p w : ℕ) where
       ∙ and-true (eqb (i / sectionWords) (p / narrowPatterns))))
 
   module _ (lp : p < maxPatterns) (k : ℕ) (lk : k < sectionWords) {before : List ℕ} (e : before ≡ withFirst k) where
-    first-at : wordAt before p k ≡ wordAt words p k
+    first-at : valueWordAt before p k ≡ valueWordAt words p k
     unfolding withFirst
     first-at =
-        let i = wordPlace (p / narrowPatterns) k in
+        let i = valueWordPlace (p / narrowPatterns) k in
         ap (λ l. getD l i 0) e ∙ tabulate-at allWords (entry k) i (omega arith) ∙ ap (λ t. cond t (new i) (old i)) (done-before (p / narrowPatterns) k lk)
 
-    pub first-room : HasRoom (wordAt words p k) p → HasRoom (wordAt before p k) p
+    pub first-room : HasRoom (valueWordAt words p k) p → HasRoom (valueWordAt before p k) p
     first-room h = rw first-at h
 
     pub first-next : {after : List ℕ} → after ≡ withWord before p w k → after ≡ withFirst (suc k)
     unfolding withFirst
     first-next d =
         let q = p / narrowPatterns in
-        let i = wordPlace q k in
-        let x = wordAt before p k + added w k (p % narrowPatterns) in
+        let i = valueWordPlace q k in
+        let x = valueWordAt before p k + added w k (p % narrowPatterns) in
         d ∙ ap (λ l. set l i x) e
         ∙ tabulate-set allWords (entry k) (entry (suc k)) i x (omega arith)
         (ap₂ (λ y z. y + added w z (p % narrowPatterns)) first-at (sym (at-word q k lk)) ∙ sym (ap (λ t. cond t (new i) (old i)) (done-after q k lk)))

@@ -22,7 +22,7 @@ use Rattle.relation.specs.Source.{value}
 use Rattle.relation.specs.Inner.Members.{member}
 use Rattle.relation.specs.Inner.Side.{sideBySide, valueIn}
 use Rattle.relation.proofs.Side.{side-value}
-use Rattle.by_value.specs.Inner.ByValue.{wordValues, wordWidth, sectionWords, wordPlace, valueWord, SectionWords, allowedAt, allowsAt, Agreeing, everyValue, filled, WordsBelow, firstRefused}
+use Rattle.by_value.specs.Inner.ByValue.{wordValues, wordWidth, sectionWords, valueWordPlace, valueWord, SectionWords, allowedAt, allowsAt, Allowing, everyValue, filled, WordsBelow, firstRefused}
 
 value-lt : (tables p : ℕ) → valueIn tables p < maxValues
 unfolding valueIn
@@ -48,7 +48,7 @@ side-at ts q p l =
     ap₂ (λ x y. valueIn (sideBySide ts x) y) (sym a) (sym b) ∙ side-value ts (narrowPatterns * q + p)
 
 -- the answer is whether the value is in the pattern's set
-module _ (sets : List ℕ) (q a b c d tables r : ℕ) (words : SectionWords sets q a b c d) (agreed : Agreeing a b c d tables r) where
+module _ (sets : List ℕ) (q a b c d tables r : ℕ) (words : SectionWords sets q a b c d) (allowing : Allowing a b c d tables r) where
   among : (k : ℕ) → k < sectionWords → getD (a ∷ b ∷ c ∷ d ∷ []) k 0 ≡ valueWord sets q k
   among zero l = words .0
   among (suc zero) l = words .1
@@ -64,7 +64,7 @@ module _ (sets : List ℕ) (q a b c d tables r : ℕ) (words : SectionWords sets
       let i = v % wordValues in
       let lv = value-lt tables p in
       let whole : wordValues * k + i ≡ v = omega arith in
-      agreed p l ∙ ap (λ w. bit w (narrowPatterns * i + p)) (among k (omega arith)) ∙ word-bit sets q k i p (omega arith) l
+      allowing p l ∙ ap (λ w. bit w (narrowPatterns * i + p)) (among k (omega arith)) ∙ word-bit sets q k i p (omega arith) l
       ∙ ap (λ x. isOne (member (getD sets (narrowPatterns * q + p) 0) x)) whole
 
   -- for tables side by side
@@ -107,7 +107,7 @@ module _ (sets : List ℕ) (q a b c d tables r : ℕ) (words : SectionWords sets
 
 -- the words that are put together for the sections below a pattern serve as those of each of these sections
 pub below-words : (seen : ℕ) (sets words : List ℕ) (q : ℕ) → WordsBelow seen sets words → narrowPatterns * q < seen
-    → SectionWords sets q (getD words (wordPlace q 0) 0) (getD words (wordPlace q 1) 0) (getD words (wordPlace q 2) 0) (getD words (wordPlace q 3) 0)
+    → SectionWords sets q (getD words (valueWordPlace q 0) 0) (getD words (valueWordPlace q 1) 0) (getD words (valueWordPlace q 2) 0) (getD words (valueWordPlace q 3) 0)
 below-words seen sets words q h l = (h .0 q 0 l (omega arith), h .0 q 1 l (omega arith), h .0 q 2 l (omega arith), h .0 q 3 l (omega arith))
 
 -- the filled sets: those there are, and past them every value
@@ -132,11 +132,11 @@ unfolding value
 driven-lt ts p = ofBits-lt (λ j. bit (wires ts j) p) maxWires (λ j _. bit-lt (wires ts j) p)
 
 -- so what is refused of filled sets is a pattern that there is
-pub refused-there : (count : ℕ) (sets : List ℕ) (q a b c d tables r : ℕ) → SectionWords (filled count sets) q a b c d → Agreeing a b c d tables r
+pub refused-there : (count : ℕ) (sets : List ℕ) (q a b c d tables r : ℕ) → SectionWords (filled count sets) q a b c d → Allowing a b c d tables r
     → (ts : List ℕ) → tables ≡ sideBySide ts q → q < sections → firstRefused r < narrowPatterns → narrowPatterns * q + firstRefused r < count
-refused-there count sets q a b c d tables r words agreed ts side lq h =
+refused-there count sets q a b c d tables r words allowing ts side lq h =
     let p = narrowPatterns * q + firstRefused r in
-    let refused = refused-is (filled count sets) q a b c d tables r words agreed ts side h in
+    let refused = refused-is (filled count sets) q a b c d tables r words allowing ts side h in
     let v = value maxWires (wires ts) p in
     ⊎-elim (λ t. ltb→lt p count t)
     (λ t. absurd (T-not (member (getD (filled count sets) p 0) v) refused (past-allows count sets p (omega arith) (nltb→le p count t) v (driven-lt ts p))))

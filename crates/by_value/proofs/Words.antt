@@ -19,25 +19,25 @@ use Rattle.table.proofs.Sums.{sum-append, sum-add}
 use Rattle.relation.specs.Inner.Members.{member}
 use Rattle.lanes.specs.Inner.Lanes.{eachLane, lanesOf}
 use Rattle.by_value.proofs.SectionSums.{part, wordBelow, below-none, below-whole, below-other, below-more, below-room, wordsTo, word-at}
-use Rattle.by_value.specs.Inner.ByValue.{wordValues, wordWidth, sectionWords, allWords, wordPlace, valueWord, valuesIn, added, wordAt, HasRoom, withSet, WordsBelow}
+use Rattle.by_value.specs.Inner.ByValue.{wordValues, wordWidth, sectionWords, allWords, valueWordPlace, valueWord, valuesIn, added, valueWordAt, HasRoom, withSet, WordsBelow}
 
 -- a sum over the bits of a word, lane by lane
-abbrev lane : (ℕ → ℕ) → (i r : ℕ) → ℕ
-lane f i r = f (narrowPatterns * i + r)
+abbrev ofLane : (ℕ → ℕ) → (i r : ℕ) → ℕ
+ofLane f i r = f (narrowPatterns * i + r)
 
-sum-lanes : (f : ℕ → ℕ) → sum wordWidth f ≡ sum narrowPatterns (λ r. lane f 0 r + lane f 1 r + lane f 2 r + lane f 3 r)
+sum-lanes : (f : ℕ → ℕ) → sum wordWidth f ≡ sum narrowPatterns (λ r. ofLane f 0 r + ofLane f 1 r + ofLane f 2 r + ofLane f 3 r)
 sum-lanes f =
     let n = narrowPatterns in
-    let first : sum n f ≡ sum n (lane f 0) = sum-cong n f (lane f 0) (λ r _. ap f (omega arith)) in
+    let first : sum n f ≡ sum n (ofLane f 0) = sum-cong n f (ofLane f 0) (λ r _. ap f (omega arith)) in
     omega (
       arith,
       first,
       sum-append n n f,
       sum-append (2 * n) n f,
       sum-append (3 * n) n f,
-      sum-add n (lane f 0) (lane f 1),
-      sum-add n (λ r. lane f 0 r + lane f 1 r) (lane f 2),
-      sum-add n (λ r. lane f 0 r + lane f 1 r + lane f 2 r) (lane f 3),
+      sum-add n (ofLane f 0) (ofLane f 1),
+      sum-add n (λ r. ofLane f 0 r + ofLane f 1 r) (ofLane f 2),
+      sum-add n (λ r. ofLane f 0 r + ofLane f 1 r + ofLane f 2 r) (ofLane f 3),
     )
 
 -- a test of a bit is the bit
@@ -58,7 +58,7 @@ module _ (sets : List ℕ) (q k : ℕ) where
   place b = isOne (member (getD sets (narrowPatterns * q + b % narrowPatterns) 0) (wordValues * k + b / narrowPatterns)) * 2 ^ b
 
   in-lane : (i r : ℕ) → i < wordValues → r < narrowPatterns
-      → lane place i r ≡ bit (valuesIn (getD sets (narrowPatterns * q + r) 0) k) i * 2 ^ (narrowPatterns * i) * 2 ^ r
+      → ofLane place i r ≡ bit (valuesIn (getD sets (narrowPatterns * q + r) 0) k) i * 2 ^ (narrowPatterns * i) * 2 ^ r
   unfolding member
   in-lane i r li lr =
       let w = getD sets (narrowPatterns * q + r) 0 in
@@ -70,7 +70,7 @@ module _ (sets : List ℕ) (q k : ℕ) where
       (pow-add 2 (narrowPatterns * i) r)
       ∙ sym (mul-assoc (bit (valuesIn w k) i) (2 ^ (narrowPatterns * i)) (2 ^ r))
 
-  part-lanes : (r : ℕ) → r < narrowPatterns → lane place 0 r + lane place 1 r + lane place 2 r + lane place 3 r ≡ part added sets q k r
+  part-lanes : (r : ℕ) → r < narrowPatterns → ofLane place 0 r + ofLane place 1 r + ofLane place 2 r + ofLane place 3 r ≡ part added sets q k r
   unfolding added lanesOf sum
   part-lanes r lr =
       let x = valuesIn (getD sets (narrowPatterns * q + r) 0) k in
@@ -89,7 +89,7 @@ module _ (sets : List ℕ) (q k : ℕ) where
   -- the word is the sum over the section
   word-sum : valueWord sets q k ≡ sum narrowPatterns (part added sets q k)
   unfolding valueWord ofBits
-  word-sum = sum-lanes place ∙ sum-cong narrowPatterns (λ r. lane place 0 r + lane place 1 r + lane place 2 r + lane place 3 r) (part added sets q k) part-lanes
+  word-sum = sum-lanes place ∙ sum-cong narrowPatterns (λ r. ofLane place 0 r + ofLane place 1 r + ofLane place 2 r + ofLane place 3 r) (part added sets q k) part-lanes
 
 -- a word has room for the most that patterns put in
 bit-small : (x i : ℕ) → bit x i ≤ 1
@@ -121,11 +121,11 @@ module _ (p : ℕ) (sets words : List ℕ) (e : words ≡ valueWordsTo p sets) w
   value-word-at : (i : ℕ) → i < allWords → getD words i 0 ≡ wordBelow added p sets (i / sectionWords) (i % sectionWords)
   value-word-at i l = word-at added allWords sectionWords sets (λ _. p) e i (i / sectionWords) (i % sectionWords) l refl refl
 
-  place-to : (q k : ℕ) → q < sections → k < sectionWords → getD words (wordPlace q k) 0 ≡ wordBelow added p sets q k
-  place-to q k lq lk = word-at added allWords sectionWords sets (λ _. p) e (wordPlace q k) q k (omega arith) (omega arith) (omega arith)
+  place-to : (q k : ℕ) → q < sections → k < sectionWords → getD words (valueWordPlace q k) 0 ≡ wordBelow added p sets q k
+  place-to q k lq lk = word-at added allWords sectionWords sets (λ _. p) e (valueWordPlace q k) q k (omega arith) (omega arith) (omega arith)
 
 module _ (p : ℕ) (sets words : List ℕ) (lp : p < maxPatterns) (e : words ≡ valueWordsTo p sets) where
-  pub to-room : (k : ℕ) → k < sectionWords → HasRoom (wordAt words p k) p
+  pub to-room : (k : ℕ) → k < sectionWords → HasRoom (valueWordAt words p k) p
   to-room k l =
       rw (place-to p sets words e (p / narrowPatterns) k (omega arith) l)
       (below-room added sets p k most (2 ^ wordWidth) (λ w r. added-le w k r) (ltb→lt (sum narrowPatterns most) (2 ^ wordWidth) most-fits))

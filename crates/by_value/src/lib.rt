@@ -20,7 +20,7 @@ ghost use Rattle.table.specs.Inner.Pairs.{narrowPatterns};
 ghost use Rattle.table.specs.Inner.Ranks.{narrowSpace};
 ghost use Rattle.table.specs.Inner.Wide.{sections};
 ghost use Rattle.lanes.specs.Inner.Lanes.{eachLane, lanesOf};
-ghost use Rattle.by_value.specs.Inner.ByValue.{wordValues, wordWidth, sectionWords, allWords, wordPlace, Agreeing, valuesIn, added, wordAt, HasRoom, withWord, withSet, filled, WordsBelow, firstRefused};
+ghost use Rattle.by_value.specs.Inner.ByValue.{wordValues, wordWidth, sectionWords, allWords, valueWordPlace, Allowing, valuesIn, added, valueWordAt, HasRoom, withWord, withSet, filled, WordsBelow, firstRefused};
 
 // The values of a word, a lane for each: so many lanes fill its bits.
 const WORD_VALUES: u8 = 4;
@@ -31,7 +31,7 @@ const VALUES_SPACE: u16 = 1 << WORD_VALUES;
 // The words that have all values of a section, and of all sections.
 pub const SECTION_WORDS: usize = Sheet::MAX_VALUES / WORD_VALUES as usize;
 
-pub const WORDS: usize = SECTION_WORDS * SECTIONS as usize;
+pub const VALUE_WORDS: usize = SECTION_WORDS * SECTIONS as usize;
 
 // How far two lanes stand above the next lower two.
 const TWO_LANES: u8 = 2 * LANE;
@@ -69,8 +69,8 @@ fn lane_in_lanes(x: u64, j: u8) -> u64
 
 // The patterns of a section that allow the value which four tables side by side drive there, by the section's four words. Wires 3 and 2 choose the word,
 // each pattern for itself, wires 1 and 0 the lane.
-pub fn agreeing(a: u64, b: u64, c: u64, d: u64, tables: u64) -> u64
-    ensures { λ r. ⌜ (r < narrowSpace) × Agreeing a b c d tables r ⌝ }
+pub fn allowing(a: u64, b: u64, c: u64, d: u64, tables: u64) -> u64
+    ensures { λ r. ⌜ (r < narrowSpace) × Allowing a b c d tables r ⌝ }
 {
     let wire_3 = lane_in_lanes(tables, 3);
     let wire_2 = lane_in_lanes(tables, 2);
@@ -117,25 +117,25 @@ fn put_lanes(word: u64, p: u8, set: u16, k: u8) -> u64
 }
 
 // Where word k of section q stands.
-fn place_of(q: u8, k: u8) -> usize
+fn value_word_place(q: u8, k: u8) -> usize
     requires { ⌜ (q < sections) × (k < sectionWords) ⌝ }
-    ensures { λ r. ⌜ (r ≡ wordPlace q k) × (r < allWords) ⌝ }
+    ensures { λ r. ⌜ (r ≡ valueWordPlace q k) × (r < allWords) ⌝ }
 {
     SECTION_WORDS * q as usize + k as usize
 }
 
 // The words with pattern p, which they lack, put into word k of its section by its set.
-fn put_word(words: &mut [u64; WORDS], p: u8, set: u16, k: u8)
-    requires { ⌜ (p < maxPatterns) × (k < sectionWords) × HasRoom (wordAt (now words) p k) p ⌝ }
+fn put_word(words: &mut [u64; VALUE_WORDS], p: u8, set: u16, k: u8)
+    requires { ⌜ (p < maxPatterns) × (k < sectionWords) × HasRoom (valueWordAt (now words) p k) p ⌝ }
     ensures { λ _. ⌜ now (words .exit) ≡ withWord (now (words .entry)) p set k ⌝ }
 {
-    let at = place_of(p / SECTION, k);
+    let at = value_word_place(p / SECTION, k);
     words[at] = put_lanes(words[at], p % SECTION, set, k);
 }
 
 // The words with pattern p, which they lack, put into all words of its section.
-fn put_set(words: &mut [u64; WORDS], p: u8, set: u16)
-    requires { ⌜ (p < maxPatterns) × (length (now words) ≡ allWords) × ((k : ℕ) → k < sectionWords → HasRoom (wordAt (now words) p k) p) ⌝ }
+fn put_set(words: &mut [u64; VALUE_WORDS], p: u8, set: u16)
+    requires { ⌜ (p < maxPatterns) × (length (now words) ≡ allWords) × ((k : ℕ) → k < sectionWords → HasRoom (valueWordAt (now words) p k) p) ⌝ }
     ensures { λ _. ⌜ now (words .exit) ≡ withSet (now (words .entry)) p set ⌝ }
 {
     put_word(words, p, set, 0);
@@ -158,11 +158,11 @@ fn set_at(count: u8, sets: &[u16; Sheet::MAX_PATTERNS], p: u8) -> u16
 
 // The words of the sections below pattern `seen`. Patterns from `count` on have every value, so that a section which the patterns do not fill refuses
 // nothing there.
-pub fn whole_of(count: u8, seen: u8, sets: &[u16; Sheet::MAX_PATTERNS]) -> [u64; WORDS]
+pub fn whole_of(count: u8, seen: u8, sets: &[u16; Sheet::MAX_PATTERNS]) -> [u64; VALUE_WORDS]
     requires { ⌜ (seen ≤ maxPatterns) × (seen % narrowPatterns ≡ 0) ⌝ }
     ensures { λ r. ⌜ WordsBelow seen (filled count (now (sets .entry))) r ⌝ }
 {
-    let mut words = [0u64; WORDS];
+    let mut words = [0u64; VALUE_WORDS];
     for p in 0..seen {
         put_set(&mut words, p, set_at(count, sets, p));
     }

@@ -52,19 +52,19 @@ unfolding sidesOf
 sides-le w j = omega (arith, isOne-lt-two (occurs maxWires (member w) j 1), isOne-lt-two (occurs maxWires (member w) j 0))
 
 -- what the set of a section's r-th pattern puts into wire j's word, and the most that it does: a word has room for all of these
-abbrev put : (w j r : ℕ) → ℕ
-put w j r = sidesOf w j * 2 ^ seat r
+abbrev putSides : (w j r : ℕ) → ℕ
+putSides w j r = sidesOf w j * 2 ^ seat r
 
-abbrev most : ℕ → ℕ
-most r = bothSides * 2 ^ seat r
+abbrev mostSides : ℕ → ℕ
+mostSides r = bothSides * 2 ^ seat r
 
-most-fits : T (ltb (sum narrowPatterns most) (2 ^ pairBits))
+most-sides-fit : T (ltb (sum narrowPatterns mostSides) (2 ^ pairBits))
 unfolding sum seat
-most-fits = tt
+most-sides-fit = tt
 
 module _ (sets : List ℕ) (q j : ℕ) where
   -- the word is the sum over the section
-  word-sum : q < sections → wordOf sets q j ≡ sum narrowPatterns (part put sets q j)
+  word-sum : q < sections → wordOf sets q j ≡ sum narrowPatterns (part putSides sets q j)
   unfolding wordOf paired sidesOf
   word-sum lq =
       let at : (b r : ℕ) → r < narrowPatterns → bit (section (maskOf sets j b) q) r ≡ isOne (occurs maxWires (member (getD sets (narrowPatterns * q + r) 0)) j b) =
@@ -76,7 +76,7 @@ module _ (sets : List ℕ) (q j : ℕ) where
       (λ r l. ap₂ (λ x y. (x + upperHalf * y) * 2 ^ seat r) (at 1 r l) (at 0 r l))
 
   -- a pattern with no value puts in nothing
-  part-none : (r : ℕ) → getD sets (narrowPatterns * q + r) 0 ≡ 0 → part put sets q j r ≡ 0
+  part-none : (r : ℕ) → getD sets (narrowPatterns * q + r) 0 ≡ 0 → part putSides sets q j r ≡ 0
   unfolding sidesOf
   part-none r e =
       let p = narrowPatterns * q + r in
@@ -85,16 +85,16 @@ module _ (sets : List ℕ) (q j : ℕ) where
       rw (none 1, none 0) (omega arith)
 
 -- all patterns passed: it is the whole word
-below-all : (n p : ℕ) (sets : List ℕ) (q j : ℕ) → q < sections → NonePast n sets → p ≡ 2 ^ n → wordBelow put p sets q j ≡ wordOf sets q j
+below-all : (n p : ℕ) (sets : List ℕ) (q j : ℕ) → q < sections → NonePast n sets → p ≡ 2 ^ n → wordBelow putSides p sets q j ≡ wordOf sets q j
 unfolding wordBelow
 below-all n p sets q j lq past e =
     ⊎-elim
-    (λ t. below-whole put sets q j p (leb→le (narrowPatterns * q + narrowPatterns) p t))
+    (λ t. below-whole putSides sets q j p (leb→le (narrowPatterns * q + narrowPatterns) p t))
     (λ t.
     let l = nleb→lt (narrowPatterns * q + narrowPatterns) p t in
     let a : within p q ≡ p - narrowPatterns * q = omega arith in
-    ap (λ k. sum k (part put sets q j)) a
-    ∙ sym (sum-short (part put sets q j) (p - narrowPatterns * q) narrowPatterns (omega arith)
+    ap (λ k. sum k (part putSides sets q j)) a
+    ∙ sym (sum-short (part putSides sets q j) (p - narrowPatterns * q) narrowPatterns (omega arith)
     (λ r h. part-none sets q j r (past (narrowPatterns * q + r) (rw (← e) (beyond r h))))))
     (decide (leb (narrowPatterns * q + narrowPatterns) p))
     ∙ sym (word-sum sets q j lq)
@@ -104,50 +104,50 @@ below-all n p sets q j lq past e =
 
 -- the words of all wires, where wire j has the patterns below g j
 abbrev pub pairsTo : List ℕ → (ℕ → ℕ) → List ℕ
-pairsTo sets g = wordsTo put wordCount maxWires sets g
+pairsTo sets g = wordsTo putSides wordCount maxWires sets g
 
 pub pairs-none : (sets : List ℕ) (g : ℕ → ℕ) → ((i : ℕ) → g i ≡ 0) → tabulate wordCount (λ _. 0) ≡ pairsTo sets g
-pairs-none sets g none = to-none put wordCount maxWires sets g none
+pairs-none sets g none = to-none putSides wordCount maxWires sets g none
 
 module _ (sets : List ℕ) (g : ℕ → ℕ) (p j : ℕ) {words : List ℕ} (lp : p < maxPatterns) (lj : j < maxWires) (e : words ≡ pairsTo sets g) (at : g j ≡ p) where
-  wire-at : wordAt words p j ≡ wordBelow put p sets (p / narrowPatterns) j
+  wire-at : wordAt words p j ≡ wordBelow putSides p sets (p / narrowPatterns) j
   wire-at =
       let q = p / narrowPatterns in
-      word-at put wordCount maxWires sets g e (wordPlace q j) q j (place-lt q j (pattern-section p lp) lj) (place-section q j lj) (place-wire q j lj)
-      ∙ ap (λ x. wordBelow put x sets q j) at
+      word-at putSides wordCount maxWires sets g e (wordPlace q j) q j (place-lt q j (pattern-section p lp) lj) (place-section q j lj) (place-wire q j lj)
+      ∙ ap (λ x. wordBelow putSides x sets q j) at
 
   -- there is room for the next pattern, and with it put in it is there
-  pub to-room : wordAt words p j + bothSides * 2 ^ seat (p % narrowPatterns) < 2 ^ pairBits
-  to-room =
+  pub pairs-room : wordAt words p j + bothSides * 2 ^ seat (p % narrowPatterns) < 2 ^ pairBits
+  pairs-room =
       rw wire-at
-      (below-room put sets p j most (2 ^ pairBits) (λ w r. mul-le-mul-right (2 ^ seat r) (sides-le w j)) (ltb→lt (sum narrowPatterns most) (2 ^ pairBits) most-fits))
+      (below-room putSides sets p j mostSides (2 ^ pairBits) (λ w r. mul-le-mul-right (2 ^ seat r) (sides-le w j)) (ltb→lt (sum narrowPatterns mostSides) (2 ^ pairBits) most-sides-fit))
 
-  pub to-more : (h : ℕ → ℕ) → h j ≡ p + 1 → ((i : ℕ) → (i ≡ j → ⊥) → g i ≡ h i) → {r : List ℕ}
+  pub pairs-more : (h : ℕ → ℕ) → h j ≡ p + 1 → ((i : ℕ) → (i ≡ j → ⊥) → g i ≡ h i) → {r : List ℕ}
       → r ≡ set words (wordPlace (p / narrowPatterns) j) (wordAt words p j + sidesOf (getD sets p 0) j * 2 ^ seat (p % narrowPatterns))
       → r ≡ pairsTo sets h
-  to-more h next others er =
+  pairs-more h next others er =
       let q = p / narrowPatterns in
       let k = wordPlace q j in
       let x = wordAt words p j + sidesOf (getD sets p 0) j * 2 ^ seat (p % narrowPatterns) in
-      let new : wordBelow put (h (k % maxWires)) sets (k / maxWires) (k % maxWires) ≡ wordBelow put (p + 1) sets q j =
-      ap₂ (λ x y. wordBelow put (h x) sets y x) (place-wire q j lj) (place-section q j lj) ∙ ap (λ x. wordBelow put x sets q j) next in
+      let new : wordBelow putSides (h (k % maxWires)) sets (k / maxWires) (k % maxWires) ≡ wordBelow putSides (p + 1) sets q j =
+      ap₂ (λ x y. wordBelow putSides (h x) sets y x) (place-wire q j lj) (place-section q j lj) ∙ ap (λ x. wordBelow putSides x sets q j) next in
       er ∙ ap (λ l. set l k x) e
-      ∙ tabulate-set wordCount (λ i. wordBelow put (g (i % maxWires)) sets (i / maxWires) (i % maxWires)) (λ i. wordBelow put (h (i % maxWires)) sets (i / maxWires) (i % maxWires))
+      ∙ tabulate-set wordCount (λ i. wordBelow putSides (g (i % maxWires)) sets (i / maxWires) (i % maxWires)) (λ i. wordBelow putSides (h (i % maxWires)) sets (i / maxWires) (i % maxWires))
       k x (place-lt q j (pattern-section p lp) lj)
-      (ap (λ y. y + sidesOf (getD sets p 0) j * 2 ^ seat (p % narrowPatterns)) wire-at ∙ sym (below-more put sets p j) ∙ sym new) other
+      (ap (λ y. y + sidesOf (getD sets p 0) j * 2 ^ seat (p % narrowPatterns)) wire-at ∙ sym (below-more putSides sets p j) ∙ sym new) other
     where
       apart : (i : ℕ) → (i ≡ wordPlace (p / narrowPatterns) j → ⊥) → i % maxWires ≡ j → i / maxWires ≡ p / narrowPatterns → ⊥
       apart i ne d s = ne (omega arith)
 
       other : (i : ℕ) → (i ≡ wordPlace (p / narrowPatterns) j → ⊥)
-          → wordBelow put (g (i % maxWires)) sets (i / maxWires) (i % maxWires) ≡ wordBelow put (h (i % maxWires)) sets (i / maxWires) (i % maxWires)
+          → wordBelow putSides (g (i % maxWires)) sets (i / maxWires) (i % maxWires) ≡ wordBelow putSides (h (i % maxWires)) sets (i / maxWires) (i % maxWires)
       other i ne =
           ⊎-elim
           (λ t.
           let d = eqb→eq (i % maxWires) j t in
-          ap (λ k. wordBelow put k sets (i / maxWires) (i % maxWires)) (ap g d ∙ at) ∙ below-other put sets (i / maxWires) (i % maxWires) p (apart i ne d)
-          ∙ ap (λ k. wordBelow put k sets (i / maxWires) (i % maxWires)) (sym (ap h d ∙ next)))
-          (λ t. ap (λ k. wordBelow put k sets (i / maxWires) (i % maxWires)) (others (i % maxWires) (λ d. T-not (eqb (i % maxWires) j) t (eq-test d))))
+          ap (λ k. wordBelow putSides k sets (i / maxWires) (i % maxWires)) (ap g d ∙ at) ∙ below-other putSides sets (i / maxWires) (i % maxWires) p (apart i ne d)
+          ∙ ap (λ k. wordBelow putSides k sets (i / maxWires) (i % maxWires)) (sym (ap h d ∙ next)))
+          (λ t. ap (λ k. wordBelow putSides k sets (i / maxWires) (i % maxWires)) (others (i % maxWires) (λ d. T-not (eqb (i % maxWires) j) t (eq-test d))))
           (decide (eqb (i % maxWires) j))
 
 -- one wire alone
@@ -166,19 +166,19 @@ alone-other p j i ne = eqb-not i j p 0 ne ∙ sym (eqb-not i j (p + 1) 0 ne)
 pub alone-all : (n p : ℕ) (sets : List ℕ) (j : ℕ) → NonePast n sets → p ≡ 2 ^ n → pairsTo sets (alone p j) ≡ wordsFor sets j
 unfolding wordsFor
 alone-all n p sets j past e =
-    tabulate-cong wordCount (λ i. wordBelow put (alone p j (i % maxWires)) sets (i / maxWires) (i % maxWires)) (λ i. cond (eqb (i % maxWires) j) (wordOf sets (i / maxWires) j) 0)
+    tabulate-cong wordCount (λ i. wordBelow putSides (alone p j (i % maxWires)) sets (i / maxWires) (i % maxWires)) (λ i. cond (eqb (i % maxWires) j) (wordOf sets (i / maxWires) j) 0)
     (λ i l.
     ⊎-elim
     (λ t.
     let d = eqb→eq (i % maxWires) j t in
     let s : i / maxWires < sections = omega arith in
-    ap (λ k. wordBelow put k sets (i / maxWires) (i % maxWires)) (eqb-yes (i % maxWires) j p 0 d)
-    ∙ ap (wordBelow put p sets (i / maxWires)) d ∙ below-all n p sets (i / maxWires) j s past e
+    ap (λ k. wordBelow putSides k sets (i / maxWires) (i % maxWires)) (eqb-yes (i % maxWires) j p 0 d)
+    ∙ ap (wordBelow putSides p sets (i / maxWires)) d ∙ below-all n p sets (i / maxWires) j s past e
     ∙ sym (eqb-yes (i % maxWires) j (wordOf sets (i / maxWires) j) 0 d))
     (λ t.
     let ne : i % maxWires ≡ j → ⊥ = λ d. T-not (eqb (i % maxWires) j) t (eq-test d) in
-    ap (λ k. wordBelow put k sets (i / maxWires) (i % maxWires)) (eqb-not (i % maxWires) j p 0 ne)
-    ∙ below-none put sets (i / maxWires) (i % maxWires) 0 (omega arith) ∙ sym (eqb-not (i % maxWires) j (wordOf sets (i / maxWires) j) 0 ne))
+    ap (λ k. wordBelow putSides k sets (i / maxWires) (i % maxWires)) (eqb-not (i % maxWires) j p 0 ne)
+    ∙ below-none putSides sets (i / maxWires) (i % maxWires) 0 (omega arith) ∙ sym (eqb-not (i % maxWires) j (wordOf sets (i / maxWires) j) 0 ne))
     (decide (eqb (i % maxWires) j)))
 
 -- all wires, of which the first k have pattern p too
@@ -199,16 +199,16 @@ firsts-none p i = rw (le-ltb i 0 (omega arith))
 
 pub firsts-end : (p : ℕ) (sets : List ℕ) → pairsTo sets (firsts p maxWires) ≡ pairsTo sets (firsts (p + 1) 0)
 firsts-end p sets =
-    tabulate-cong wordCount (λ i. wordBelow put (firsts p maxWires (i % maxWires)) sets (i / maxWires) (i % maxWires))
-    (λ i. wordBelow put (firsts (p + 1) 0 (i % maxWires)) sets (i / maxWires) (i % maxWires))
+    tabulate-cong wordCount (λ i. wordBelow putSides (firsts p maxWires (i % maxWires)) sets (i / maxWires) (i % maxWires))
+    (λ i. wordBelow putSides (firsts (p + 1) 0 (i % maxWires)) sets (i / maxWires) (i % maxWires))
     (λ i _.
     let a : firsts p maxWires (i % maxWires) ≡ p + 1 = rw (lt-ltb (i % maxWires) maxWires (omega arith)) in
-    ap (λ k. wordBelow put k sets (i / maxWires) (i % maxWires)) (a ∙ sym (firsts-none (p + 1) (i % maxWires))))
+    ap (λ k. wordBelow putSides k sets (i / maxWires) (i % maxWires)) (a ∙ sym (firsts-none (p + 1) (i % maxWires))))
 
 pub firsts-all : (n p : ℕ) (sets : List ℕ) → NonePast n sets → p ≡ 2 ^ n → pairsTo sets (firsts p 0) ≡ pairsOf sets
 unfolding pairsOf
 firsts-all n p sets past e =
-    tabulate-cong wordCount (λ i. wordBelow put (firsts p 0 (i % maxWires)) sets (i / maxWires) (i % maxWires)) (λ i. wordOf sets (i / maxWires) (i % maxWires))
+    tabulate-cong wordCount (λ i. wordBelow putSides (firsts p 0 (i % maxWires)) sets (i / maxWires) (i % maxWires)) (λ i. wordOf sets (i / maxWires) (i % maxWires))
     (λ i l.
     let s : i / maxWires < sections = omega arith in
-    ap (λ k. wordBelow put k sets (i / maxWires) (i % maxWires)) (firsts-none p (i % maxWires)) ∙ below-all n p sets (i / maxWires) (i % maxWires) s past e)
+    ap (λ k. wordBelow putSides k sets (i / maxWires) (i % maxWires)) (firsts-none p (i % maxWires)) ∙ below-all n p sets (i / maxWires) (i % maxWires) s past e)

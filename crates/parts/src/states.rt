@@ -26,7 +26,7 @@ pub const REST: usize = BUDGET;
 pub const WHOLE: usize = REST + SECTIONS as usize;
 
 // So many places are there.
-pub const STATE: usize = WHOLE + by_value::WORDS;
+pub const STATE: usize = WHOLE + by_value::VALUE_WORDS;
 
 // Wire j has this table on the sections past the first.
 pub fn put_rest(state: &mut [u64; STATE], j: u8, table: u64)

@@ -19,7 +19,7 @@ use Rattle.table.specs.Inner.Blocks.{entries}
 use Rattle.nodes.specs.declared.BoardKind.{BoardKind}
 use Rattle.nodes.specs.Counts.{mostInputs, countOf}
 use Rattle.relation.specs.Inner.Side.{sideBySide}
-use Rattle.by_value.specs.Inner.ByValue.{wordPlace, valueWord, filled, WordsBelow}
+use Rattle.by_value.specs.Inner.ByValue.{valueWordPlace, valueWord, filled, WordsBelow}
 use Rattle.by_value.proofs.Told.{below-words}
 use Rattle.branch_bound.specs.Search.{improved}
 use Rattle.parts.specs.Inner.Boards.{lentInputs, lentCount, Lent}
@@ -60,10 +60,10 @@ seen-told {budget} {count} {seen} {whole} {before} {after} n wide S b w ec es q 
     let all : seen ≡ maxPatterns = es ∙ ap (λ x. cond x maxPatterns narrowPatterns) (test-yes wide t) in
     omega arith) side in
     let s = below-words seen (filled count S) whole q w l in (
-      b .words (wordPlace q 0) (omega arith) ∙ s .0 ∙ ap (λ x. valueWord (filled x S) q 0) ec,
-      b .words (wordPlace q 1) (omega arith) ∙ s .1 ∙ ap (λ x. valueWord (filled x S) q 1) ec,
-      b .words (wordPlace q 2) (omega arith) ∙ s .2 ∙ ap (λ x. valueWord (filled x S) q 2) ec,
-      b .words (wordPlace q 3) (omega arith) ∙ s .3 ∙ ap (λ x. valueWord (filled x S) q 3) ec,
+      b .words (valueWordPlace q 0) (omega arith) ∙ s .0 ∙ ap (λ x. valueWord (filled x S) q 0) ec,
+      b .words (valueWordPlace q 1) (omega arith) ∙ s .1 ∙ ap (λ x. valueWord (filled x S) q 1) ec,
+      b .words (valueWordPlace q 2) (omega arith) ∙ s .2 ∙ ap (λ x. valueWord (filled x S) q 2) ec,
+      b .words (valueWordPlace q 3) (omega arith) ∙ s .3 ∙ ap (λ x. valueWord (filled x S) q 3) ec,
     )
 
 -- the first wire's pick and its cells, from what is carried of the whole

@@ -17,7 +17,7 @@ use Rattle.table.specs.Inner.Wide.{sections}
 use Rattle.nodes.specs.Counts.{mostInputs}
 use Rattle.relation.specs.Source.{value}
 use Rattle.relation.specs.Inner.Members.{member}
-use Rattle.by_value.specs.Inner.ByValue.{filled, SectionWords, Agreeing, allowsAt, wordPlace, firstRefused}
+use Rattle.by_value.specs.Inner.ByValue.{filled, SectionWords, Allowing, allowsAt, valueWordPlace, firstRefused}
 use Rattle.by_value.proofs.Told.{allowed-below, refused-there, filled-there}
 use Rattle.parts.specs.Inner.Boards.{sharingMark, wideMark, boardIn, lentKind, lentInputs, lentWide, lentCount, Lent}
 use Rattle.parts.specs.Inner.States.{restPlace, wholePlace, sideAt, AtHand}
@@ -26,17 +26,17 @@ use Rattle.parts.proofs.Lending.{inputs-few}
 use Rattle.visits.specs.Inner.Conflicts.{Cleared, ClearedBy, Seen, RestAtHand, AllowedFrom, AllowedLater, AllowedBelow}
 
 -- what the four words of a section say, as its lowest pattern that is refused
-pub clear : (state : List ℕ) (q at tables r : ℕ) → q < sections → at ≡ wholePlace + wordPlace q 0
-    → Agreeing (getD state at 0) (getD state (at + 1) 0) (getD state (at + 2) 0) (getD state (at + 3) 0) tables r → firstRefused r ≤ narrowPatterns
+pub clear : (state : List ℕ) (q at tables r : ℕ) → q < sections → at ≡ wholePlace + valueWordPlace q 0
+    → Allowing (getD state at 0) (getD state (at + 1) 0) (getD state (at + 2) 0) (getD state (at + 3) 0) tables r → firstRefused r ≤ narrowPatterns
     → ClearedBy state q tables (firstRefused r)
 clear state q at tables r lq place agreed most n S ts seen side =
     let a = getD state at 0 in
     let b = getD state (at + 1) 0 in
     let c = getD state (at + 2) 0 in
     let d = getD state (at + 3) 0 in
-    let e1 : at + 1 ≡ wholePlace + wordPlace q 1 = omega arith in
-    let e2 : at + 2 ≡ wholePlace + wordPlace q 2 = omega arith in
-    let e3 : at + 3 ≡ wholePlace + wordPlace q 3 = omega arith in
+    let e1 : at + 1 ≡ wholePlace + valueWordPlace q 1 = omega arith in
+    let e2 : at + 2 ≡ wholePlace + valueWordPlace q 2 = omega arith in
+    let e3 : at + 3 ≡ wholePlace + valueWordPlace q 3 = omega arith in
     let w : SectionWords (filled (2 ^ n) S) q a b c d =
     (ap (λ i. getD state i 0) place ∙ seen .0, ap (λ i. getD state i 0) e1 ∙ seen .1, ap (λ i. getD state i 0) e2 ∙ seen .2, ap (λ i. getD state i 0) e3 ∙ seen .3) in (
       λ p l. allowed-below (filled (2 ^ n) S) q a b c d tables r w agreed ts side p (omega arith) l,

@@ -2,7 +2,7 @@
 // Inner functions: the cycle and the entry of the search meet what they require.
 use crate::SplitPlace;
 use by_value::SECTION_WORDS;
-use by_value::agreeing;
+use by_value::allowing;
 use by_value::first_refused;
 use parts::boards::BOARD_PLACE;
 use parts::boards::COUNT_PLACE;
@@ -52,7 +52,7 @@ fn refused_on(state: &[u64; STATE], q: u8, tables: u64) -> u8
     ensures { λ r. ⌜ (r ≤ narrowPatterns) × ClearedBy (now (state .entry)) q tables r ⌝ }
 {
     let at = WHOLE + SECTION_WORDS * q as usize;
-    first_refused(agreeing(
+    first_refused(allowing(
         state[at],
         state[at + 1],
         state[at + 2],

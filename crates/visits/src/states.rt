@@ -108,14 +108,14 @@ pub fn tables_in(state: &[u64; STATE]) -> [u64; Sheet::WIRES]
 }
 
 // The search begins: no visit was charged and no part left, and the budget and the relation by value are these.
-pub fn begin(state: &mut [u64; STATE], budget: u32, whole: &[u64; by_value::WORDS])
+pub fn begin(state: &mut [u64; STATE], budget: u32, whole: &[u64; by_value::VALUE_WORDS])
     requires { ⌜ length (now state) ≡ stateLength ⌝ }
     ensures { λ _. ⌜ Begun budget (now (whole .entry)) (now (state .entry)) (now (state .exit)) ⌝ }
 {
     state[VISITS] = 0;
     state[LEFT] = 0;
     state[BUDGET] = budget as u64;
-    for i in 0..by_value::WORDS {
+    for i in 0..by_value::VALUE_WORDS {
         state[WHOLE + i] = whole[i];
     }
 }

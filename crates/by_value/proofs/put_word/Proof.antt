@@ -9,8 +9,8 @@ use borrow.Author.Needs.{needs}
 use Rattle.by_value.proofs.put_word.Statement.{statement}
 use Rattle.by_value.proofs.put_word.Tie as tie
 
-place-of-requires : tie.Need-place-of-requires
-place-of-requires c κs = search needs
+value-word-place-requires : tie.Need-value-word-place-requires
+value-word-place-requires c κs = search needs
 
 mul-put-lanes : tie.Need-mul-put-lanes
 mul-put-lanes c = search needs
@@ -21,7 +21,7 @@ element-copy-out-put-lanes c = search needs
 put-lanes-requires : tie.Need-put-lanes-requires
 put-lanes-requires c κs =
     let i = c .before .before in
-    let e = ap (λ k. getD (i .args .words .now) k 0) (c .before .place-of .ensures .0) in
+    let e = ap (λ k. getD (i .args .words .now) k 0) (c .before .value-word-place .ensures .0) in
     (omega arith, i .pre .1, rw e (i .pre .2))
 
 mul-words : tie.Need-mul-words
@@ -34,14 +34,14 @@ returns : tie.Need-returns
 returns c =
     let i = c .before .before .before in
     let w = i .args .words .now in
-    let e = c .before .before .place-of .ensures .0 in
+    let e = c .before .before .value-word-place .ensures .0 in
     ap₂ (λ k x. set w k x) e (c .put-lanes .ensures ∙ ap (λ k. getD w k 0 + added (i .args .set) (i .args .k) (i .args .p % narrowPatterns)) e)
 
 pub put-word-spec : {M : Type 1} → statement M
 put-word-spec =
     tie.close
     (tie.spec
-    place-of-requires
+    value-word-place-requires
     mul-put-lanes
     element-copy-out-put-lanes
     put-lanes-requires

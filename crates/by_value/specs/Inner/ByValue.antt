@@ -32,8 +32,8 @@ abbrev pub allWords : ℕ
 allWords = sectionWords * sections
 
 -- where word k of section q stands
-abbrev pub wordPlace : (q k : ℕ) → ℕ
-wordPlace q k = sectionWords * q + k
+abbrev pub valueWordPlace : (q k : ℕ) → ℕ
+valueWordPlace q k = sectionWords * q + k
 
 -- word k of section q: bit b says whether the value of b's lane can stand on the pattern of b's place in the lane
 unfoldable pub valueWord : List ℕ → (q k : ℕ) → ℕ
@@ -50,8 +50,8 @@ abbrev pub SectionWords : List ℕ → (q a b c d : ℕ) → Type 0
 SectionWords sets q a b c d = (a ≡ valueWord sets q 0) × (b ≡ valueWord sets q 1) × (c ≡ valueWord sets q 2) × (d ≡ valueWord sets q 3)
 
 -- a number that says of each pattern what the words say
-abbrev pub Agreeing : (a b c d tables r : ℕ) → Type 0
-Agreeing a b c d tables r = (p : ℕ) → p < narrowPatterns → bit r p ≡ allowedAt a b c d tables p
+abbrev pub Allowing : (a b c d tables r : ℕ) → Type 0
+Allowing a b c d tables r = (p : ℕ) → p < narrowPatterns → bit r p ≡ allowedAt a b c d tables p
 
 -- pattern p allows the value that the tables drive on it
 abbrev pub allowsAt : (sets tables : List ℕ) → ℕ → Bool
@@ -66,8 +66,8 @@ unfoldable pub added : (set k p : ℕ) → ℕ
 added set k p = lanesOf (bit (valuesIn set k)) * 2 ^ p
 
 -- word k of the section of pattern p
-abbrev pub wordAt : List ℕ → (p k : ℕ) → ℕ
-wordAt words p k = getD words (wordPlace (p / narrowPatterns) k) 0
+abbrev pub valueWordAt : List ℕ → (p k : ℕ) → ℕ
+valueWordAt words p k = getD words (valueWordPlace (p / narrowPatterns) k) 0
 
 -- a word has room for pattern p
 abbrev pub HasRoom : (word p : ℕ) → Type 0
@@ -75,7 +75,7 @@ HasRoom word p = word + eachLane * 2 ^ (p % narrowPatterns) < 2 ^ wordWidth
 
 -- the words with the set of pattern p put into word k, and into all words of its section
 abbrev pub withWord : List ℕ → (p set k : ℕ) → List ℕ
-withWord words p w k = set words (wordPlace (p / narrowPatterns) k) (wordAt words p k + added w k (p % narrowPatterns))
+withWord words p w k = set words (valueWordPlace (p / narrowPatterns) k) (valueWordAt words p k + added w k (p % narrowPatterns))
 
 unfoldable pub withSet : List ℕ → (p set : ℕ) → List ℕ
 withSet words p w =
@@ -93,8 +93,8 @@ filled count sets = tabulate maxPatterns (λ p. cond (ltb p count) (getD sets p 
 -- the words of the sections below a pattern are those of the sets, the later ones are 0
 abbrev pub WordsBelow : (seen : ℕ) → (sets words : List ℕ) → Type 0
 WordsBelow seen sets words =
-    ((q k : ℕ) → narrowPatterns * q < seen → k < sectionWords → getD words (wordPlace q k) 0 ≡ valueWord sets q k)
-    × ((q k : ℕ) → seen ≤ narrowPatterns * q → q < sections → k < sectionWords → getD words (wordPlace q k) 0 ≡ 0)
+    ((q k : ℕ) → narrowPatterns * q < seen → k < sectionWords → getD words (valueWordPlace q k) 0 ≡ valueWord sets q k)
+    × ((q k : ℕ) → seen ≤ narrowPatterns * q → q < sections → k < sectionWords → getD words (valueWordPlace q k) 0 ≡ 0)
 
 -- the lowest pattern of a section that is not allowed, by the bits that say which are; narrowPatterns where all are
 abbrev pub firstRefused : ℕ → ℕ

@@ -12,7 +12,7 @@ use Rattle.table.specs.Cells.{wires}
 use Rattle.table.specs.Inner.Pairs.{narrowPatterns}
 use Rattle.table.specs.Inner.Wide.{sections}
 use Rattle.relation.specs.Inner.Side.{sideBySide}
-use Rattle.by_value.specs.Inner.ByValue.{wordPlace, filled, SectionWords, allowsAt}
+use Rattle.by_value.specs.Inner.ByValue.{valueWordPlace, filled, SectionWords, allowsAt}
 use Rattle.parts.specs.Inner.States.{restPlace, wholePlace, AtHand}
 use Rattle.visits.specs.declared.SplitPlace.{SplitPlace}
 use Rattle.visits.specs.declared.SplitPlace.the-variants.{Pair, Nowhere}
@@ -30,8 +30,8 @@ splitPlace n m R X =
 -- the words of section q of the relation by value, in the state, are those of the sets S, with every value past the patterns that there are
 abbrev pub SectionSeen : (n : ℕ) → (S state : List ℕ) → ℕ → Type 0
 SectionSeen n S state q =
-    SectionWords (filled (2 ^ n) S) q (getD state (wholePlace + wordPlace q 0) 0) (getD state (wholePlace + wordPlace q 1) 0) (getD state (wholePlace + wordPlace q 2) 0)
-    (getD state (wholePlace + wordPlace q 3) 0)
+    SectionWords (filled (2 ^ n) S) q (getD state (wholePlace + valueWordPlace q 0) 0) (getD state (wholePlace + valueWordPlace q 1) 0) (getD state (wholePlace + valueWordPlace q 2) 0)
+    (getD state (wholePlace + valueWordPlace q 3) 0)
 
 -- those of the first section are, and those of all sections where the board is wide
 abbrev pub Seen : (wide : Bool) (n : ℕ) → (S state : List ℕ) → Type 0

@@ -5,7 +5,7 @@ use native.Mathlib.Omega.{arith}
 use Rattle.sheet.specs.Limits.{maxPatterns}
 use Rattle.table.specs.Bits.{tabulate}
 use Rattle.parts.specs.Inner.Words.{wordCount}
-use Rattle.parts.proofs.WordSums.{pairsTo, pairs-none, to-room, to-more, alone, alone-none, alone-at, alone-other, alone-all}
+use Rattle.parts.proofs.WordSums.{pairsTo, pairs-none, pairs-room, pairs-more, alone, alone-none, alone-at, alone-other, alone-all}
 use borrow.Author.Needs.{needs}
 use Rattle.parts.proofs.pairs.pair_of.Statement.{statement}
 use Rattle.parts.proofs.pairs.pair_of.Tie as tie
@@ -39,7 +39,7 @@ put-in-requires c κs =
     let i = c .before .before .before .before .before in
     let l = c .before .before .before .loop in
     let b : l .p < maxPatterns = omega (arith, c .before .before .before .before .patterns-of .ensures .1) in
-    (b, i .pre .1, to-room (i .args .sets .now) (alone (l .p) (i .args .j)) (l .p) (i .args .j) b (i .pre .1) (l .inv .1) (alone-at (l .p) (i .args .j)))
+    (b, i .pre .1, pairs-room (i .args .sets .now) (alone (l .p) (i .args .j)) (l .p) (i .args .j) b (i .pre .1) (l .inv .1) (alone-at (l .p) (i .args .j)))
 
 add-p : tie.Need-add-p Inv-loop μ-loop
 add-p c = search needs
@@ -54,7 +54,7 @@ loop-again c =
     let j = i .args .j in
     let b : l .p < maxPatterns = omega (arith, c .before .before .before .before .before .patterns-of .ensures .1) in (
       omega arith,
-      to-more (i .args .sets .now) (alone (l .p) j) (l .p) j b (i .pre .1) (l .inv .1) (alone-at (l .p) j) (alone (l .p + 1) j) (alone-at (l .p + 1) j)
+      pairs-more (i .args .sets .now) (alone (l .p) j) (l .p) j b (i .pre .1) (l .inv .1) (alone-at (l .p) j) (alone (l .p + 1) j) (alone-at (l .p + 1) j)
           (alone-other (l .p) j) (c .put-in .ensures),
     )
 

@@ -9,7 +9,7 @@ use Rattle.table.specs.Bits.{tabulate}
 use Rattle.table.specs.Inner.Pairs.{narrowPatterns, pairBits, seat}
 use Rattle.parts.specs.Inner.Pairs.{bothSides, sidesOf}
 use Rattle.parts.specs.Inner.Words.{wordCount, wordPlace, wordAt}
-use Rattle.parts.proofs.WordSums.{pairsTo, pairs-none, to-room, to-more, firsts, firsts-none, firsts-at, firsts-next, firsts-other, firsts-end, firsts-all}
+use Rattle.parts.proofs.WordSums.{pairsTo, pairs-none, pairs-room, pairs-more, firsts, firsts-none, firsts-at, firsts-next, firsts-other, firsts-end, firsts-all}
 use borrow.Author.Needs.{needs}
 use Rattle.parts.proofs.pairs.pairs_of.Statement.{statement}
 use Rattle.parts.proofs.pairs.pairs_of.Tie as tie
@@ -44,11 +44,11 @@ Asked words p k = (p < maxPatterns) × (k < maxWires) × (wordAt words p k + bot
 
 module _ (sets : List ℕ) (p k : ℕ) (lp : p < maxPatterns) (lk : k < maxWires) {words : List ℕ} (e : words ≡ pairsTo sets (firsts p k)) where
   asked : Asked words p k
-  asked = (lp, lk, to-room sets (firsts p k) p k lp lk e (firsts-at p k))
+  asked = (lp, lk, pairs-room sets (firsts p k) p k lp lk e (firsts-at p k))
 
   next : {r : List ℕ} → r ≡ set words (wordPlace (p / narrowPatterns) k) (wordAt words p k + sidesOf (getD sets p 0) k * 2 ^ seat (p % narrowPatterns))
       → r ≡ pairsTo sets (firsts p (suc k))
-  next er = to-more sets (firsts p k) p k lp lk e (firsts-at p k) (firsts p (suc k)) (firsts-next p k) (firsts-other p k) er
+  next er = pairs-more sets (firsts p k) p k lp lk e (firsts-at p k) (firsts p (suc k)) (firsts-next p k) (firsts-other p k) er
 
 put-in-requires : tie.Need-put-in-requires Inv-loop μ-loop
 put-in-requires c κs =

@@ -13,41 +13,41 @@ mul-at c = search needs
 add-at : tie.Need-add-at
 add-at c = search needs
 
-mul-agreeing : tie.Need-mul-agreeing
-mul-agreeing c = search needs
+mul-allowing : tie.Need-mul-allowing
+mul-allowing c = search needs
 
-element-copy-out-agreeing : tie.Need-element-copy-out-agreeing
-element-copy-out-agreeing c = search needs
+element-copy-out-allowing : tie.Need-element-copy-out-allowing
+element-copy-out-allowing c = search needs
 
-add-agreeing : tie.Need-add-agreeing
-add-agreeing c = search needs
+add-allowing : tie.Need-add-allowing
+add-allowing c = search needs
 
-mul-agreeing-2 : tie.Need-mul-agreeing-2
-mul-agreeing-2 c = search needs
+mul-allowing-2 : tie.Need-mul-allowing-2
+mul-allowing-2 c = search needs
 
-element-copy-out-agreeing-2 : tie.Need-element-copy-out-agreeing-2
-element-copy-out-agreeing-2 c = search needs
+element-copy-out-allowing-2 : tie.Need-element-copy-out-allowing-2
+element-copy-out-allowing-2 c = search needs
 
-add-agreeing-2 : tie.Need-add-agreeing-2
-add-agreeing-2 c = search needs
+add-allowing-2 : tie.Need-add-allowing-2
+add-allowing-2 c = search needs
 
-mul-agreeing-3 : tie.Need-mul-agreeing-3
-mul-agreeing-3 c = search needs
+mul-allowing-3 : tie.Need-mul-allowing-3
+mul-allowing-3 c = search needs
 
-element-copy-out-agreeing-3 : tie.Need-element-copy-out-agreeing-3
-element-copy-out-agreeing-3 c = search needs
+element-copy-out-allowing-3 : tie.Need-element-copy-out-allowing-3
+element-copy-out-allowing-3 c = search needs
 
-add-agreeing-3 : tie.Need-add-agreeing-3
-add-agreeing-3 c = search needs
+add-allowing-3 : tie.Need-add-allowing-3
+add-allowing-3 c = search needs
 
-mul-agreeing-4 : tie.Need-mul-agreeing-4
-mul-agreeing-4 c = search needs
+mul-allowing-4 : tie.Need-mul-allowing-4
+mul-allowing-4 c = search needs
 
-element-copy-out-agreeing-4 : tie.Need-element-copy-out-agreeing-4
-element-copy-out-agreeing-4 c = search needs
+element-copy-out-allowing-4 : tie.Need-element-copy-out-allowing-4
+element-copy-out-allowing-4 c = search needs
 
-agreeing-requires : tie.Need-agreeing-requires
-agreeing-requires c κs = search needs
+allowing-requires : tie.Need-allowing-requires
+allowing-requires c κs = search needs
 
 first-refused-requires : tie.Need-first-refused-requires
 first-refused-requires c κs = search needs
@@ -55,9 +55,9 @@ first-refused-requires c κs = search needs
 returns : tie.Need-returns
 returns c =
     let a = c .before .before .before .before .before .before .args in
-    let r = c .before .agreeing .result in
+    let r = c .before .allowing .result in
     let refused = c .first-refused .ensures in
-    (refused .1, rw (refused .0) (clear (a .state .now) (a .q) (wholePlace + sectionWords * a .q) (a .tables) r (c .before .before .before .before .before .before .pre) (omega arith) (c .before .agreeing .ensures .1) (omega (arith, refused .0, refused .1))))
+    (refused .1, rw (refused .0) (clear (a .state .now) (a .q) (wholePlace + sectionWords * a .q) (a .tables) r (c .before .before .before .before .before .before .pre) (omega arith) (c .before .allowing .ensures .1) (omega (arith, refused .0, refused .1))))
 
 pub refused-on-spec : {M : Type 1} → statement M
 refused-on-spec =
@@ -65,17 +65,17 @@ refused-on-spec =
     (tie.spec
     mul-at
     add-at
-    mul-agreeing
-    element-copy-out-agreeing
-    add-agreeing
-    mul-agreeing-2
-    element-copy-out-agreeing-2
-    add-agreeing-2
-    mul-agreeing-3
-    element-copy-out-agreeing-3
-    add-agreeing-3
-    mul-agreeing-4
-    element-copy-out-agreeing-4
-    agreeing-requires
+    mul-allowing
+    element-copy-out-allowing
+    add-allowing
+    mul-allowing-2
+    element-copy-out-allowing-2
+    add-allowing-2
+    mul-allowing-3
+    element-copy-out-allowing-3
+    add-allowing-3
+    mul-allowing-4
+    element-copy-out-allowing-4
+    allowing-requires
     first-refused-requires
     returns)

@@ -1,9 +1,9 @@
--- `agreeing` meets its contract: two choices find the word, two the lane.
+-- `allowing` meets its contract: two choices find the word, two the lane.
 use native.Mathlib.Omega.{arith}
 use Rattle.by_value.proofs.Chosen.{chosen-allowed}
 use borrow.Author.Needs.{needs}
-use Rattle.by_value.proofs.agreeing.Statement.{statement}
-use Rattle.by_value.proofs.agreeing.Tie as tie
+use Rattle.by_value.proofs.allowing.Statement.{statement}
+use Rattle.by_value.proofs.allowing.Tie as tie
 
 lane-in-lanes-requires : tie.Need-lane-in-lanes-requires
 lane-in-lanes-requires c κs = search needs
@@ -53,8 +53,8 @@ returns c =
           (c .before .before .choose3 .ensures) (c .before .choose4 .ensures) (c .choose5 .ensures),
     )
 
-pub agreeing-spec : {M : Type 1} → statement M
-agreeing-spec =
+pub allowing-spec : {M : Type 1} → statement M
+allowing-spec =
     tie.close
     (tie.spec
     lane-in-lanes-requires
