@@ -13,8 +13,8 @@ use Rattle.lanes.specs.Inner.Lanes.{laneBits, laneSpace, lanesSpace, lan
 use Rattle.lanes.proofs.Lanes.{lanes-back, put-lane-lt}
 
 -- so many bits of a number by a mask, from bit s on
-pub kept : (x width s : ℕ) → bitAnd x ((2 ^ width - 1) * 2 ^ s) ≡ x / 2 ^ s % 2 ^ width * 2 ^ s
-kept x width s = ap (bitAnd x) (sym (high-ones width s)) ∙ and-high x width s
+pub mask-kept : (x width s : ℕ) → bitAnd x ((2 ^ width - 1) * 2 ^ s) ≡ x / 2 ^ s % 2 ^ width * 2 ^ s
+mask-kept x width s = ap (bitAnd x) (sym (high-ones width s)) ∙ and-high x width s
 
 module _ (x j y : ℕ) (lj : j < maxWires) (ly : y < laneSpace) (lx : x < lanesSpace) where
   -- where the lane begins
@@ -26,7 +26,7 @@ module _ (x j y : ℕ) (lj : j < maxWires) (ly : y < laneSpace) (lx : x < lanesS
 
   taken : bitAnd x full ≡ laneOf x j * 2 ^ at
   unfolding laneOf
-  taken = ap (bitAnd x) (shl-exact laneBits at (laneBits * maxWires) (omega arith) (omega arith)) ∙ kept x laneBits at
+  taken = ap (bitAnd x) (shl-exact laneBits at (laneBits * maxWires) (omega arith) (omega arith)) ∙ mask-kept x laneBits at
 
   placed : y * 2 ^ at % lanesSpace ≡ y * 2 ^ at
   placed = shl-exact laneBits at (laneBits * maxWires) ly (omega arith)

@@ -7,7 +7,7 @@ use lib.Bits.{bitAnd}
 use lib.Pow.{shl-exact}
 use Rattle.sheet.specs.Limits.{maxWires}
 use Rattle.table.specs.Bits.{sum}
-use Rattle.lanes.proofs.Replaced.{kept}
+use Rattle.lanes.proofs.Replaced.{mask-kept}
 use Rattle.parts.specs.Inner.Cells.{cellSpace, packed, byteIn, putCells, cellsSum}
 
 -- the bits of a byte, and of the number that the code keeps
@@ -20,7 +20,7 @@ wordBits = 64
 -- the code's byte, and its new cells
 module _ (x j k : ℕ) (lj : j < maxWires) (lk : k < cellSpace) (lx : x < 2 ^ wordBits) where
   taken : bitAnd x ((2 ^ byteBits - 1) * 2 ^ (byteBits * j) % 2 ^ wordBits) ≡ x / 2 ^ (byteBits * j) % 2 ^ byteBits * 2 ^ (byteBits * j)
-  taken = ap (bitAnd x) (shl-exact byteBits (byteBits * j) wordBits (omega arith) (omega arith)) ∙ kept x byteBits (byteBits * j)
+  taken = ap (bitAnd x) (shl-exact byteBits (byteBits * j) wordBits (omega arith) (omega arith)) ∙ mask-kept x byteBits (byteBits * j)
 
   put : k * 2 ^ (byteBits * j) % 2 ^ wordBits ≡ k * 2 ^ (byteBits * j)
   put = shl-exact byteBits (byteBits * j) wordBits lk (omega arith)
