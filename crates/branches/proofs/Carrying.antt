@@ -26,6 +26,7 @@ use Rattle.parts.specs.Inner.Parts.{Carried}
 use Rattle.parts.specs.Inner.States.{restPlace, sideAt}
 use Rattle.parts.proofs.Keeping.{few, table-at, table-lt, cells-fit, kept-tables, kept-floor}
 use Rattle.visits.specs.Inner.States.{SameRest}
+use Rattle.halves.proofs.Making.{past-zero}
 
 module _ {kind : BoardKind} {n m : ℕ} {S ws l : List ℕ} {low c : ℕ} (h : Carried kind n m S ws l low c) where
   pub carried-floor : {f : ℕ} → f ≡ cellsSum c → f ≡ floor (boardOf kind n m) (ofSets S)
@@ -69,10 +70,6 @@ module _ {kind : BoardKind} {n m : ℕ} {S ws l : List ℕ} {low c : ℕ} (h : C
             (decide (eqb q 0));
         cells = h .cells;
       }
-    where
-      past-zero : (q : ℕ) → T (not (eqb q 0)) → 1 ≤ q
-      past-zero zero z = absurd z
-      past-zero (suc q) z = omega arith
 
 pub pattern-lt : (kind : BoardKind) {n m p : ℕ} → Sized (mostInputs kind) n m → p < 2 ^ n → p < maxPatterns
 pattern-lt kind {n} sz l = lt-of-lt-of-le l (pow-mono {i = n} {j = maxInputs} (le-trans (sz .n-most) (most-inputs kind)))

@@ -42,7 +42,7 @@ use Rattle.halves.specs.declared.Picks.{Picks}
 use Rattle.halves.specs.Inner.Remade.{FewCells, Remade}
 use Rattle.halves.specs.Inner.Whole.{Agrees, Whole}
 use Rattle.halves.proofs.Agreeing.{agrees-narrowed, settled-below}
-use Rattle.halves.proofs.Making.{Half, partSets, partMasks, there, half-cover, half-few, table-again, made-carried}
+use Rattle.halves.proofs.Making.{past-zero, side-lane, Half, partSets, partMasks, there, half-cover, half-few, table-again, made-carried}
 use Rattle.halves.proofs.MadeAgain.{lane-zero}
 use Rattle.branches.proofs.Treated.{Reached, part-sets}
 
@@ -106,7 +106,7 @@ module _ {e : List ℕ} {m : ℕ} {S ws l : List ℕ} {p j b : ℕ} {sets masks 
         let d = begin .0 z in
         (rw d (omega (arith, h .pattern)), rw d (subst (λ N. Settled m (set sets p w) (tablesOf kind n N) p) (sym (part-sets at h)) (still-settled z settled))))
         (λ t.
-        let some : 0 < lost = past lost t in
+        let some : 0 < lost = past-zero lost t in
         let below = begin .1 some (now .sets) (tablesOf kind n (set sets p w)) (now .seen) (carried .tables) in
         (below .0, settled-below kind (carried .sized) (carried .sets) (now .sets) (cut .agrees) below))
         (decide (eqb lost 0)) in (
@@ -117,19 +117,9 @@ module _ {e : List ℕ} {m : ℕ} {S ws l : List ℕ} {p j b : ℕ} {sets masks 
           record { long = made .same .long; few = rw (made .same .front budgetPlace (omega arith), at .ran .budget) (held .few) },
           rw (made .same .front cellsPlace (omega arith)) (made .counts kept .1),
         )
-      where
-        past : (x : ℕ) → T (not (eqb x 0)) → 0 < x
-        past zero t = absurd t
-        past (suc x) t = omega arith
 
 -- what the code reads off the tables on pattern p, and the wires that it marks
 module _ {kind : BoardKind} {n m : ℕ} {S ws l : List ℕ} {low c : ℕ} (h : Carried kind n m S ws l low c) where
-  side-lane : (q i : ℕ) → q < sections → i < maxWires → laneOf (sideAt low l q) i ≡ section (tableOf kind n S i) q
-  side-lane q i lq li =
-      ap (λ x. laneOf x i) (h .tables q lq ∙ side-lanes (tablesOf kind n S) q)
-      ∙ lane-lanes (λ k. section (getD (tablesOf kind n S) k 0) q) (λ k _. section-lt (getD (tablesOf kind n S) k 0) q) i li
-      ∙ ap (λ t. section t q) (table-at kind n S i li)
-
   pub lost-told : (p : ℕ) → p < maxPatterns → (driven : ℕ) → ((i : ℕ) → i < maxWires → laneOf driven i ≡ bit (laneOf (sideAt low l (p / narrowPatterns)) i) (p % narrowPatterns))
       → (w lost : ℕ) → ((i : ℕ) → i < maxWires → laneOf lost i ≡ isOne (not (occurs maxWires (member w) i (laneOf driven i))))
       → (i : ℕ) → i < maxWires → laneOf lost i ≡ isOne (not (occurs maxWires (member w) i (bit (tableOf kind n S i) p)))
@@ -139,7 +129,7 @@ module _ {kind : BoardKind} {n m : ℕ} {S ws l : List ℕ} {low c : ℕ} (h : C
       let place : narrowPatterns * q + r ≡ p = omega arith in
       el i li
       ∙ ap (λ x. isOne (not (occurs maxWires (member w) i x)))
-      (ed i li ∙ ap (λ x. bit x r) (side-lane q i (omega arith) li) ∙ section-bit (tableOf kind n S i) q r (omega arith) ∙ ap (bit (tableOf kind n S i)) place)
+      (ed i li ∙ ap (λ x. bit x r) (side-lane h q i (omega arith) li) ∙ section-bit (tableOf kind n S i) q r (omega arith) ∙ ap (bit (tableOf kind n S i)) place)
 
   -- the tables on the sections past the first are numbers of four lanes
   rest-fit : (q : ℕ) → 1 ≤ q → q < sections → getD l (restPlace q) 0 < lanesSpace

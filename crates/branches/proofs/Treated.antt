@@ -25,7 +25,7 @@ use Rattle.lanes.specs.Inner.Lanes.{laneOf}
 use Rattle.parts.specs.Inner.Boards.{lentKind, lentInputs, lentWide}
 use Rattle.parts.specs.Inner.Cells.{cellsSum}
 use Rattle.parts.specs.Inner.Picks.{tableOf, cellsOf}
-use Rattle.parts.specs.Inner.Masks.{rowPatterns, maskCount, wordsOf, rowIn, withLanes, cutRow}
+use Rattle.parts.specs.Inner.Masks.{rowPatterns, maskCount, wordsOf, maskRow, withLanes, cutRow}
 use Rattle.parts.specs.Inner.States.{cellsPlace, restPlace, stateLength, SameBut}
 use Rattle.parts.proofs.Keeping.{kept-floor}
 use Rattle.parts.proofs.MaskRows.{with-long, row-again}
@@ -98,8 +98,8 @@ module _ {e : List ℕ} {m : ℕ} {S ws l : List ℕ} {p j b : ℕ} {sets masks 
   unfolding narrowed
   part-sets = at .same w ∙ ap (set S p) (h .left)
 
-  pub part-masks : {M : List ℕ} {r : ℕ} → r ≡ rowIn ws (p / rowPatterns) → M ≡ withLanes masks (p / rowPatterns) (cutRow r p w) → M ≡ partMasks h
-  part-masks er eM = eM ∙ ap (λ x. withLanes masks (p / rowPatterns) (cutRow x p w)) er ∙ at .rows (cutRow (rowIn ws (p / rowPatterns)) p w)
+  pub part-masks : {M : List ℕ} {r : ℕ} → r ≡ maskRow ws (p / rowPatterns) → M ≡ withLanes masks (p / rowPatterns) (cutRow r p w) → M ≡ partMasks h
+  part-masks er eM = eM ∙ ap (λ x. withLanes masks (p / rowPatterns) (cutRow x p w)) er ∙ at .rows (cutRow (maskRow ws (p / rowPatterns)) p w)
 
   part-keep : ofSets (set sets p w) ≡ keep (ofSets S) p j b
   part-keep = ap ofSets part-sets ∙ with-keep kind (h .carried .sized) (h .carried .sets) (h .pattern) (h .wire) (h .is-open) (h .side)
@@ -108,10 +108,10 @@ module _ {e : List ℕ} {m : ℕ} {S ws l : List ℕ} {p j b : ℕ} {sets masks 
   part-fewer = rw part-keep (keep-closes n m (ofSets S) p j b (h .pattern) (h .wire) (h .is-open))
 
   rows-after : {M : List ℕ} → M ≡ partMasks h → (row : ℕ) → withLanes M (p / rowPatterns) row ≡ withLanes ws (p / rowPatterns) row
-  rows-after eM row = ap (λ x. withLanes x (p / rowPatterns) row) eM ∙ row-again ws (p / rowPatterns) row (cutRow (rowIn ws (p / rowPatterns)) p w)
+  rows-after eM row = ap (λ x. withLanes x (p / rowPatterns) row) eM ∙ row-again ws (p / rowPatterns) row (cutRow (maskRow ws (p / rowPatterns)) p w)
 
   long-after : {M : List ℕ} → M ≡ partMasks h → length M ≡ maskCount
-  long-after eM = ap length eM ∙ with-long ws (p / rowPatterns) (cutRow (rowIn ws (p / rowPatterns)) p w)
+  long-after eM = ap length eM ∙ with-long ws (p / rowPatterns) (cutRow (maskRow ws (p / rowPatterns)) p w)
 
   treated-next : {s : State} → s ≡ searchPart (boardOf kind n m) (budgetIn state) (ofSets (set sets p w)) (stateOf state)
       → s ≡ partsTreated kind n m (budgetIn l) (ofSets S) p j (stateOf l) (suc b)

@@ -2,7 +2,7 @@
 // The sets and the masks are lent down: a split narrows those of its pattern and puts them back, so that no part is copied. Lent too is the state
 // of the search: the best tables so far, their cells, the visits charged, 1 once a part was left, the budget, the tables of the part at hand and the whole relation by value. So few
 // things are handed down that all of them but one stand in registers, and a call takes little of the stack.
-// Inner functions: `search_sets` of the crate `search` and the cycle itself meet what they require.
+// Inner functions: `search_whole` of the crate `search` and the cycle itself meet what they require.
 use halves::remaking::again;
 use halves::remaking::cut_at;
 use halves::remaking::lost_wires;

@@ -10,7 +10,7 @@ use lib.ListN.{getD}
 use borrow.Author.Tests.{lt-ltb, le-ltb}
 use Rattle.base.specs.Lowest.{lowest}
 use Rattle.base.proofs.Tests.{decide, eq-test}
-use Rattle.base.proofs.Lowest.{lowest-is, lowest-below, lowest-none, lowest-cong}
+use Rattle.base.proofs.Lowest.{lowest-is, lowest-below, lowest-cong}
 use Rattle.sheet.specs.Limits.{maxWires, maxPatterns, maxValues}
 use Rattle.table.specs.Bits.{bit, isOne}
 use Rattle.table.specs.Cells.{wires}
@@ -21,7 +21,7 @@ use Rattle.table.proofs.BitColumns.{isOne-lt-two}
 use Rattle.relation.specs.Source.{value}
 use Rattle.relation.specs.Inner.Members.{member}
 use Rattle.relation.specs.Inner.Side.{sideBySide, valueIn}
-use Rattle.relation.proofs.Side.{side-value}
+use Rattle.relation.proofs.Side.{sections-value}
 use Rattle.by_value.specs.Inner.ByValue.{wordValues, wordWidth, sectionWords, valueWordPlace, valueWord, SectionWords, allowedAt, allowsAt, Allowing, everyValue, filled, WordsBelow, firstRefused}
 
 value-lt : (tables p : ℕ) → valueIn tables p < maxValues
@@ -39,13 +39,6 @@ word-bit sets q k i p li lp =
     bit-ofBits (λ b. isOne (member (getD sets (narrowPatterns * q + b % narrowPatterns) 0) (wordValues * k + b / narrowPatterns))) wordWidth
     (λ b _. isOne-lt-two (member (getD sets (narrowPatterns * q + b % narrowPatterns) 0) (wordValues * k + b / narrowPatterns))) b (omega arith)
     ∙ ap₂ (λ x y. isOne (member (getD sets (narrowPatterns * q + x) 0) (wordValues * k + y))) low high
-
--- the value of tables side by side is the value of the tables
-side-at : (ts : List ℕ) (q p : ℕ) → p < narrowPatterns → valueIn (sideBySide ts q) p ≡ value maxWires (wires ts) (narrowPatterns * q + p)
-side-at ts q p l =
-    let a : (narrowPatterns * q + p) / narrowPatterns ≡ q = omega arith in
-    let b : (narrowPatterns * q + p) % narrowPatterns ≡ p = omega arith in
-    ap₂ (λ x y. valueIn (sideBySide ts x) y) (sym a) (sym b) ∙ side-value ts (narrowPatterns * q + p)
 
 -- the answer is whether the value is in the pattern's set
 module _ (sets : List ℕ) (q a b c d tables r : ℕ) (words : SectionWords sets q a b c d) (allowing : Allowing a b c d tables r) where
@@ -74,7 +67,7 @@ module _ (sets : List ℕ) (q a b c d tables r : ℕ) (words : SectionWords sets
 
     pub told-value : (p : ℕ) → p < narrowPatterns → bit r p ≡ isOne (allowsAt sets ts (narrowPatterns * q + p))
     told-value p l =
-        told p l ∙ ap (λ x. isOne (member (getD sets (narrowPatterns * q + p) 0) x)) (ap (λ t. valueIn t p) side ∙ side-at ts q p l)
+        told p l ∙ ap (λ x. isOne (member (getD sets (narrowPatterns * q + p) 0) x)) (ap (λ t. valueIn t p) side ∙ sections-value ts q p l)
 
     none-test : (t : Bool) → eqb (isOne t) 0 ≡ not t
     unfolding isOne
@@ -90,14 +83,6 @@ module _ (sets : List ℕ) (q a b c d tables r : ℕ) (words : SectionWords sets
     pub allowed-below : (p : ℕ) → p < narrowPatterns → p < firstRefused r → T (allowsAt sets ts (narrowPatterns * q + p))
     allowed-below p l h =
         ⊎-elim (λ t. t) (λ t. absurd (omega (arith, refused-lowest, lowest-below narrowPatterns (λ p. not (allows p)) p l t))) (decide (allows p))
-
-    -- none is, where all allow theirs
-    pub none-refused : ((p : ℕ) → p < narrowPatterns → T (allowsAt sets ts (narrowPatterns * q + p))) → firstRefused r ≡ narrowPatterns
-    none-refused h = refused-lowest ∙ lowest-none narrowPatterns (λ p. not (allows p)) (λ p l. twice (allows p) (h p l))
-      where
-        twice : (t : Bool) → T t → T (not (not t))
-        twice true h = tt
-        twice false h = absurd h
 
     -- and it does not allow its own, where it is a pattern of the section
     pub refused-is : firstRefused r < narrowPatterns → T (not (allowsAt sets ts (narrowPatterns * q + firstRefused r)))

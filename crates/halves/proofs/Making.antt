@@ -30,7 +30,7 @@ use Rattle.lanes.proofs.Lanes.{lane-lanes, lanes-cong, side-lanes}
 use Rattle.parts.specs.Inner.Boards.{wideMark, boardIn, lentKind, lentInputs, lentWide, Lent}
 use Rattle.parts.specs.Inner.Pairs.{cutPairs}
 use Rattle.parts.specs.Inner.Words.{pairsOf, rowOf, withRow, Covers}
-use Rattle.parts.specs.Inner.Masks.{rowPatterns, wordsOf, rowIn, withLanes, cutRow}
+use Rattle.parts.specs.Inner.Masks.{rowPatterns, wordsOf, maskRow, withLanes, cutRow}
 use Rattle.parts.specs.Inner.Cells.{cellSpace, byteIn, packed, cellsSum}
 use Rattle.parts.specs.Inner.Picks.{pickBetween, pickOn, cellsOn, tableOf, tablesOf, cellsOf}
 use Rattle.parts.specs.Inner.Parts.{PartSets, Carried}
@@ -42,6 +42,18 @@ use Rattle.parts.proofs.LentPicks.{narrow-inputs}
 use Rattle.parts.proofs.Narrowing.{with-sets, with-pairs, with-more, still-pick}
 use Rattle.halves.specs.declared.Picks.{Picks}
 use Rattle.halves.specs.Inner.Remade.{marked, FewCells, cellsAgain, sideAgain, Remade}
+
+pub past-zero : (q : ℕ) → T (not (eqb q 0)) → 1 ≤ q
+past-zero zero z = absurd z
+past-zero (suc q) z = omega arith
+
+-- the tables of a part, lane by lane
+pub side-lane : {kind : BoardKind} {n m : ℕ} {S ws l : List ℕ} {low c : ℕ} → Carried kind n m S ws l low c → (q i : ℕ) → q < sections → i < maxWires
+    → laneOf (sideAt low l q) i ≡ section (tableOf kind n S i) q
+side-lane {kind} {n} {m} {S} h q i lq li =
+    ap (λ x. laneOf x i) (h .tables q lq ∙ side-lanes (tablesOf kind n S) q)
+    ∙ lane-lanes (λ k. section (getD (tablesOf kind n S) k 0) q) (λ k _. section-lt (getD (tablesOf kind n S) k 0) q) i li
+    ∙ ap (λ t. section t q) (table-at kind n S i li)
 
 -- a table of the first section alone is 0 on the others
 pub past-section : (t q : ℕ) → t < narrowSpace → 1 ≤ q → section t q ≡ 0
@@ -75,7 +87,7 @@ module _ {e : List ℕ} {m : ℕ} {S ws l : List ℕ} {low c p j b w : ℕ} (h :
   partSets = narrowed S p j b
 
   abbrev pub partMasks : List ℕ
-  partMasks = withLanes ws (p / rowPatterns) (cutRow (rowIn ws (p / rowPatterns)) p w)
+  partMasks = withLanes ws (p / rowPatterns) (cutRow (maskRow ws (p / rowPatterns)) p w)
 
   pub there : p < maxPatterns
   there = lt-of-lt-of-le (h .pattern) (pow-mono {i = n} {j = maxInputs} (few kind (whole .sized)))
@@ -118,13 +130,6 @@ module _ {e : List ℕ} {m : ℕ} {S ws l : List ℕ} {low c p j b w : ℕ} (h :
       sum-le maxWires (byteIn c) (byteIn (cellsOf kind n partSets))
       (λ i li. rw (cells-byte kind n (few kind (whole .sized)) partSets i li, ← new-cells i li) (half-more i li))
 
-  -- the tables before, lane by lane
-  old-side : (q i : ℕ) → q < sections → i < maxWires → laneOf (sideAt low l q) i ≡ section (tableOf kind n S i) q
-  old-side q i lq li =
-      ap (λ x. laneOf x i) (whole .tables q lq ∙ side-lanes (tablesOf kind n S) q)
-      ∙ lane-lanes (λ k. section (getD (tablesOf kind n S) k 0) q) (λ k _. section-lt (getD (tablesOf kind n S) k 0) q) i li
-      ∙ ap (λ t. section t q) (table-at kind n S i li)
-
   -- the wires whose bit on the pattern no longer occurs are marked
   module _ (wires : ℕ) (told : (i : ℕ) → i < maxWires → laneOf wires i ≡ isOne (not (occurs maxWires (member w) i (bit (tableOf kind n S i) p)))) where
     -- every other pick is still the pick
@@ -146,7 +151,7 @@ module _ {e : List ℕ} {m : ℕ} {S ws l : List ℕ} {low c p j b w : ℕ} (h :
     again-side q lq =
         lanes-cong (sideAgain e (wordsOf partMasks) wires (sideAt low l q) q) (λ i. section (getD (tablesOf kind n partSets) i 0) q)
         (λ i li.
-        ap₂ (λ x y. cond (marked wires i) (section x q) y) (new-pick i li) (old-side q i lq li) ∙ table-again i li (λ t. section t q)
+        ap₂ (λ x y. cond (marked wires i) (section x q) y) (new-pick i li) (side-lane whole q i lq li) ∙ table-again i li (λ t. section t q)
         ∙ ap (λ t. section t q) (sym (table-at kind n partSets i li)))
         ∙ sym (side-lanes (tablesOf kind n partSets) q)
 
@@ -180,10 +185,6 @@ module _ {e : List ℕ} {m : ℕ} {S ws l : List ℕ} {low c p j b w : ℕ} (h :
 
     -- so what is made again and kept is the part's
     module _ {after : List ℕ} {r : Picks} (made : Remade e (wordsOf partMasks) wires low c l after r) where
-      past-zero : (q : ℕ) → T (not (eqb q 0)) → 1 ≤ q
-      past-zero zero z = absurd z
-      past-zero (suc q) z = omega arith
-
       rest-side : T (r .kept) → (q : ℕ) → 1 ≤ q → q < sections → getD after (restPlace q) 0 ≡ sideBySide (tablesOf kind n partSets) q
       unfolding sideAt
       rest-side k q l1 lq =
@@ -214,8 +215,8 @@ module _ {e : List ℕ} {m : ℕ} {S ws l : List ℕ} {low c p j b w : ℕ} (h :
           record {
             sized = whole .sized;
             sets = half-sets;
-            long = with-long ws (p / rowPatterns) (cutRow (rowIn ws (p / rowPatterns)) p w);
-            halved = with-small ws (p / rowPatterns) (cutRow (rowIn ws (p / rowPatterns)) p w) (whole .halved);
+            long = with-long ws (p / rowPatterns) (cutRow (maskRow ws (p / rowPatterns)) p w);
+            halved = with-small ws (p / rowPatterns) (cutRow (maskRow ws (p / rowPatterns)) p w) (whole .halved);
             masks = half-words;
             tables = made-tables k;
             cells = made .counts k .0 ∙ all-cells;

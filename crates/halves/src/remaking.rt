@@ -12,11 +12,12 @@ use parts::cells::sum_of;
 use parts::masks::MASKS;
 use parts::masks::cut_row;
 use parts::masks::put_row;
+use parts::picks::cells_in;
 use parts::picks::pick_at;
+use parts::picks::side_in;
 use parts::states::CELLS;
 use parts::states::STATE;
 use table::picks::LENT;
-use table::picks::NARROW_SPACE;
 ghost use mathlib.Core.Path.{_≡_};
 ghost use mathlib.Core.Bool.{not};
 ghost use Prim.Native.Nat.{ℕ, _/_, _<_, _≤_};
@@ -70,8 +71,8 @@ pub fn again(
     while left != 0 {
         let j = lowest_wire(left);
         let found = pick_at(e, masks, j, state);
-        low = put_lane(low, j, (found % NARROW_SPACE) as u64);
-        all = put_cells(all, j, found / NARROW_SPACE);
+        low = put_lane(low, j, side_in(found));
+        all = put_cells(all, j, cells_in(found));
         if state[CELLS] <= sum_of(all) as u64 {
             return Picks {
                 low,

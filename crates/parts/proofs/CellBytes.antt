@@ -82,12 +82,6 @@ sum-found x l s =
         → x ≡ a + b * cellSpace + c * cellSpace ^ 2 + w * cellSpace ^ 3
     together x y z w a b c p q r = omega arith
 
--- four bytes side by side
-pub packed-four : (f : ℕ → ℕ) {a b c d : ℕ} → a ≡ f 0 → b ≡ f 1 → c ≡ f 2 → d ≡ f 3
-    → a + b * cellSpace + c * cellSpace ^ 2 + d * cellSpace ^ 3 ≡ packed f
-unfolding packed sum
-packed-four f ea eb ec ed = omega arith
-
 -- what is packed
 module _ (f : ℕ → ℕ) (small : (j : ℕ) → f j < cellSpace) where
   pub packed-lt : packed f < cellSpace ^ maxWires

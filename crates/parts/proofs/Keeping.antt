@@ -144,20 +144,8 @@ kept-floor kind {n} {m} sz {sets} ok =
     ∙ sum-cong maxWires (λ j. countOf kind n (tableOf kind n sets j)) f (λ j _. ap (countOf kind n) (kept-pick kind sz ok j))
     ∙ sum-short f m maxWires (sz .m-most) (λ j l. ap (countOf kind n) (pick-past kind sz ok j l) ∙ count-zero kind n)
 
--- the picks between the masks of a part's words are its picks, and their cells its cells
+-- a part's tables, wire by wire
 module _ (kind : BoardKind) (n : ℕ) (sets : List ℕ) where
-  pub tables-between : tabulate maxWires (pickBetween kind n (pairsOf sets)) ≡ tablesOf kind n sets
-  unfolding tablesOf
-  tables-between =
-      tabulate-cong maxWires (pickBetween kind n (pairsOf sets)) (tableOf kind n sets)
-      (λ j l. pick-told (pairsOf sets) sets j (pairs-tell sets j l) kind n)
-
-  pub cells-between : packed (λ j. countOf kind n (pickBetween kind n (pairsOf sets) j)) ≡ cellsOf kind n sets
-  unfolding cellsOf packed
-  cells-between =
-      sum-cong maxWires (λ j. countOf kind n (pickBetween kind n (pairsOf sets) j) * cellSpace ^ j) (λ j. countOf kind n (tableOf kind n sets j) * cellSpace ^ j)
-      (λ j l. ap (λ t. countOf kind n t * cellSpace ^ j) (pick-told (pairsOf sets) sets j (pairs-tell sets j l) kind n))
-
   pub table-at : (j : ℕ) → j < maxWires → getD (tablesOf kind n sets) j 0 ≡ tableOf kind n sets j
   unfolding tablesOf
   table-at j l = tabulate-at maxWires (tableOf kind n sets) j l

@@ -26,34 +26,30 @@ use Rattle.lanes.specs.Inner.Lanes.{laneSpace, laneOf, lanesOf}
 use Rattle.lanes.proofs.Lanes.{lane-lt, lane-lanes}
 use Rattle.parts.specs.Inner.Pairs.{bothSides, lostOf, cutPair, cutPairs}
 use Rattle.parts.specs.Inner.Words.{wordCount, wordPlace, rowOf, withRow}
-use Rattle.parts.specs.Inner.Masks.{rowPatterns, Halved, maskCount, maskPlace, halves, wordsOf, rowIn, withLanes, cutHalf, cutRow}
+use Rattle.parts.specs.Inner.Masks.{rowPatterns, Halved, maskCount, maskPlace, wordFrom, wordsOf, maskRow, withLanes, cutHalf, cutRow}
 use Rattle.parts.proofs.PairCuts.{cut-taken}
 use Rattle.parts.proofs.WordSums.{place-section, place-wire, place-lt, others-same}
 
 -- the words are told by their halves
-pub words-told : (masks : List ℕ) (q j : ℕ) → q < sections → j < maxWires → getD (wordsOf masks) (wordPlace q j) 0 ≡ halves masks q j
+pub words-told : (masks : List ℕ) (q j : ℕ) → q < sections → j < maxWires → getD (wordsOf masks) (wordPlace q j) 0 ≡ wordFrom masks q j
 unfolding wordsOf
 words-told masks q j lq lj =
-    tabulate-at wordCount (λ i. halves masks (i / maxWires) (i % maxWires)) (wordPlace q j) (place-lt q j lq lj)
-    ∙ ap₂ (halves masks) (place-section q j lj) (place-wire q j lj)
-
-pub words-long : (masks : List ℕ) → length (wordsOf masks) ≡ wordCount
-unfolding wordsOf
-words-long masks = tabulate-length wordCount (λ i. halves masks (i / maxWires) (i % maxWires))
+    tabulate-at wordCount (λ i. wordFrom masks (i / maxWires) (i % maxWires)) (wordPlace q j) (place-lt q j lq lj)
+    ∙ ap₂ (wordFrom masks) (place-section q j lj) (place-wire q j lj)
 
 -- so the code makes a word of its halves
 pub pair-made : (masks : List ℕ) (q j : ℕ) {lo hi : ℕ} → lo ≡ getD masks (2 * maxWires * q + j) 0 → hi ≡ getD masks (2 * maxWires * q + j + maxWires) 0
-    → lo + hi * laneSpace ≡ halves masks q j
-unfolding halves
+    → lo + hi * laneSpace ≡ wordFrom masks q j
+unfolding wordFrom
 pair-made masks q j el eh =
     let low : 2 * maxWires * q + j ≡ maskPlace (2 * q) j = omega arith in
     let high : 2 * maxWires * q + j + maxWires ≡ maskPlace (2 * q + 1) j = omega arith in
     ap₂ (λ u v. u + v * laneSpace) (el ∙ ap (λ i. getD masks i 0) low) (eh ∙ ap (λ i. getD masks i 0) high)
 
 -- words that have these halves
-words-are : (masks : List ℕ) (f : ℕ → ℕ) → ((i : ℕ) → i < wordCount → halves masks (i / maxWires) (i % maxWires) ≡ f i) → wordsOf masks ≡ tabulate wordCount f
+words-are : (masks : List ℕ) (f : ℕ → ℕ) → ((i : ℕ) → i < wordCount → wordFrom masks (i / maxWires) (i % maxWires) ≡ f i) → wordsOf masks ≡ tabulate wordCount f
 unfolding wordsOf
-words-are masks f h = tabulate-cong wordCount (λ i. halves masks (i / maxWires) (i % maxWires)) f h
+words-are masks f h = tabulate-cong wordCount (λ i. wordFrom masks (i / maxWires) (i % maxWires)) f h
 
 -- words in their halves, one after the other: where the lower half of word k stands, and the halves of the words below i that are in place
 abbrev pub lowPlace : ℕ → ℕ
@@ -92,7 +88,7 @@ halves-next words masks i li long h {x} {y} ex ey k lk =
     first = set masks (lowPlace i) x
 
 pub halves-all : (words masks : List ℕ) → length words ≡ wordCount → HalvesTo words masks wordCount → wordsOf masks ≡ words
-unfolding halves
+unfolding wordFrom
 halves-all words masks long h =
     words-are masks (λ i. getD words i 0)
     (λ i l.
@@ -111,8 +107,8 @@ first-place b e = omega arith
 -- so the code reads a row
 pub row-made : (masks : List ℕ) (b : ℕ) {at : ℕ} → at ≡ b * maxWires → {x0 x1 x2 x3 : ℕ}
     → x0 ≡ getD masks at 0 → x1 ≡ getD masks (at + 1) 0 → x2 ≡ getD masks (at + 2) 0 → x3 ≡ getD masks (at + 3) 0
-    → x0 + x1 * laneSpace + x2 * laneSpace ^ 2 + x3 * laneSpace ^ 3 ≡ rowIn masks b
-unfolding rowIn lanesOf sum
+    → x0 + x1 * laneSpace + x2 * laneSpace ^ 2 + x3 * laneSpace ^ 3 ≡ maskRow masks b
+unfolding maskRow lanesOf sum
 row-made masks b {at} e e0 e1 e2 e3 =
     let p0 : getD masks at 0 ≡ getD masks (maskPlace b 0) 0 = ap (λ i. getD masks i 0) (omega arith) in
     let p1 : getD masks (at + 1) 0 ≡ getD masks (maskPlace b 1) 0 = ap (λ i. getD masks (i + 1) 0) e in
@@ -200,15 +196,15 @@ module _ (masks : List ℕ) (b row : ℕ) where
       ∙ eqb-not (i / maxWires) b (laneOf other (i % maxWires)) (getD masks i 0) (λ d. T-not (eqb (i / maxWires) b) t (eq-test d))))
 
 module _ (masks : List ℕ) (b : ℕ) (small : Halved masks) where
-  pub row-lane : (j : ℕ) → j < maxWires → laneOf (rowIn masks b) j ≡ getD masks (maskPlace b j) 0
-  unfolding rowIn
+  pub row-lane : (j : ℕ) → j < maxWires → laneOf (maskRow masks b) j ≡ getD masks (maskPlace b j) 0
+  unfolding maskRow
   row-lane j l = lane-lanes (λ i. getD masks (maskPlace b i) 0) (λ i _. small (maskPlace b i)) j l
 
   -- the row that was there, put back
-  pub row-back : length masks ≡ maskCount → withLanes masks b (rowIn masks b) ≡ masks
+  pub row-back : length masks ≡ maskCount → withLanes masks b (maskRow masks b) ≡ masks
   unfolding withLanes
   row-back long =
-      sym (filled-tabulate maskCount (λ i. cond (eqb (i / maxWires) b) (laneOf (rowIn masks b) (i % maxWires)) (getD masks i 0)) masks long
+      sym (filled-tabulate maskCount (λ i. cond (eqb (i / maxWires) b) (laneOf (maskRow masks b) (i % maxWires)) (getD masks i 0)) masks long
       (λ i _.
       cond-has (λ x. getD masks i 0 ≡ x) (eqb (i / maxWires) b)
       (λ t.
@@ -254,7 +250,7 @@ module _ (masks : List ℕ) (p w : ℕ) (lp : p < maxPatterns) (small : Halved m
   b = p / rowPatterns
 
   abbrev cut : ℕ
-  cut = cutRow (rowIn masks b) p w
+  cut = cutRow (maskRow masks b) p w
 
   half-lt : (x j : ℕ) → x < laneSpace → cutHalf x p w j < laneSpace
   half-lt x j l = omega arith
@@ -262,7 +258,7 @@ module _ (masks : List ℕ) (p w : ℕ) (lp : p < maxPatterns) (small : Halved m
   cut-lane : (j : ℕ) → j < maxWires → laneOf cut j ≡ cutHalf (getD masks (maskPlace b j) 0) p w j
   unfolding cutRow
   cut-lane j l =
-      lane-lanes (λ i. cutHalf (laneOf (rowIn masks b) i) p w i) (λ i _. half-lt (laneOf (rowIn masks b) i) i (lane-lt (rowIn masks b) i)) j l
+      lane-lanes (λ i. cutHalf (laneOf (maskRow masks b) i) p w i) (λ i _. half-lt (laneOf (maskRow masks b) i) i (lane-lt (maskRow masks b) i)) j l
       ∙ ap (λ x. cutHalf x p w j) (row-lane masks b small j l)
 
   -- a word of the section is cut: the half that has the pattern, which is the lower or the upper one
@@ -276,8 +272,8 @@ module _ (masks : List ℕ) (p w : ℕ) (lp : p < maxPatterns) (small : Halved m
   unfolding seat
   high-seat l = omega arith
 
-  section-cut : (j : ℕ) → j < maxWires → halves M (p / narrowPatterns) j ≡ cutPair (halves masks (p / narrowPatterns) j) (p % narrowPatterns) w j
-  unfolding halves
+  section-cut : (j : ℕ) → j < maxWires → wordFrom M (p / narrowPatterns) j ≡ cutPair (wordFrom masks (p / narrowPatterns) j) (p % narrowPatterns) w j
+  unfolding wordFrom
   section-cut j lj =
       let q = p / narrowPatterns in
       let lo = getD masks (maskPlace (2 * q) j) 0 in
@@ -310,8 +306,8 @@ module _ (masks : List ℕ) (p w : ℕ) (lp : p < maxPatterns) (small : Halved m
       ∙ cut-taken x (p % narrowPatterns) w j lx (omega arith) refl (sym (high-seat l)))
       (decide (ltb (p % narrowPatterns) rowPatterns))
 
-  section-kept : (q j : ℕ) → q < sections → j < maxWires → (q ≡ p / narrowPatterns → ⊥) → halves M q j ≡ halves masks q j
-  unfolding halves
+  section-kept : (q j : ℕ) → q < sections → j < maxWires → (q ≡ p / narrowPatterns → ⊥) → wordFrom M q j ≡ wordFrom masks q j
+  unfolding wordFrom
   section-kept q j lq lj ne =
       let n0 : 2 * q ≡ b → ⊥ = λ d. ne (omega arith) in
       let n1 : 2 * q + 1 ≡ b → ⊥ = λ d. ne (omega arith) in
@@ -331,10 +327,10 @@ module _ (masks : List ℕ) (p w : ℕ) (lp : p < maxPatterns) (small : Halved m
       let lq : q < sections = omega arith in
       let lj : j < maxWires = omega arith in
       let ei : i ≡ wordPlace q j = omega arith in
-      cond-has (λ x. halves M q j ≡ x) (eqb q s)
+      cond-has (λ x. wordFrom M q j ≡ x) (eqb q s)
       (λ t.
       let e = eqb→eq q s t in
-      ap (λ z. halves M z j) e ∙ section-cut j lj
+      ap (λ z. wordFrom M z j) e ∙ section-cut j lj
       ∙ sym (tabulate-at maxWires (λ k. cutPair (getD row k 0) (p % narrowPatterns) w k) j lj
       ∙ ap (λ z. cutPair z (p % narrowPatterns) w j) (tabulate-at maxWires (λ k. getD (wordsOf masks) (wordPlace s k) 0) j lj ∙ words-told masks s j ls lj)))
       (λ t.

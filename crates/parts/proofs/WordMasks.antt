@@ -77,10 +77,6 @@ module _ (words sets : List ℕ) (j : ℕ) (told : Tells words sets j) where
   unfolding pickBetween tableOf
   pick-told kind n = ap₂ (pickOf (countOf kind n) n) zeros-told ones-told
 
-pub pairs-long : (sets : List ℕ) → length (pairsOf sets) ≡ wordCount
-unfolding pairsOf
-pairs-long sets = tabulate-length wordCount (λ i. wordOf sets (i / maxWires) (i % maxWires))
-
 pub pairs-word : (sets : List ℕ) (i : ℕ) → i < wordCount → getD (pairsOf sets) i 0 ≡ wordOf sets (i / maxWires) (i % maxWires)
 unfolding pairsOf
 pairs-word sets i l = tabulate-at wordCount (λ i. wordOf sets (i / maxWires) (i % maxWires)) i l

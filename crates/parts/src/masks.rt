@@ -17,7 +17,7 @@ ghost use Rattle.sheet.specs.Limits.{maxWires, maxPatterns};
 ghost use Rattle.table.specs.Inner.Wide.{sections};
 ghost use Rattle.lanes.specs.Inner.Lanes.{laneSpace, laneOf, lanesOf};
 ghost use Rattle.parts.specs.Inner.Pairs.{bothSides, lostOf};
-ghost use Rattle.parts.specs.Inner.Masks.{rowPatterns, maskCount, halves, wordsOf, rowIn, withLanes, cutRow};
+ghost use Rattle.parts.specs.Inner.Masks.{rowPatterns, maskCount, wordFrom, wordsOf, maskRow, withLanes, cutRow};
 
 // The patterns of a row.
 pub const ROW: u8 = SECTION / 2;
@@ -85,7 +85,7 @@ fn half_at(masks: &[u16; MASKS], at: usize) -> u64
 // Wire j's word on section q, from its halves.
 pub fn pair_at(masks: &[u16; MASKS], q: usize, j: u8) -> u32
     requires { ⌜ (q < sections) × (j < maxWires) ⌝ }
-    ensures { λ r. ⌜ r ≡ halves (now (masks .entry)) q j ⌝ }
+    ensures { λ r. ⌜ r ≡ wordFrom (now (masks .entry)) q j ⌝ }
 {
     let at = 2 * Sheet::WIRES * q + j as usize;
     (half_at(masks, at) + half_at(masks, at + Sheet::WIRES) * SECTION_SPACE) as u32
@@ -102,7 +102,7 @@ fn row_place(p: u8) -> usize
 // The row of pattern p side by side in one number.
 pub fn row_of(masks: &[u16; MASKS], p: u8) -> u64
     requires { ⌜ p < maxPatterns ⌝ }
-    ensures { λ r. ⌜ r ≡ rowIn (now (masks .entry)) (p / rowPatterns) ⌝ }
+    ensures { λ r. ⌜ r ≡ maskRow (now (masks .entry)) (p / rowPatterns) ⌝ }
 {
     let at = row_place(p);
     half_at(masks, at)

@@ -1,5 +1,6 @@
 // The picks between the masks of a wire, on the board whose number stands behind the entries of the table lent. A pick's cells and its table on the first section are
-// the result, in one number, and its table on the other sections is put into the state of the search: so all that a pick is handed stands in registers.
+// the result, in one number, which `cells_in` and `side_in` take apart, and its table on the other sections is put into the state of the search: so all that a
+// pick is handed stands in registers.
 // Inner functions: the search and the first answer meet what they require.
 use crate::boards::BOARD_PLACE;
 use crate::boards::SHARING;
@@ -18,11 +19,11 @@ use table::wide::SECTION_SPACE;
 use table::wide::wide_pick;
 ghost use mathlib.Core.Path.{_≡_};
 ghost use mathlib.Core.Bool.{true};
-ghost use Prim.Native.Nat.{_<_, _≤_, _^_};
+ghost use Prim.Native.Nat.{_/_, _%_, _<_, _≤_, _^_};
 ghost use lib.ListN.{length};
 ghost use Rattle.sheet.specs.Limits.{maxWires};
 ghost use Rattle.nodes.specs.Counts.{countOf};
-ghost use Rattle.table.specs.Inner.Ranks.{pickOf, rank};
+ghost use Rattle.table.specs.Inner.Ranks.{narrowSpace, pickOf, rank};
 ghost use Rattle.table.specs.Inner.Blocks.{Covered};
 ghost use Rattle.table.specs.Inner.Pairs.{zerosIn, onesIn};
 ghost use Rattle.parts.specs.Inner.Boards.{wideMark, boardIn, lentKind, lentInputs, lentWide, Lent};
@@ -30,6 +31,19 @@ ghost use Rattle.parts.specs.Inner.Words.{Covers};
 ghost use Rattle.parts.specs.Inner.Masks.{wordsOf};
 ghost use Rattle.parts.specs.Inner.Picks.{pickOn, sideRank};
 ghost use Rattle.parts.specs.Inner.States.{stateLength, PutRest};
+
+// What the number of a pick tells: its cells, and its table on the first section.
+pub fn cells_in(found: u32) -> u32
+    ensures { λ r. ⌜ r ≡ found / narrowSpace ⌝ }
+{
+    found / NARROW_SPACE
+}
+
+pub fn side_in(found: u32) -> u64
+    ensures { λ r. ⌜ (r ≡ found % narrowSpace) × (r < narrowSpace) ⌝ }
+{
+    (found % NARROW_SPACE) as u64
+}
 
 // The pick on a wide board, from the words of all sections.
 fn pick_wide(

@@ -100,7 +100,7 @@ placed : (x k s hi p : ℕ) → p < narrowPatterns → x / 2 ^ k ≡ s + hi * si
 placed x k s hi p h e = sym (bit-div x k p) ∙ ap (λ y. bit y p) e ∙ bit-low s hi h
 
 -- the value of four sections side by side is the value of the tables
-sections-value : (ts : List ℕ) (q p : ℕ) → p < narrowPatterns → valueIn (sideBySide ts q) p ≡ value maxWires (wires ts) (narrowPatterns * q + p)
+pub sections-value : (ts : List ℕ) (q p : ℕ) → p < narrowPatterns → valueIn (sideBySide ts q) p ≡ value maxWires (wires ts) (narrowPatterns * q + p)
 unfolding valueIn sideBySide value ofBits sum
 sections-value ts q p h =
     let x = sideBySide ts q in

@@ -32,7 +32,7 @@ use Rattle.nodes.proofs.Counts.{count-lt, most-inputs}
 use Rattle.sheet.specs.Inner.Sized.{Sized}
 use Rattle.parts.specs.Inner.Parts.{PartSets}
 use Rattle.parts.specs.Inner.Picks.{tableOf}
-use Rattle.branch_bound.proofs.Picks.{wires-tables, pick-fits}
+use Rattle.branch_bound.proofs.Picks.{tables-long, wires-tables, pick-fits}
 use Rattle.parts.proofs.Keeping.{narrow, kept-pick}
 
 -- the table chosen for wire i
@@ -52,17 +52,13 @@ pub none-taken : (kind : BoardKind) (n m : ℕ) (sets : List ℕ) → PartSets n
 unfolding left replyTables tabulate sum
 none-taken kind n m sets ok = record { reached = omega arith; kept = ok; is-left = refl; are-chosen = refl; counted = refl; few = omega arith }
 
-pub row-long : (j : ℕ) (X : Tables) → length (replyTables j X) ≡ maxWires
-unfolding replyTables
-row-long j X = tabulate-length maxWires (λ i. cond (ltb i j) (X i) 0)
-
 -- one table more in a row of tables
 more-tables : (j : ℕ) (X : Tables) (tables : List ℕ) → j < maxWires → tables ≡ replyTables j X → set tables j (X j) ≡ replyTables (j + 1) X
 unfolding replyTables
 more-tables j X tables lj e =
     let f : ℕ → ℕ = λ i. cond (ltb i j) (X i) 0 in
     let g : ℕ → ℕ = λ i. cond (ltb i (j + 1)) (X i) 0 in
-    let long : length tables ≡ maxWires = ap length e ∙ row-long j X in
+    let long : length tables ≡ maxWires = ap length e ∙ tables-long j X in
     filled-tabulate maxWires g (set tables j (X j)) (simp length-set long)
     (λ q l.
     ⊎-elim
@@ -120,7 +116,7 @@ module _ {kind : BoardKind} {n m : ℕ} (sz : Sized (mostInputs kind) n m) {sets
       → ChosenBelow kind n m sets (j + 1) next more (sums + s)
   next-taken {s} {more} {next} et es en =
       let t = tableOf kind n rest j in
-      let long : length tables ≡ maxWires = ap length (tk .are-chosen) ∙ row-long j (chosen kind n m sets) in
+      let long : length tables ≡ maxWires = ap length (tk .are-chosen) ∙ tables-long j (chosen kind n m sets) in
       let there : getD more j 0 ≡ t = ap (λ l. getD l j 0) et ∙ getD-set-same tables j t 0 (omega (arith, long, sz .m-most)) in
       rw (en ∙ ap (agreed rest j) there, et) (chosen-next es)
 

@@ -1,5 +1,5 @@
 // The first answer, one wire after the other (QuickSolver of source 001, section 6.2).
-// Inner functions: `search_sets` and `quick` meet what they require.
+// Inner functions: `keep_first` and `quick` meet what they require.
 use branch_bound::State;
 use parts::boards::BOARD_PLACE;
 use parts::boards::WIRES_PLACE;
@@ -7,13 +7,14 @@ use parts::boards::inputs_of;
 use parts::boards::is_wide;
 use parts::masks::masks_of;
 use parts::pairs::pair_of;
+use parts::picks::cells_in;
 use parts::picks::pick_at;
+use parts::picks::side_in;
 use parts::states::REST;
 use parts::states::STATE;
 use relation::patterns::agreeing;
 use sheet::Sheet;
 use table::picks::LENT;
-use table::picks::NARROW_SPACE;
 use visits::states::joined;
 ghost use mathlib.Core.Path.{_≡_};
 ghost use mathlib.Core.Bool.{cond};
@@ -39,7 +40,7 @@ fn table_at(wide: bool, found: u32, j: u8, state: &[u64; STATE]) -> u64
         (found % narrowSpace + joinedOf 0 (getD (now (state .entry)) (restPlace 1) 0) (getD (now (state .entry)) (restPlace 2) 0) (getD (now (state .entry)) (restPlace 3) 0) j)
         (found % narrowSpace) ⌝ }
 {
-    let low = (found % NARROW_SPACE) as u64;
+    let low = side_in(found);
     if wide {
         return low + joined(0, state[REST + 1], state[REST + 2], state[REST + 3], j);
     }
@@ -73,7 +74,7 @@ fn pick_left(
     let masks = masks_of(&words);
     let found = pick_at(e, &masks, j, state);
     tables[j as usize] = table_at(is_wide(board), found, j, state);
-    found / NARROW_SPACE
+    cells_in(found)
 }
 
 pub fn quick(

@@ -38,7 +38,7 @@ pub const PLACES: u32 = BLOCK_SPACE * BLOCK_SPACE;
 
 pub const ENTRIES: usize = PLACES as usize;
 
-// Behind the entries the search keeps the number of its board and of its wires: so many places.
+// Behind the entries the search keeps the numbers of its board, of its wires and of its patterns: so many places.
 const KEPT_BEHIND: usize = 3;
 
 // The length of the table that is lent for picks.

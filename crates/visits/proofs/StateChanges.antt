@@ -223,9 +223,6 @@ same-state s =
 pub same-budget : {a b : List ℕ} → SameBut a b → budgetIn b ≡ budgetIn a
 same-budget s = s .front budgetPlace (omega arith)
 
-pub same-ran : {a b : List ℕ} → SameBut a b → Ran (λ s. s) a b
-same-ran s = record { long = s .long; state = same-state s; budget = same-budget s; whole = s .back }
-
 pub but-refl : {a : List ℕ} → length a ≡ stateLength → SameBut a a
 but-refl long = record { long = long; front = λ i h. refl; back = λ i h. refl }
 

@@ -95,7 +95,7 @@ pub fn first_conflict(e: &[u32; LENT], state: &[u64; STATE], low: u64) -> u8
 }
 
 // The lowest pattern on which the picks' value is not allowed, and the lowest wire open there. A pattern in conflict has an open wire, since every pick
-// fits its projection. Patterns below `from` are known to be without conflict.
+// fits its projection. Patterns below `from` are known to be without conflict. The two nested loops, left by a label, are the form that document 01 names for this.
 pub fn first_open(
     e: &[u32; LENT],
     from: u8,

@@ -18,7 +18,7 @@ use Rattle.relation.specs.Inner.Members.{member, withBit}
 use Rattle.lanes.specs.Inner.Lanes.{laneOf}
 use Rattle.parts.specs.Inner.Boards.{boardIn, lentKind, lentInputs, lentWires, lentWide}
 use Rattle.parts.specs.Inner.Cells.{cellsSum}
-use Rattle.parts.specs.Inner.Masks.{rowPatterns, wordsOf, rowIn, withLanes}
+use Rattle.parts.specs.Inner.Masks.{rowPatterns, wordsOf, maskRow, withLanes}
 use Rattle.parts.specs.Inner.Parts.{Carried}
 use Rattle.parts.specs.Inner.Picks.{tableOf, tablesOf}
 use Rattle.parts.specs.Inner.States.{cellsPlace, leftPlace, stateLength}

@@ -29,15 +29,15 @@ abbrev pub Halved : List ℕ → Type 0
 Halved masks = (i : ℕ) → getD masks i 0 < laneSpace
 
 -- wire j's word on section q: its lower half is in the section's first row, its upper half in the second
-unfoldable pub halves : List ℕ → (q j : ℕ) → ℕ
-halves masks q j = getD masks (maskPlace (2 * q) j) 0 + getD masks (maskPlace (2 * q + 1) j) 0 * laneSpace
+unfoldable pub wordFrom : List ℕ → (q j : ℕ) → ℕ
+wordFrom masks q j = getD masks (maskPlace (2 * q) j) 0 + getD masks (maskPlace (2 * q + 1) j) 0 * laneSpace
 
 unfoldable pub wordsOf : List ℕ → List ℕ
-wordsOf masks = tabulate wordCount (λ i. halves masks (i / maxWires) (i % maxWires))
+wordsOf masks = tabulate wordCount (λ i. wordFrom masks (i / maxWires) (i % maxWires))
 
 -- row b with its numbers side by side, and the masks with row b replaced
-unfoldable pub rowIn : List ℕ → ℕ → ℕ
-rowIn masks b = lanesOf (λ j. getD masks (maskPlace b j) 0)
+unfoldable pub maskRow : List ℕ → ℕ → ℕ
+maskRow masks b = lanesOf (λ j. getD masks (maskPlace b j) 0)
 
 unfoldable pub withLanes : List ℕ → (b row : ℕ) → List ℕ
 withLanes masks b row = tabulate maskCount (λ i. cond (eqb (i / maxWires) b) (laneOf row (i % maxWires)) (getD masks i 0))

@@ -20,6 +20,7 @@ use Rattle.parts.proofs.boards.inputs_of.Reads as inputs-of-reads
 use Rattle.parts.proofs.boards.is_wide.Reads as is-wide-reads
 use Rattle.parts.proofs.masks.masks_of.Reads as masks-of-reads
 use Rattle.parts.proofs.pairs.pair_of.Reads as pair-of-reads
+use Rattle.parts.proofs.picks.cells_in.Reads as cells-in-reads
 use Rattle.parts.proofs.picks.pick_at.Reads as pick-at-reads
 use Rattle.search.proofs.quick_solver.table_at.Reads as table-at-reads
 
@@ -69,20 +70,23 @@ mul-tables c = search needs
 element-write-tables-2 : tie.Need-element-write-tables-2
 element-write-tables-2 c = search needs
 
+cells-in-requires : tie.Need-cells-in-requires
+cells-in-requires c κs = search needs
+
 returns-2 : tie.Need-returns-2
 unfolding boardIn
-returns-2 c = let b = c .before .before .before .before .before .before .before .before .before .before .before .before in
+returns-2 c = let b = c .before .before .before .before .before .before .before .before .before .before .before .before .before in
     let a = b .args in
     let q = b .pre in
     let e = a .e .now in
-    let w = c .before .before .before .before .before .before .masks-of .ensures .0 ∙ c .before .before .before .before .before .before .before .before .pair-of .ensures in
-    let words = wordsOf (c .before .before .before .before .before .before .masks-of .result) in
-    let r = c .before .before .before .pick-at .ensures in
+    let w = c .before .before .before .before .before .before .before .masks-of .ensures .0 ∙ c .before .before .before .before .before .before .before .before .before .pair-of .ensures in
+    let words = wordsOf (c .before .before .before .before .before .before .before .masks-of .result) in
+    let r = c .before .before .before .before .pick-at .ensures in
     let p = pick-told (wordsFor (a .left .now) (a .j)) (a .left .now) (a .j) (alone-tells (a .left .now) (a .j) (q .3)) (lentKind e) (lentInputs e) in
     let picked = ap (λ x. pickOn e x (a .j)) w ∙ p in
     let fits : pickOn e words (a .j) < 2 ^ (2 ^ lentInputs e) = rw picked (table-lt (lentKind e) (q .1) (q .2) (a .j)) in (
-      ap (set (a .tables .now) (a .j)) (c .table-at .ensures ∙ table-told (q .0) words (a .j) (q .3) fits (r .0) (r .1) (c .before .before .is-wide .ensures) ∙ picked),
-      cells-told (q .0) words (a .j) (q .3) fits (r .0) ∙ ap (countOf (lentKind e) (lentInputs e)) picked,
+      ap (set (a .tables .now) (a .j)) (c .before .table-at .ensures ∙ table-told (q .0) words (a .j) (q .3) fits (r .0) (r .1) (c .before .before .before .is-wide .ensures) ∙ picked),
+      c .cells-in .ensures ∙ cells-told (q .0) words (a .j) (q .3) fits (r .0) ∙ ap (countOf (lentKind e) (lentInputs e)) picked,
       r .1 .same .long,
     )
 
@@ -102,4 +106,5 @@ pick-left-spec =
     table-at-requires
     mul-tables
     element-write-tables-2
+    cells-in-requires
     returns-2)

@@ -8,7 +8,8 @@ use Rattle.parts.specs.Inner.Boards.{lentKind, lentInputs, lentWires}
 use Rattle.parts.specs.Inner.States.{stateLength}
 use Rattle.parts.specs.Inner.Picks.{tableOf}
 use Rattle.parts.proofs.Lending.{board-small, wires-small, inputs-told, wires-told, inputs-few}
-use Rattle.search.proofs.FirstAnswer.{ChosenBelow, row-long, none-taken, next-taken, all-taken}
+use Rattle.branch_bound.proofs.Picks.{tables-long}
+use Rattle.search.proofs.FirstAnswer.{ChosenBelow, none-taken, next-taken, all-taken}
 use Rattle.search.proofs.quick_solver.quick.Statement.{statement}
 use Rattle.search.proofs.quick_solver.quick.Tie as tie
 use Rattle.search.proofs.quick_solver.quick.Reads as reads
@@ -55,7 +56,7 @@ pick-left-requires c κs =
       l .0 .kept,
       omega (arith, wires-small e (q .1)),
       λ z. (q .3 ∙ ap (λ s. tableOf (lentKind e) (lentInputs e) s 0) (sym (l .1 z)), q .4),
-      ap length (l .0 .are-chosen) ∙ row-long (c .before .before .before .before .loop .j) _,
+      ap length (l .0 .are-chosen) ∙ tables-long (c .before .before .before .before .loop .j) _,
       l .2,
     )
 

@@ -9,10 +9,11 @@ use Rattle.search.proofs.quick_solver.table_at.Statement.{statement}
 use Rattle.search.proofs.quick_solver.table_at.Tie as tie
 use Rattle.search.proofs.quick_solver.table_at.Reads as reads
 use Rattle.search.proofs.quick_solver.table_at.Lts as lts
+use Rattle.parts.proofs.picks.side_in.Reads as side-in-reads
 use Rattle.visits.proofs.states.joined.Reads as joined-reads
 
-cast-low : tie.Need-cast-low
-cast-low c = search needs
+side-in-requires : tie.Need-side-in-requires
+side-in-requires c κs = search needs
 
 add-joined : tie.Need-add-joined
 add-joined c = search needs
@@ -45,21 +46,26 @@ joined-requires : tie.Need-joined-requires
 joined-requires c κs = search needs
 
 add-result : tie.Need-add-result
-add-result c = let a = c .before .before .before .before .before .args in
+add-result c = let a = c .before .before .before .before .before .before .args in
     let l = a .state .now in
-    omega (arith, c .joined .ensures, joined-fits (a .found % narrowSpace) (getD l (restPlace 1) 0) (getD l (restPlace 2) 0) (getD l (restPlace 3) 0) (a .j) (omega arith) (c .before .before .before .before .before .pre))
+    omega (
+      arith,
+      c .joined .ensures,
+      c .before .before .before .before .before .side-in .ensures .0,
+      joined-fits (a .found % narrowSpace) (getD l (restPlace 1) 0) (getD l (restPlace 2) 0) (getD l (restPlace 3) 0) (a .j) (omega arith) (c .before .before .before .before .before .before .pre),
+    )
 
 returns : tie.Need-returns
-returns c = rw (c .before .before .before .before .if1 .taken, c .joined .ensures)
+returns c = rw (c .before .before .before .before .if1 .taken, c .joined .ensures, c .before .before .before .before .before .side-in .ensures .0)
 
 returns-2 : tie.Need-returns-2
-returns-2 c = rw (c .if1 .left)
+returns-2 c = rw (c .if1 .left, c .before .side-in .ensures .0)
 
 pub table-at-spec : {M : Type 1} → statement M
 table-at-spec =
     tie.close
     (tie.spec
-    cast-low
+    side-in-requires
     add-joined
     mul-joined
     element-copy-out-joined
