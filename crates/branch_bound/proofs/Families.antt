@@ -13,7 +13,7 @@ use Rattle.table.specs.Drawing.{Drawing, drawnCells}
 use Rattle.table.specs.Inner.Drawing.{FairCount}
 use Rattle.table.proofs.Bits.{sum-cong}
 use Rattle.table.proofs.Drawings.{least}
-use Rattle.relation.specs.Source.{Rel, Tables, Stage, Compatible, value}
+use Rattle.relation.specs.Source.{Rel, Tables, Stage, Compatible}
 use Rattle.relation.specs.Inner.Source.{WellDefined}
 use Rattle.relation.specs.Families.{Family}
 use Rattle.relation.proofs.Decide.{value-cong}

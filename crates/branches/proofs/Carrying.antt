@@ -1,13 +1,12 @@
 -- What is carried of a part tells its floor, its tables and the patterns that there are.
-use Prim.Native.Nat.{ℕ, zero, suc, _^_, _<_, _≤_}
+use Prim.Native.Nat.{ℕ, _^_, _<_, _≤_}
 use mathlib.Core.Path.{_≡_, sym, ap, subst, _∙_}
 use mathlib.Core.Logic.{⊎-elim}
-use mathlib.Core.Bool.{not, cond}
+use mathlib.Core.Bool.{cond}
 use mathlib.Core.List.{List}
 use native.Mathlib.Nat.{lt-of-lt-of-le}
 use native.Mathlib.Nat.{le-trans}
-use native.Mathlib.Omega.{arith}
-use lib.Dec.{T, eqb, leb, leb→le, nleb→lt}
+use lib.Dec.{eqb, leb, leb→le, nleb→lt}
 use lib.ListN.{length, getD, List·getD-eq-default}
 use Rattle.base.proofs.Tests.{decide, test-yes, test-no}
 use lib.Pow.{pow-mono, pow-pos}

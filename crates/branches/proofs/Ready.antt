@@ -1,6 +1,6 @@
 -- A part that is made and kept may be visited.
-use Prim.Native.Nat.{ℕ, zero, suc, _+_, _*_, _/_, _%_, _^_, _<_, _≤_}
-use mathlib.Core.Path.{_≡_, refl, sym, ap, subst, _∙_}
+use Prim.Native.Nat.{ℕ, _+_, _*_, _/_, _%_, _^_, _<_, _≤_}
+use mathlib.Core.Path.{_≡_, sym, ap, subst, _∙_}
 use mathlib.Core.Logic.{⊎-elim}
 use mathlib.Core.Bool.{Bool, not, cond}
 use mathlib.Core.List.{List}
@@ -11,13 +11,11 @@ use lib.ListN.{length, getD, set}
 use lib.Pow.{pow-mono}
 use lib.Seq.{getD-set-other}
 use Rattle.base.proofs.Tests.{decide}
-use Rattle.sheet.specs.Limits.{maxInputs, maxWires, maxPatterns, maxValues}
-use Rattle.table.specs.Bits.{bit, isOne, tabulate}
+use Rattle.sheet.specs.Limits.{maxWires, maxPatterns, maxValues}
+use Rattle.table.specs.Bits.{bit, isOne}
 use Rattle.table.proofs.Bits.{tabulate-cong}
-use Rattle.table.specs.Cells.{wires}
 use Rattle.table.specs.Inner.Wide.{sections}
 use Rattle.nodes.specs.declared.BoardKind.{BoardKind}
-use Rattle.relation.specs.Source.{value}
 use Rattle.relation.specs.Tests.{ofSets, occurs}
 use Rattle.relation.specs.Inner.Members.{member}
 use Rattle.relation.proofs.Members.{member-sets}
@@ -25,7 +23,7 @@ use Rattle.table.specs.Inner.Pairs.{narrowPatterns}
 use Rattle.relation.specs.Inner.Side.{section, sideBySide}
 use Rattle.relation.proofs.Side.{section-lt, section-bit}
 use Rattle.lanes.specs.Inner.Lanes.{lanesSpace, laneOf, LanesBelow}
-use Rattle.lanes.proofs.Lanes.{lane-lanes, lanes-lt, side-lanes}
+use Rattle.lanes.proofs.Lanes.{lanes-lt, side-lanes}
 use Rattle.by_value.specs.Inner.ByValue.{valueWordPlace}
 use borrow.Author.Tests.{ne-eqb}
 use Rattle.parts.specs.Inner.Boards.{lentKind, lentInputs, lentWide, Lent}
@@ -35,9 +33,8 @@ use Rattle.parts.specs.Inner.Masks.{wordsOf}
 use Rattle.parts.specs.Inner.Picks.{tableOf, tablesOf}
 use Rattle.parts.specs.Inner.Parts.{Carried}
 use Rattle.parts.specs.Inner.States.{cellsPlace, budgetPlace, restPlace, wholePlace, stateLength, sideAt, SameWhole}
-use Rattle.parts.proofs.Keeping.{table-at}
-use Rattle.visits.specs.Inner.Conflicts.{Settled, Seen, AllowedBelow}
-use Rattle.visits.specs.Inner.States.{budgetIn, Held}
+use Rattle.visits.specs.Inner.Conflicts.{Settled, AllowedBelow}
+use Rattle.visits.specs.Inner.States.{Held}
 use Rattle.halves.specs.declared.Picks.{Picks}
 use Rattle.halves.specs.Inner.Remade.{FewCells, Remade}
 use Rattle.halves.specs.Inner.Whole.{Agrees, Whole}

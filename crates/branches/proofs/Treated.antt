@@ -11,7 +11,6 @@ use lib.Seq.{set-set}
 use Rattle.base.proofs.Tests.{decide, test-yes, test-no}
 use Rattle.sheet.specs.Limits.{maxWires}
 use Rattle.table.specs.Bits.{bit, isOne}
-use Rattle.table.specs.Inner.Wide.{sections}
 use Rattle.nodes.specs.declared.BoardKind.{BoardKind}
 use Rattle.relation.specs.Source.{Rel}
 use Rattle.relation.specs.Tests.{ofSets, occurs, keep, openPairs}
@@ -19,19 +18,19 @@ use Rattle.relation.specs.Inner.Members.{member}
 use Rattle.relation.specs.Inner.Narrowed.{narrowed}
 use Rattle.relation.proofs.Splits.{keep-closes}
 use Rattle.branch_bound.specs.declared.State.{State}
-use Rattle.branch_bound.specs.Search.{floor, split, searchPart}
+use Rattle.branch_bound.specs.Search.{split, searchPart}
 use Rattle.branch_bound.specs.Boards.{boardOf}
 use Rattle.lanes.specs.Inner.Lanes.{laneOf}
 use Rattle.parts.specs.Inner.Boards.{lentKind, lentInputs, lentWide}
 use Rattle.parts.specs.Inner.Cells.{cellsSum}
 use Rattle.parts.specs.Inner.Picks.{tableOf, cellsOf}
 use Rattle.parts.specs.Inner.Masks.{rowPatterns, maskCount, wordsOf, maskRow, withLanes, cutRow}
-use Rattle.parts.specs.Inner.States.{cellsPlace, restPlace, stateLength, SameBut}
+use Rattle.parts.specs.Inner.States.{cellsPlace, stateLength, SameBut}
 use Rattle.parts.proofs.Keeping.{kept-floor}
 use Rattle.parts.proofs.MaskRows.{with-long, row-again}
 use Rattle.parts.proofs.Narrowing.{with-keep}
-use Rattle.visits.specs.Inner.States.{stateOf, budgetIn, SameRest, restOf, withRest, Held, Ran}
-use Rattle.visits.proofs.StateChanges.{same-state, same-budget, rest-long, with-rest, rest-at}
+use Rattle.visits.specs.Inner.States.{stateOf, budgetIn, SameRest, restOf, withRest, Ran}
+use Rattle.visits.proofs.StateChanges.{same-state, same-budget, with-rest, rest-at}
 use Rattle.halves.specs.declared.Picks.{Picks}
 use Rattle.halves.specs.Inner.Remade.{Remade}
 use Rattle.halves.proofs.Making.{Half, partSets, partMasks, half-sets, half-floor, made-over}

@@ -1,17 +1,15 @@
 -- The whole relation tells where the picks of a part are in conflict: a split keeps the agreement, and where the whole allows the picks' values, so does the part.
 use Prim.Native.Nat.{ℕ, _^_, _<_, _≤_}
-use mathlib.Core.Path.{_≡_, refl, sym, ap, subst, _∙_}
+use mathlib.Core.Path.{_≡_, sym, ap, subst, _∙_}
 use mathlib.Core.Logic.{⊎-elim}
 use mathlib.Core.Bool.{_&&_}
 use mathlib.Core.List.{List}
 use native.Mathlib.Omega.{arith}
-use native.Mathlib.Nat.{lt-of-lt-of-le}
 use lib.Dec.{T, T-not, eqb, eqb→eq}
-use lib.ListN.{length, getD, set}
-use lib.Pow.{pow-mono}
+use lib.ListN.{length, getD}
 use lib.Seq.{getD-set-same, getD-set-other}
 use Rattle.base.proofs.Tests.{decide, eq-test, and-left, and-right, and-intro}
-use Rattle.sheet.specs.Limits.{maxInputs, maxWires, maxPatterns, maxValues}
+use Rattle.sheet.specs.Limits.{maxWires, maxPatterns, maxValues}
 use Rattle.sheet.specs.Inner.Sized.{Sized}
 use Rattle.table.specs.Bits.{bit}
 use Rattle.table.specs.Cells.{wires}
@@ -28,7 +26,6 @@ use Rattle.relation.proofs.Members.{member-sets, with-test}
 use Rattle.relation.proofs.AllWires.{occurs-all-wires, value-all-wires}
 use Rattle.table.specs.Pick.{suits}
 use Rattle.table.proofs.Bits.{all-at}
-use Rattle.by_value.specs.Inner.ByValue.{allowsAt}
 use Rattle.branch_bound.specs.Search.{pick, picks}
 use Rattle.branch_bound.specs.Boards.{boardOf}
 use Rattle.parts.specs.Inner.Parts.{PartSets}

@@ -1,8 +1,7 @@
 -- The bits of four tables side by side on one pattern.
 use Prim.Native.Nat.{ℕ, _+_, _*_, _/_, _%_, _^_, _<_}
-use mathlib.Core.Path.{_≡_, sym, ap, ap₂, _∙_}
+use mathlib.Core.Path.{_≡_, sym, ap, _∙_}
 use native.Mathlib.Omega.{arith}
-use native.Mathlib.Nat.{add-comm}
 use lib.Bits.{bitAnd, and-mask}
 use Rattle.sheet.specs.Limits.{maxWires}
 use Rattle.table.specs.Bits.{bit}

@@ -9,7 +9,7 @@ use native.Mathlib.Nat.{le-refl, le-trans, lt-of-lt-of-le, div-eq-of-lt, div-div
 use lib.Arith.{digits-div, digits-mod}
 use lib.Dec.{T, T-not, eqb, eqb→eq, ltb, ltb→lt, nltb→le}
 use lib.Pow.{pow-mono, pow-pos}
-use lib.ListN.{length, getD}
+use lib.ListN.{getD}
 use Rattle.base.proofs.Tests.{cond-has, decide, eq-test, eqb-yes, eqb-not, test-yes, test-no}
 use Rattle.base.proofs.Lowest.{lowest-is}
 use Rattle.sheet.specs.Limits.{maxInputs, maxWires}

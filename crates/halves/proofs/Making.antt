@@ -2,15 +2,15 @@
 use Prim.Native.Nat.{ℕ, zero, suc, _+_, _*_, _/_, _%_, _^_, _<_, _≤_}
 use mathlib.Core.Path.{_≡_, refl, sym, ap, ap₂, subst, _∙_}
 use mathlib.Core.Logic.{⊎-elim}
-use mathlib.Core.Bool.{Bool, true, false, not, cond}
+use mathlib.Core.Bool.{not, cond}
 use mathlib.Core.List.{List}
 use native.Mathlib.Omega.{arith}
 use native.Mathlib.Nat.{lt-of-lt-of-le, div-eq-of-lt}
 use lib.Dec.{T, eqb, eqb→eq, nleb→lt}
 use borrow.Author.Tests.{ne-eqb}
-use lib.ListN.{length, getD}
+use lib.ListN.{getD}
 use lib.Pow.{pow-mono}
-use Rattle.base.proofs.Tests.{cond-has, decide, test-yes, test-no}
+use Rattle.base.proofs.Tests.{decide, test-yes, test-no}
 use Rattle.sheet.specs.Limits.{maxInputs, maxWires, maxPatterns}
 use Rattle.table.specs.Bits.{bit, isOne, sum}
 use Rattle.table.proofs.Bits.{sum-cong}
@@ -25,7 +25,7 @@ use Rattle.relation.specs.Inner.Members.{member, withBit}
 use Rattle.relation.specs.Inner.Narrowed.{narrowed}
 use Rattle.relation.specs.Inner.Side.{section, sideBySide}
 use Rattle.relation.proofs.Side.{section-lt}
-use Rattle.lanes.specs.Inner.Lanes.{laneSpace, laneOf, lanesOf}
+use Rattle.lanes.specs.Inner.Lanes.{laneOf, lanesOf}
 use Rattle.lanes.proofs.Lanes.{lane-lanes, lanes-cong, side-lanes}
 use Rattle.parts.specs.Inner.Boards.{wideMark, boardIn, lentKind, lentInputs, lentWide, Lent}
 use Rattle.parts.specs.Inner.Pairs.{cutPairs}
@@ -34,7 +34,7 @@ use Rattle.parts.specs.Inner.Masks.{rowPatterns, wordsOf, maskRow, withLanes, c
 use Rattle.parts.specs.Inner.Cells.{cellSpace, byteIn, packed, cellsSum}
 use Rattle.parts.specs.Inner.Picks.{pickBetween, pickOn, cellsOn, tableOf, tablesOf, cellsOf}
 use Rattle.parts.specs.Inner.Parts.{PartSets, Carried}
-use Rattle.parts.specs.Inner.States.{cellsPlace, restPlace, sideAt, SameBut}
+use Rattle.parts.specs.Inner.States.{cellsPlace, restPlace, sideAt}
 use Rattle.parts.proofs.MaskRows.{row-cut, with-long, with-small}
 use Rattle.parts.proofs.WordMasks.{pick-told, pairs-tell}
 use Rattle.parts.proofs.Keeping.{few, table-at, table-lt, table-few, cells-byte, cells-fit, pairs-cover}

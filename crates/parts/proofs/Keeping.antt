@@ -12,7 +12,7 @@ use lib.Pow.{pow-pos, pow-mono}
 use Rattle.base.proofs.Tests.{cond-has}
 use Rattle.sheet.specs.Limits.{maxInputs, maxWires}
 use Rattle.sheet.specs.Inner.Sized.{Sized}
-use Rattle.table.specs.Bits.{bit, sum, tabulate}
+use Rattle.table.specs.Bits.{bit, sum}
 use Rattle.table.specs.Cells.{total}
 use Rattle.table.specs.Pick.{suits, orZero}
 use Rattle.table.specs.Inner.Ranks.{masked, pickOf}
@@ -33,11 +33,11 @@ use Rattle.branch_bound.specs.Search.{replyTables, pick, picks, floor}
 use Rattle.branch_bound.specs.Boards.{boardOf}
 use Rattle.branch_bound.proofs.Picks.{pick-least}
 use Rattle.parts.specs.Inner.Words.{pairsOf, wordsFor, Covers}
-use Rattle.parts.specs.Inner.Cells.{cellSpace, packed, byteIn, cellsSum}
-use Rattle.parts.specs.Inner.Picks.{pickBetween, tableOf, tablesOf, cellsOf}
+use Rattle.parts.specs.Inner.Cells.{cellSpace, byteIn, cellsSum}
+use Rattle.parts.specs.Inner.Picks.{tableOf, tablesOf, cellsOf}
 use Rattle.parts.specs.Inner.Parts.{PartSets}
 use Rattle.parts.proofs.CellBytes.{packed-lt, packed-byte}
-use Rattle.parts.proofs.WordMasks.{Tells, zeros-told, ones-told, pick-told, pairs-tell, alone-tells}
+use Rattle.parts.proofs.WordMasks.{Tells, zeros-told, ones-told, pairs-tell, alone-tells}
 
 -- every table of a board has fewer cells than its byte has room for; four wires together too
 pub count-few : (kind : BoardKind) (n t : ℕ) → n ≤ maxInputs → countOf kind n t < 2 ^ maxInputs

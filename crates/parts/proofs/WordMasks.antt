@@ -8,7 +8,7 @@ use native.Mathlib.Omega.{arith}
 use native.Mathlib.Nat.{lt-of-lt-of-le}
 use lib.Arith.{digits-div, digits-mod}
 use lib.Dec.{eqb, ltb, ltb→lt, nltb→le}
-use lib.ListN.{length, getD}
+use lib.ListN.{getD}
 use lib.Pow.{pow-mono}
 use Rattle.base.proofs.Tests.{decide, eqb-yes}
 use Rattle.sheet.specs.Limits.{maxWires, maxPatterns}
@@ -18,7 +18,7 @@ use Rattle.table.specs.Bits.{bit, ofBits}
 use Rattle.table.specs.Inner.Ranks.{pickOf, narrowSpace}
 use Rattle.table.specs.Inner.Pairs.{narrowInputs, narrowPatterns, zerosIn, onesIn}
 use Rattle.table.specs.Inner.Wide.{sections, fiveSpace, twoMasks, fourMasks}
-use Rattle.table.proofs.Bits.{bit-lt, bit-mod, bit-div, bit-ext, sum-cong, bit-ofBits, ofBits-lt, ofBits-bit, tabulate-at, tabulate-length}
+use Rattle.table.proofs.Bits.{bit-lt, bit-mod, bit-div, bit-ext, sum-cong, bit-ofBits, ofBits-lt, ofBits-bit, tabulate-at}
 use Rattle.table.proofs.Pairs.{zeros-lt, ones-lt}
 use Rattle.table.proofs.SideBySide.{two-lt}
 use Rattle.relation.specs.Inner.Side.{section}

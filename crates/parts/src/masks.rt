@@ -6,6 +6,9 @@ use crate::pairs::seat_of;
 use lanes::lane;
 use lanes::no_ones;
 use lanes::no_zeros;
+use relation::patterns::SIDE_1;
+use relation::patterns::SIDE_2;
+use relation::patterns::SIDE_3;
 use sheet::Sheet;
 use table::picks::BLOCK_SPACE;
 use table::wide::SECTION;
@@ -26,13 +29,6 @@ pub const MASKS: usize = 2 * WORDS;
 
 // Above every half of a word.
 const HALF_SPACE: u32 = SECTION_SPACE as u32;
-
-// Where the numbers of wires 1, 2 and 3 begin beside that of wire 0.
-const SIDE_1: u64 = SECTION_SPACE;
-
-const SIDE_2: u64 = SIDE_1 * SECTION_SPACE;
-
-const SIDE_3: u64 = SIDE_2 * SECTION_SPACE;
 
 // The two halves of a word: the patterns of its section's first row, and those of the second.
 fn low_half(word: u32) -> u16

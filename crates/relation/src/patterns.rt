@@ -19,12 +19,12 @@ use table::columns::column;
 use table::wide::SECTION;
 use table::wide::SECTION_SPACE;
 
-// Where the sections of wires 1, 2 and 3 begin beside that of wire 0.
-const SIDE_1: u64 = 1 << SECTION;
+// Where the numbers of wires 1, 2 and 3 begin beside that of wire 0.
+pub const SIDE_1: u64 = 1 << SECTION;
 
-const SIDE_2: u64 = 1 << (2 * SECTION);
+pub const SIDE_2: u64 = 1 << (2 * SECTION);
 
-const SIDE_3: u64 = 1 << (3 * SECTION);
+pub const SIDE_3: u64 = 1 << (3 * SECTION);
 
 // The lowest bit of each of the four sections.
 const LOWEST: u64 = 1 + SIDE_1 + SIDE_2 + SIDE_3;

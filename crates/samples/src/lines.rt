@@ -6,7 +6,7 @@ use text::put_decimal;
 use text::put_text;
 ghost use mathlib.Core.Path.{_≡_};
 ghost use Prim.Native.Nat.{_+_, _≤_};
-ghost use lib.ListN.{drop, length};
+ghost use lib.ListN.{drop};
 ghost use Rattle.base.specs.Inner.Put.{PutWithin, lastPlace};
 ghost use Rattle.samples.specs.Inner.Lines.{allFilled, keptText, spacedText, tablesText};
 ghost use Rattle.samples.specs.Inner.Lengths.{longestKept, longestSpaced, longestTables};

@@ -5,7 +5,6 @@ use base::byte_at;
 use sheet::Sheet;
 ghost use mathlib.Core.Path.{_≡_};
 ghost use Prim.Native.Nat.{_+_, _*_, _≤_};
-ghost use lib.ListN.{length};
 ghost use Rattle.sheet.specs.Limits.{maxPatterns, maxWires};
 ghost use Rattle.base.specs.Inner.Put.{lastPlace};
 ghost use Rattle.samples.specs.Inner.Records.{callOf, eightAt, fourAt, partOf, recordLength, setsAt, tablesAt, twoAt};

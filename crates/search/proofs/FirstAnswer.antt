@@ -16,7 +16,7 @@ use Rattle.sheet.specs.Limits.{maxInputs, maxWires, maxPatterns, maxValues}
 use Rattle.base.proofs.Tests.{decide, eq-test, test-ext}
 use Rattle.table.specs.Bits.{sum, tabulate}
 use Rattle.table.specs.Cells.{wires, total}
-use Rattle.table.proofs.Bits.{tabulate-at, tabulate-length, sum-cong}
+use Rattle.table.proofs.Bits.{tabulate-at, sum-cong}
 use Rattle.relation.specs.Source.{Tables}
 use Rattle.relation.specs.Tests.{ofSets, agree}
 use Rattle.relation.specs.Inner.Narrowed.{agreed}

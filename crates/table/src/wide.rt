@@ -18,7 +18,7 @@ ghost use Rattle.table.specs.Cells.{cells};
 ghost use Rattle.table.specs.Inner.Ranks.{pickOf, narrowSpace};
 ghost use Rattle.table.specs.Inner.Blocks.{noTable, Blocks, PickShown, Covered};
 ghost use Rattle.table.specs.Inner.Pairs.{narrowInputs, zerosIn, onesIn};
-ghost use Rattle.table.specs.Inner.Wide.{fiveSpace, sixSpace, fourMasks, zeroSeats, oneSeats, hasSeats, allCovered, lineFits, lineOfFive, lineOfSix, FiveShown, SixShown};
+ghost use Rattle.table.specs.Inner.Wide.{fiveSpace, sixSpace, fourMasks, hasSeats, allCovered, lineFits, lineOfFive, lineOfSix, FiveShown, SixShown};
 
 // A pick: its cells, and its table.
 pub struct Pick {

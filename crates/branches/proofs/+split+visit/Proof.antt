@@ -1,24 +1,23 @@
 -- The cycle of the search: `visit` treats a part as document 01 writes it, and `split` its two halves.
 use mathlib.Core.Path.{_≡_, refl, sym, ap, subst, _∙_}
 use mathlib.Core.Logic.{inl, inr, ⊎-elim}
-use mathlib.Core.Bool.{not, cond}
+use mathlib.Core.Bool.{not}
 use mathlib.Core.List.{List}
 use native.Mathlib.Omega.{arith}
 use borrow.Author.Needs.{needs}
-use lib.Dec.{T, leb}
+use lib.Dec.{T}
 use lib.ListN.{length, getD, set}
 use lib.Seq.{set-getD}
 use Rattle.base.proofs.Tests.{denied, granted}
 use Rattle.sheet.specs.Limits.{maxWires, maxPatterns}
-use Rattle.table.specs.Bits.{bit, isOne, tabulate}
-use Rattle.table.proofs.Bits.{tabulate-length}
+use Rattle.table.specs.Bits.{bit, isOne}
 use Rattle.branch_bound.specs.Search.{halted, charged, improved}
 use Rattle.relation.specs.Tests.{ofSets, occurs, openPairs}
 use Rattle.relation.specs.Inner.Members.{member, withBit}
 use Rattle.lanes.specs.Inner.Lanes.{laneOf}
 use Rattle.parts.specs.Inner.Boards.{boardIn, lentKind, lentInputs, lentWires, lentWide}
 use Rattle.parts.specs.Inner.Cells.{cellsSum}
-use Rattle.parts.specs.Inner.Masks.{rowPatterns, wordsOf, maskRow, withLanes}
+use Rattle.parts.specs.Inner.Masks.{rowPatterns, wordsOf, withLanes}
 use Rattle.parts.specs.Inner.Parts.{Carried}
 use Rattle.parts.specs.Inner.Picks.{tableOf, tablesOf}
 use Rattle.parts.specs.Inner.States.{cellsPlace, leftPlace, stateLength}
@@ -28,7 +27,7 @@ use Rattle.visits.specs.Inner.States.{stateOf, budgetIn, SameRest, restOf, Ran}
 use Rattle.visits.proofs.Opening.{found-open, found-below}
 use Rattle.visits.proofs.StateChanges.{lt→nleb, left-ran, left-rest, not-charged, was-charged, kept-ran, held-after, saved-wide}
 use Rattle.halves.specs.Inner.Remade.{Remade}
-use Rattle.halves.proofs.Making.{Half, partSets, partMasks, half-floor, made-over}
+use Rattle.halves.proofs.Making.{Half, partMasks}
 use Rattle.branches.proofs.Carrying.{carried-floor, carried-tables, carried-fit, tables-long, tables-small, carried-back, pattern-lt}
 use Rattle.branches.proofs.Steps.{halts, improves, splits}
 use Rattle.branches.proofs.Treated.{Reached, none-reached, both-reached, Tried, restored, part-masks, part-fewer, treated, not-made}

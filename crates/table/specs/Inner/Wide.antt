@@ -1,6 +1,6 @@
 -- Five and six inputs (document 02, E5): two pairs of masks, or four, of sixteen patterns each, the first for the lowest patterns.
 use Prim.Native.Nat.{ℕ, _+_, _*_, _/_, _^_}
-use mathlib.Core.Bool.{Bool, not, _&&_}
+use mathlib.Core.Bool.{Bool, _&&_}
 use lib.Bits.{bitAnd, bitOr}
 use lib.Dec.{eqb}
 use Rattle.sheet.specs.Limits.{maxInputs, maxPatterns}

@@ -1,6 +1,6 @@
 -- `lost_wires` meets its contract: of each wire what is told of the bit that it drives.
 use Prim.Native.Nat.{ℕ, zero, suc, _<_}
-use mathlib.Core.Path.{_≡_, refl, sym, ap, ap₂, _∙_}
+use mathlib.Core.Path.{_≡_, refl, ap, ap₂, _∙_}
 use mathlib.Core.Bool.{Bool, not, cond}
 use native.Mathlib.Omega.{arith}
 use borrow.Author.Needs.{needs}
@@ -10,7 +10,7 @@ use Rattle.table.specs.Bits.{isOne}
 use Rattle.table.proofs.BitColumns.{isOne-lt-two}
 use Rattle.relation.specs.Tests.{occurs}
 use Rattle.relation.specs.Inner.Members.{member}
-use Rattle.lanes.specs.Inner.Lanes.{laneSpace, laneOf, lanesOf, LanesBelow}
+use Rattle.lanes.specs.Inner.Lanes.{laneOf, lanesOf, LanesBelow}
 use Rattle.lanes.proofs.Lanes.{lane-lanes}
 use Rattle.halves.proofs.remaking.lost_wires.Statement.{statement}
 use Rattle.halves.proofs.remaking.lost_wires.Tie as tie
