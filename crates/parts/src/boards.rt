@@ -1,5 +1,6 @@
 // A board and its inputs as one number: the search looks at its board by it alone, but for its entry, where the table is lent that picks on the board are
 // made from.
+// Inner functions: the entry of the search has tested the sizes before it calls `board_of`, which requires them.
 use nodes::BoardKind;
 use table::picks::ENTRIES;
 use table::picks::NARROW_INPUTS;

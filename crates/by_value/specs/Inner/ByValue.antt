@@ -58,12 +58,12 @@ abbrev pub allowsAt : (sets tables : List ℕ) → ℕ → Bool
 allowsAt sets tables p = member (getD sets p 0) (value maxWires (wires tables) p)
 
 -- the values of word k that are in a set
-abbrev pub valuesIn : (set k : ℕ) → ℕ
-valuesIn set k = set / 2 ^ (wordValues * k) % 2 ^ wordValues
+abbrev pub valuesIn : (w k : ℕ) → ℕ
+valuesIn w k = w / 2 ^ (wordValues * k) % 2 ^ wordValues
 
 -- what a set adds to word k at place p of the lanes: each value has a lane
-unfoldable pub added : (set k p : ℕ) → ℕ
-added set k p = lanesOf (bit (valuesIn set k)) * 2 ^ p
+unfoldable pub added : (w k p : ℕ) → ℕ
+added w k p = lanesOf (bit (valuesIn w k)) * 2 ^ p
 
 -- word k of the section of pattern p
 abbrev pub valueWordAt : List ℕ → (p k : ℕ) → ℕ
@@ -74,10 +74,10 @@ abbrev pub HasRoom : (word p : ℕ) → Type 0
 HasRoom word p = word + eachLane * 2 ^ (p % narrowPatterns) < 2 ^ wordWidth
 
 -- the words with the set of pattern p put into word k, and into all words of its section
-abbrev pub withWord : List ℕ → (p set k : ℕ) → List ℕ
+abbrev pub withWord : List ℕ → (p w k : ℕ) → List ℕ
 withWord words p w k = set words (valueWordPlace (p / narrowPatterns) k) (valueWordAt words p k + added w k (p % narrowPatterns))
 
-unfoldable pub withSet : List ℕ → (p set : ℕ) → List ℕ
+unfoldable pub withSet : List ℕ → (p w : ℕ) → List ℕ
 withSet words p w =
     tabulate allWords
     (λ i. cond (eqb (i / sectionWords) (p / narrowPatterns)) (getD words i 0 + added w (i % sectionWords) (p % narrowPatterns)) (getD words i 0))
