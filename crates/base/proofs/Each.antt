@@ -21,21 +21,21 @@ module _ {ℓ} {A : Type ℓ} where
   each_none P [] p f = refl
   each_none P (x ∷ xs) p f = absurd (f x p.0)
 
-  pub each-getD : (P : A → Type 0) (xs : List A) (d : A) → Each P xs → (i : ℕ) → i < length xs → P (get_or xs i d)
-  each-getD P [] d p i h = absurd (not-suc-le-zero h)
-  each-getD P (x ∷ xs) d p zero h = p.0
-  each-getD P (x ∷ xs) d p (suc i) h = each-getD P xs d p.1 i (le_of_suc-le-suc h)
+  pub each_get_d : (P : A → Type 0) (xs : List A) (d : A) → Each P xs → (i : ℕ) → i < length xs → P (get_or xs i d)
+  each_get_d P [] d p i h = absurd (not-suc-le-zero h)
+  each_get_d P (x ∷ xs) d p zero h = p.0
+  each_get_d P (x ∷ xs) d p (suc i) h = each_get_d P xs d p.1 i (le_of_suc-le-suc h)
 
   -- a list whose elements at each place have the property
-  pub each-intro : (P : A → Type 0) (xs : List A) (d : A) → ((i : ℕ) → i < length xs → P (get_or xs i d)) → Each P xs
-  each-intro P [] d h = tt
-  each-intro P (x ∷ xs) d h = (h 0 (zero-lt (length xs)), each-intro P xs d (λ i l. h (suc i) (suc-lt l)))
+  pub each_intro : (P : A → Type 0) (xs : List A) (d : A) → ((i : ℕ) → i < length xs → P (get_or xs i d)) → Each P xs
+  each_intro P [] d h = tt
+  each_intro P (x ∷ xs) d h = (h 0 (zero_lt (length xs)), each_intro P xs d (λ i l. h (suc i) (suc_lt l)))
     where
-      zero-lt : (k : ℕ) → 0 < suc k
-      zero-lt k = omega arith
+      zero_lt : (k : ℕ) → 0 < suc k
+      zero_lt k = omega arith
 
-      suc-lt : {i k : ℕ} → i < k → suc i < suc k
-      suc-lt l = omega arith
+      suc_lt : {i k : ℕ} → i < k → suc i < suc k
+      suc_lt l = omega arith
 
 -- the elements of a list under a function
 module _ {ℓ κ} {A : Type ℓ} {B : Type κ} where

@@ -9,61 +9,61 @@ use lib.Dec.{T, T_not, not_T, ltb, ltb→lt, nltb→le}
 use Rattle.base.specs.Lowest.{lowest}
 use Rattle.base.proofs.Tests.{decide, cond_has, below_suc}
 
-pub lowest-le : (k : ℕ) (f : ℕ → Bool) → lowest k f ≤ k
+pub lowest_le : (k : ℕ) (f : ℕ → Bool) → lowest k f ≤ k
 unfolding lowest
-lowest-le zero f = omega arith
-lowest-le (suc k) f =
+lowest_le zero f = omega arith
+lowest_le (suc k) f =
     cond_has (λ x. x ≤ suc k) (ltb (lowest k f) k) (λ t. let h = ltb→lt (lowest k f) k t in omega arith)
     (λ t. cond_has (λ x. x ≤ suc k) (f k) (λ u. omega arith) (λ u. omega arith))
 
-pub lowest-is : (k : ℕ) (f : ℕ → Bool) → lowest k f < k → T (f (lowest k f))
+pub lowest_is : (k : ℕ) (f : ℕ → Bool) → lowest k f < k → T (f (lowest k f))
 unfolding lowest
-lowest-is zero f h = absurd (not-suc-le-zero h)
-lowest-is (suc k) f h =
+lowest_is zero f h = absurd (not-suc-le-zero h)
+lowest_is (suc k) f h =
     cond_has (λ x. x < suc k → T (f x)) (ltb (lowest k f) k)
-    (λ t h. lowest-is k f (ltb→lt (lowest k f) k t))
+    (λ t h. lowest_is k f (ltb→lt (lowest k f) k t))
     (λ t. cond_has (λ x. x < suc k → T (f x)) (f k) (λ u h. u) (λ u h. absurd (omega arith)))
     h
 
-pub lowest-below : (k : ℕ) (f : ℕ → Bool) (i : ℕ) → i < k → T (f i) → lowest k f ≤ i
+pub lowest_below : (k : ℕ) (f : ℕ → Bool) (i : ℕ) → i < k → T (f i) → lowest k f ≤ i
 unfolding lowest
-lowest-below zero f i h t = absurd (not-suc-le-zero h)
-lowest-below (suc k) f i h t =
+lowest_below zero f i h t = absurd (not-suc-le-zero h)
+lowest_below (suc k) f i h t =
     ⊎_elim
     (λ (e : i ≡ k).
     cond_has (λ x. x ≤ i) (ltb (lowest k f) k) (λ l. omega (arith, ltb→lt (lowest k f) k l))
     (λ l. cond_has (λ x. x ≤ i) (f k) (λ u. omega arith) (λ u. absurd (T_not (f k) u (rw e at t)))))
     (λ (l : i < k).
-    let z = lowest-below k f i l t in
+    let z = lowest_below k f i l t in
     cond_has (λ x. x ≤ i) (ltb (lowest k f) k) (λ _. z) (λ b. absurd (omega (arith, nltb→le (lowest k f) k b))))
     (below_suc h)
 
-pub lowest-or : (k : ℕ) (f : ℕ → Bool) → (lowest k f < k) ⊎ ((i : ℕ) → i < k → T (not (f i)))
-lowest-or k f =
+pub lowest_or : (k : ℕ) (f : ℕ → Bool) → (lowest k f < k) ⊎ ((i : ℕ) → i < k → T (not (f i)))
+lowest_or k f =
     ⊎_elim (λ y. inl (ltb→lt (lowest k f) k y))
-    (λ z. inr (λ i l. not_T (f i) (λ t. omega (arith, lowest-below k f i l t, nltb→le (lowest k f) k z))))
+    (λ z. inr (λ i l. not_T (f i) (λ t. omega (arith, lowest_below k f i l t, nltb→le (lowest k f) k z))))
     (decide (ltb (lowest k f) k))
 
 -- a number that passes, with none below it that does, is the lowest
-pub lowest-at : (k : ℕ) (f : ℕ → Bool) (i : ℕ) → i < k → T (f i) → ((j : ℕ) → j < i → T (not (f j))) → lowest k f ≡ i
-lowest-at k f i l t h =
-    let le = lowest-below k f i l t in
+pub lowest_at : (k : ℕ) (f : ℕ → Bool) (i : ℕ) → i < k → T (f i) → ((j : ℕ) → j < i → T (not (f j))) → lowest k f ≡ i
+lowest_at k f i l t h =
+    let le = lowest_below k f i l t in
     ⊎_elim
-    (λ (b : lowest k f < i). absurd (T_not (f (lowest k f)) (h (lowest k f) b) (lowest-is k f (omega arith))))
+    (λ (b : lowest k f < i). absurd (T_not (f (lowest k f)) (h (lowest k f) b) (lowest_is k f (omega arith))))
     (λ (b : i ≤ lowest k f). le_antisymm le b)
     (⊎_elim (λ y. inl (ltb→lt (lowest k f) i y)) (λ z. inr (nltb→le (lowest k f) i z)) (decide (ltb (lowest k f) i)))
 
 -- where none passes
-pub lowest-none : (k : ℕ) (f : ℕ → Bool) → ((j : ℕ) → j < k → T (not (f j))) → lowest k f ≡ k
-lowest-none k f h =
-    let le = lowest-le k f in
+pub lowest_none : (k : ℕ) (f : ℕ → Bool) → ((j : ℕ) → j < k → T (not (f j))) → lowest k f ≡ k
+lowest_none k f h =
+    let le = lowest_le k f in
     ⊎_elim
-    (λ (b : lowest k f < k). absurd (T_not (f (lowest k f)) (h (lowest k f) b) (lowest-is k f b)))
+    (λ (b : lowest k f < k). absurd (T_not (f (lowest k f)) (h (lowest k f) b) (lowest_is k f b)))
     (λ (b : k ≤ lowest k f). le_antisymm le b)
     (⊎_elim (λ y. inl (ltb→lt (lowest k f) k y)) (λ z. inr (nltb→le (lowest k f) k z)) (decide (ltb (lowest k f) k)))
 
 -- two tests alike below k have the same lowest number
-pub lowest-cong : (k : ℕ) (f g : ℕ → Bool) → ((i : ℕ) → i < k → f i ≡ g i) → lowest k f ≡ lowest k g
+pub lowest_cong : (k : ℕ) (f g : ℕ → Bool) → ((i : ℕ) → i < k → f i ≡ g i) → lowest k f ≡ lowest k g
 unfolding lowest
-lowest-cong zero f g h = refl
-lowest-cong (suc k) f g h = rw (lowest-cong k f g (λ i l. h i (omega arith)), h k (omega arith))
+lowest_cong zero f g h = refl
+lowest_cong (suc k) f g h = rw (lowest_cong k f g (λ i l. h i (omega arith)), h k (omega arith))

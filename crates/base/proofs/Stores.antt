@@ -1,5 +1,5 @@
 -- Laws of text put into a buffer: one text after another, and text at its start.
-use Rattle.base.proofs.Tabulate.{sets-append}
+use Rattle.base.proofs.Tabulate.{sets_append}
 use Prim.Native.Nat.{ℕ, ◌+◌, ◌<◌, ◌≤◌}
 use mathlib.Core.Path.{◌≡◌, refl}
 use mathlib.Core.List.{List, [], ◌∷◌, ◌++◌}
@@ -10,13 +10,13 @@ use lib.Seq.{sets, take-suc}
 use Rattle.base.specs.Inner.Put.{Put, PutWithin}
 
 -- no text
-pub put-none : {l : List ℕ} {at : ℕ} → Put l at [] l at
-put-none {l} {at} = record { stored = refl; past = omega arith }
+pub put_none : {l : List ℕ} {at : ℕ} → Put l at [] l at
+put_none {l} {at} = record { stored = refl; past = omega arith }
 
 pub put_then : {l b c x y : List ℕ} {at next r : ℕ} → Put l at x b next → Put b next y c r → Put l at (x ++ y) c r
 put_then {l} {b} {c} {x} {y} {at} {next} {r} p q =
     record {
-      stored = let e = p.stored in let f = p.past in let g = q.stored in cc (sets-append l at x y);
+      stored = let e = p.stored in let f = p.past in let g = q.stored in cc (sets_append l at x y);
       past = omega (arith, p.past, q.past, length-append x y);
     }
 
@@ -33,6 +33,6 @@ pub at_most : {l x b : List ℕ} {at r : ℕ} (k : ℕ) → Put l at x b r → l
 at_most k p h = record { put = p; short = omega (arith, p.past, h) }
 
 -- what stands at the start of a buffer, as the reports tell it, under any larger bound
-pub put-start : {l after text : List ℕ} {r short long : ℕ} → PutWithin short l 0 text after r → short ≤ long
+pub put_start : {l after text : List ℕ} {r short long : ℕ} → PutWithin short l 0 text after r → short ≤ long
     → (r ≡ length text) × (after ≡ sets l 0 text) × (r ≤ long)
-put-start p h = (omega (arith, p.put.past), p.put.stored, omega (arith, p.short, h))
+put_start p h = (omega (arith, p.put.past), p.put.stored, omega (arith, p.short, h))

@@ -40,15 +40,15 @@ cond_has P true f g = f tt
 cond_has P false f g = g tt
 
 -- two choices by one test
-pub cond-has₂ {ℓ κ} : {A : Type ℓ} {B : Type κ} (P : A → B → Type 0) (b : Bool) {x y : A} {u v : B} → (T b → P x u) → (T (not b) → P y v)
+pub cond_has₂ {ℓ κ} : {A : Type ℓ} {B : Type κ} (P : A → B → Type 0) (b : Bool) {x y : A} {u v : B} → (T b → P x u) → (T (not b) → P y v)
     → P (cond b x y) (cond b u v)
-cond-has₂ P true f g = f tt
-cond-has₂ P false f g = g tt
+cond_has₂ P true f g = f tt
+cond_has₂ P false f g = g tt
 
-pub cond-has₃ : {A B C : Type 0} (P : A → B → C → Type 0) (b : Bool) {x y : A} {u v : B} {m n : C} → (T b → P x u m) → (T (not b) → P y v n)
+pub cond_has₃ : {A B C : Type 0} (P : A → B → C → Type 0) (b : Bool) {x y : A} {u v : B} {m n : C} → (T b → P x u m) → (T (not b) → P y v n)
     → P (cond b x y) (cond b u v) (cond b m n)
-cond-has₃ P true f g = f tt
-cond-has₃ P false f g = g tt
+cond_has₃ P true f g = f tt
+cond_has₃ P false f g = g tt
 
 pub below_suc : {i k : ℕ} → i < suc k → (i ≡ k) ⊎ (i < k)
 below_suc h = eq-or-lt_of_le (le_of_suc-le-suc h)
@@ -59,43 +59,43 @@ eq_test {a} {b} e = subst (λ x. T (eqb a x)) e (eqb_refl a)
 pub eqb_yes : {A : Type 0} (a b : ℕ) (x y : A) → a ≡ b → cond (eqb a b) x y ≡ x
 eqb_yes a b x y e = cond_has (λ z. z ≡ x) (eqb a b) (λ _. refl) (λ h. absurd (T_not (eqb a b) h (eq_test e)))
 
-pub eqb-not : {A : Type 0} (a b : ℕ) (x y : A) → (a ≡ b → ⊥) → cond (eqb a b) x y ≡ y
-eqb-not a b x y e = cond_has (λ z. z ≡ y) (eqb a b) (λ h. absurd (e (eqb→eq a b h))) (λ _. refl)
+pub eqb_not : {A : Type 0} (a b : ℕ) (x y : A) → (a ≡ b → ⊥) → cond (eqb a b) x y ≡ y
+eqb_not a b x y e = cond_has (λ z. z ≡ y) (eqb a b) (λ h. absurd (e (eqb→eq a b h))) (λ _. refl)
 
-pub not-not : (b : Bool) → T (not (not b)) → T b
-not-not true t = tt
-not-not false t = t
+pub not_not : (b : Bool) → T (not (not b)) → T b
+not_not true t = tt
+not_not false t = t
 
 -- a test that passes is true, one that does not is false
-pub test-yes : (c : Bool) → T c → c ≡ true
-test-yes true t = refl
-test-yes false t = absurd t
+pub test_yes : (c : Bool) → T c → c ≡ true
+test_yes true t = refl
+test_yes false t = absurd t
 
-pub test-no : (c : Bool) → T (not c) → c ≡ false
-test-no true t = absurd t
-test-no false t = refl
+pub test_no : (c : Bool) → T (not c) → c ≡ false
+test_no true t = absurd t
+test_no false t = refl
 
-pub and-true : (c : Bool) → c && true ≡ c
-and-true true = refl
-and-true false = refl
+pub and_true : (c : Bool) → c && true ≡ c
+and_true true = refl
+and_true false = refl
 
-pub and-false : (c : Bool) → c && false ≡ false
-and-false true = refl
-and-false false = refl
+pub and_false : (c : Bool) → c && false ≡ false
+and_false true = refl
+and_false false = refl
 
 -- two tests that pass together are equal
-pub test-ext : (a b : Bool) → (T a → T b) → (T b → T a) → a ≡ b
-test-ext true true f g = refl
-test-ext true false f g = absurd (f tt)
-test-ext false true f g = absurd (g tt)
-test-ext false false f g = refl
+pub test_ext : (a b : Bool) → (T a → T b) → (T b → T a) → a ≡ b
+test_ext true true f g = refl
+test_ext true false f g = absurd (f tt)
+test_ext false true f g = absurd (g tt)
+test_ext false false f g = refl
 
 -- a test that is told by an equal one
-pub told-yes : {r s : Bool} → r ≡ s → r ≡ true → T s
-told-yes e t = subst T (sym t ∙ e) tt
+pub told_yes : {r s : Bool} → r ≡ s → r ≡ true → T s
+told_yes e t = subst T (sym t ∙ e) tt
 
-pub told-no : {r s : Bool} → r ≡ s → r ≡ false → T (not s)
-told-no e t = subst (λ x. T (not x)) (sym t ∙ e) tt
+pub told_no : {r s : Bool} → r ≡ s → r ≡ false → T (not s)
+told_no e t = subst (λ x. T (not x)) (sym t ∙ e) tt
 
 -- the same where the code asks for the contrary
 pub denied : {r s : Bool} → r ≡ s → not r ≡ true → T (not s)

@@ -17,14 +17,14 @@ pub record Case : Type 0 where
 
 -- The outcomes that enums share: nothing is refused; something is; of two things handed in, the second is.
 -- An enum that accepts in two ways names its own two, 0 and 1.
-abbrev pub acceptedOutcome : ℕ
-acceptedOutcome = 0
+abbrev pub accepted_outcome : ℕ
+accepted_outcome = 0
 
-abbrev pub refusedOutcome : ℕ
-refusedOutcome = 2
+abbrev pub refused_outcome : ℕ
+refused_outcome = 2
 
-abbrev pub secondRefusedOutcome : ℕ
-secondRefusedOutcome = 3
+abbrev pub second_refused_outcome : ℕ
+second_refused_outcome = 3
 
 -- a case that refuses nothing
 abbrev pub accepting : (outcome value : ℕ) → Case
@@ -34,21 +34,21 @@ accepting o v = record { outcome = o; number = 0; place = 0; value = v }
 abbrev pub refusing : (outcome : ℕ) → Refusal → Case
 refusing o f = record { outcome = o; number = f.number; place = f.place; value = 0 }
 
-abbrev pub acceptedCase : Case
-acceptedCase = accepting acceptedOutcome 0
+abbrev pub accepted_case : Case
+accepted_case = accepting accepted_outcome 0
 
-abbrev pub refusedCase : Refusal → Case
-refusedCase f = refusing refusedOutcome f
+abbrev pub refused_case : Refusal → Case
+refused_case f = refusing refused_outcome f
 
 abbrev pub is_refused : Case → Bool
-is_refused c = leb refusedOutcome c.outcome
+is_refused c = leb refused_outcome c.outcome
 
 -- what was accepted stands beside the verdict
-abbrev pub verdictCase : Verdict → Case
-verdictCase Accepted = acceptedCase
-verdictCase (Refused f) = refusedCase f
+abbrev pub verdict_case : Verdict → Case
+verdict_case Accepted = accepted_case
+verdict_case (Refused f) = refused_case f
 
 -- the value of what was written is its length
-abbrev pub writtenCase : Written → Case
-writtenCase (Length k) = accepting acceptedOutcome k
-writtenCase (NotWritten f) = refusedCase f
+abbrev pub written_case : Written → Case
+written_case (Length k) = accepting accepted_outcome k
+written_case (NotWritten f) = refused_case f

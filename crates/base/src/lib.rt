@@ -1,6 +1,6 @@
 // What every format shares: refusals, whether something is accepted, whether it was written, and total access to bytes.
 ghost use Rattle.std.specs.Prelude.{◌≡◌, get_or, set};
-ghost use Rattle.base.specs.Refusals.{refusalAt};
+ghost use Rattle.base.specs.Refusals.{refusal_at};
 
 // A refusal: document 01's number, and the place that it names.
 #[derive(Drop)]
@@ -41,7 +41,7 @@ impl Refusal {
     pub const TOO_WIDE: u8 = 15;
 
     pub fn at(number: u8, place: usize) -> Self
-        ensures { result ≡ refusalAt number place }
+        ensures { result ≡ refusal_at number place }
     {
         Refusal { number, place }
     }

@@ -5,5 +5,5 @@ use Rattle.nodes.specs.declared.BoardKind.{BoardKind}
 use Rattle.nodes.specs.Counts.{count_of}
 use Rattle.branch_bound.specs.Search.{Board}
 
-unfoldable pub boardOf : BoardKind → ℕ → ℕ → Board
-boardOf kind n m = record { n = n; m = m; count = count_of kind n; key = count_of kind n }
+unfoldable pub board_of : BoardKind → ℕ → ℕ → Board
+board_of kind n m = record { n = n; m = m; count = count_of kind n; key = count_of kind n }

@@ -1,11 +1,11 @@
 -- Document 01, "Search": the branch and bound over a relation.
 use Rattle.std.specs.Prelude.{ℕ, zero, suc, ◌+◌, Bool, true, false, cond, List, leb, ltb}
-use Rattle.sheet.specs.Limits.{maxWires}
+use Rattle.sheet.specs.Limits.{max_wires}
 use Rattle.table.specs.Bits.{tabulate}
-use Rattle.table.specs.Pick.{or_zero, leastOf}
+use Rattle.table.specs.Pick.{or_zero, least_of}
 use Rattle.relation.specs.Source.{Rel, Tables}
 use Rattle.table.specs.Cells.{wires, total}
-use Rattle.relation.specs.Tests.{keep, agree, projection, openWire, compatible, conflict, openPairs}
+use Rattle.relation.specs.Tests.{keep, agree, projection, open_wire, compatible, conflict, open_pairs}
 use Rattle.branch_bound.specs.declared.State.{State}
 
 -- What a search is over: n inputs, m wires, the cells of a table, and the number whose least decides a pick before the table's own.
@@ -16,8 +16,8 @@ pub record Board : Type 0 where
   pub key : ℕ → ℕ
 
 -- the tables of m wires as the reply has them: a zero for each wire that there is not
-unfoldable pub replyTables : ℕ → Tables → List ℕ
-replyTables m X = tabulate maxWires (λ j. cond (ltb j m) (X j) 0)
+unfoldable pub reply_tables : ℕ → Tables → List ℕ
+reply_tables m X = tabulate max_wires (λ j. cond (ltb j m) (X j) 0)
 
 -- step 2: a part is left, which the mark will say
 abbrev pub halted : State → State
@@ -36,20 +36,20 @@ abbrev pub discarded : State → ℕ → Bool
 discarded s floor = leb s.cells floor
 
 -- step 2: the visits have reached the budget
-abbrev pub usedUp : ℕ → State → Bool
-usedUp budget s = leb budget s.visits
+abbrev pub used_up : ℕ → State → Bool
+used_up budget s = leb budget s.visits
 
 module _ (b : Board) where
   -- the cells of a stage
-  abbrev pub totalOn : Tables → ℕ
-  totalOn X = total b.count b.m X
+  abbrev pub total_on : Tables → ℕ
+  total_on X = total b.count b.m X
 
   -- the pick of a wire: the least key among the tables that its projection admits, of equals the smallest table
   unfoldable pub pick : Rel → ℕ → ℕ
-  pick R j = or_zero (leastOf b.key b.n (projection b.m R j))
+  pick R j = or_zero (least_of b.key b.n (projection b.m R j))
 
   unfoldable pub picks : Rel → List ℕ
-  picks R = replyTables b.m (pick R)
+  picks R = reply_tables b.m (pick R)
 
   -- the first answer chooses wire after wire (source 001's QuickSolver): what is left of R when wires 0 to j - 1 have their picks
   unfoldable pub left : Rel → ℕ → Rel
@@ -57,15 +57,15 @@ module _ (b : Board) where
   left R (suc j) = let L = left R j in agree L j (pick L j)
 
   unfoldable pub quick : Rel → List ℕ
-  quick R = replyTables b.m (λ j. pick (left R j) j)
+  quick R = reply_tables b.m (λ j. pick (left R j) j)
 
   -- the lower bound for every stage of R: the cells of its picks
   unfoldable pub floor : Rel → ℕ
-  floor R = totalOn (pick R)
+  floor R = total_on (pick R)
 
   -- the state before any part is treated: the first answer is the best (the incumbent)
   unfoldable pub start : Rel → State
-  start R = record { tables = quick R; cells = totalOn (wires (quick R)); visits = zero; stopped = false }
+  start R = record { tables = quick R; cells = total_on (wires (quick R)); visits = zero; stopped = false }
 
   module _ (budget : ℕ) where
     -- step 4: both parts of a split, wire j at 0 before wire j at 1. `on` treats the parts of a part.
@@ -77,14 +77,14 @@ module _ (b : Board) where
     expand on R s =
         let p = conflict b.n b.m R (wires (picks R)) in
         let best = improved (picks R) (floor R) (charged s) in
-        let t = split on R p (openWire b.m (R p)) (charged s) in
+        let t = split on R p (open_wire b.m (R p)) (charged s) in
         cond (compatible b.n b.m R (wires (picks R))) best t
 
     -- step 2: once the visits have reached the budget, the part is left
     unfoldable pub charge : (Rel → State → State) → Rel → State → State
     charge on R s =
         let t = expand on R s in
-        cond (usedUp budget s) (halted s) t
+        cond (used_up budget s) (halted s) t
 
     -- step 1: a part that cannot hold a smaller stage changes nothing
     unfoldable pub treat : (Rel → State → State) → Rel → State → State
@@ -96,9 +96,9 @@ module _ (b : Board) where
     visit (suc k) R s = treat (visit k) R s
 
     -- each split closes an open pair of its part, so one more than the pairs there are is deep enough
-    unfoldable pub searchPart : Rel → State → State
-    searchPart R s = visit (suc (openPairs b.n b.m R)) R s
+    unfoldable pub search_part : Rel → State → State
+    search_part R s = visit (suc (open_pairs b.n b.m R)) R s
 
     -- the whole search: R itself is the first part
     unfoldable pub run : Rel → State
-    run R = searchPart R (start R)
+    run R = search_part R (start R)

@@ -4,54 +4,54 @@ use mathlib.Core.Path.{◌≡◌, sym, ap, ◌∙◌}
 use mathlib.Core.Bool.{not}
 use mathlib.Core.List.{List}
 use lib.Dec.{T}
-use Rattle.base.proofs.Tests.{test-yes, test-no}
-use Rattle.relation.specs.Tests.{ofSets, compatible}
+use Rattle.base.proofs.Tests.{test_yes, test_no}
+use Rattle.relation.specs.Tests.{of_sets, compatible}
 use Rattle.table.specs.Cells.{wires}
 use Rattle.branch_bound.specs.declared.State.{State}
-use Rattle.branch_bound.specs.Search.{floor, picks, discarded, usedUp, halted, charged, improved, split, expand, charge, treat, searchPart}
+use Rattle.branch_bound.specs.Search.{floor, picks, discarded, used_up, halted, charged, improved, split, expand, charge, treat, search_part}
 use Rattle.sheet.specs.Inner.Sized.{Sized}
 use Rattle.nodes.specs.declared.BoardKind.{BoardKind}
-use Rattle.nodes.specs.Counts.{mostInputs}
-use Rattle.branch_bound.specs.Boards.{boardOf}
-use Rattle.branch_bound.proofs.Depth.{search-step}
+use Rattle.nodes.specs.Counts.{most_inputs}
+use Rattle.branch_bound.specs.Boards.{board_of}
+use Rattle.branch_bound.proofs.Depth.{search_step}
 use Rattle.visits.specs.declared.SplitPlace.{SplitPlace}
 use Rattle.visits.specs.declared.SplitPlace.TheVariants.{Pair, Nowhere}
 use Rattle.parts.specs.Inner.Parts.{PartSets}
-use Rattle.visits.specs.Inner.Conflicts.{splitPlace}
-use Rattle.visits.proofs.Opening.{found_nowhere, place-told}
+use Rattle.visits.specs.Inner.Conflicts.{split_place}
+use Rattle.visits.proofs.Opening.{found_nowhere, place_told}
 
-module _ (kind : BoardKind) {n m : ℕ} (sz : Sized (mostInputs kind) n m) {S : List ℕ} (ok : PartSets n m S) (budget : ℕ) (s : State) {f : ℕ} (ef : f ≡ floor (boardOf kind n m) (ofSets S)) where
-  step : searchPart (boardOf kind n m) budget (ofSets S) s ≡ treat (boardOf kind n m) budget (searchPart (boardOf kind n m) budget) (ofSets S) s
-  unfolding boardOf
-  step = search-step (boardOf kind n m) sz.m-most budget (ofSets S) s ok.defined
+module _ (kind : BoardKind) {n m : ℕ} (sz : Sized (most_inputs kind) n m) {S : List ℕ} (ok : PartSets n m S) (budget : ℕ) (s : State) {f : ℕ} (ef : f ≡ floor (board_of kind n m) (of_sets S)) where
+  step : search_part (board_of kind n m) budget (of_sets S) s ≡ treat (board_of kind n m) budget (search_part (board_of kind n m) budget) (of_sets S) s
+  unfolding board_of
+  step = search_step (board_of kind n m) sz.m_most budget (of_sets S) s ok.defined
 
-  pub discards : T (discarded s f) → s ≡ searchPart (boardOf kind n m) budget (ofSets S) s
+  pub discards : T (discarded s f) → s ≡ search_part (board_of kind n m) budget (of_sets S) s
   unfolding treat
-  discards t = sym (step ∙ rw (← ef, test-yes (discarded s f) t))
+  discards t = sym (step ∙ rw (← ef, test_yes (discarded s f) t))
 
   module _ (more : T (not (discarded s f))) where
-    pub halts : T (usedUp budget s) → {u : State} → u ≡ halted s → u ≡ searchPart (boardOf kind n m) budget (ofSets S) s
+    pub halts : T (used_up budget s) → {u : State} → u ≡ halted s → u ≡ search_part (board_of kind n m) budget (of_sets S) s
     unfolding treat charge
-    halts t e = e ∙ sym (step ∙ rw (← ef, test-no (discarded s f) more, test-yes (usedUp budget s) t))
+    halts t e = e ∙ sym (step ∙ rw (← ef, test_no (discarded s f) more, test_yes (used_up budget s) t))
 
-    module _ (left : T (not (usedUp budget s))) where
-      expands : treat (boardOf kind n m) budget (searchPart (boardOf kind n m) budget) (ofSets S) s ≡ expand (boardOf kind n m) budget (searchPart (boardOf kind n m) budget) (ofSets S) s
+    module _ (left : T (not (used_up budget s))) where
+      expands : treat (board_of kind n m) budget (search_part (board_of kind n m) budget) (of_sets S) s ≡ expand (board_of kind n m) budget (search_part (board_of kind n m) budget) (of_sets S) s
       unfolding treat charge
-      expands = rw (← ef, test-no (discarded s f) more, test-no (usedUp budget s) left)
+      expands = rw (← ef, test_no (discarded s f) more, test_no (used_up budget s) left)
 
       -- where the code splits
-      module _ {ts : List ℕ} (et : ts ≡ picks (boardOf kind n m) (ofSets S)) {found : SplitPlace} (ep : found ≡ splitPlace n m (ofSets S) (wires ts)) {u : State} where
-        pub improves : found ≡ Nowhere → u ≡ improved ts f (charged s) → u ≡ searchPart (boardOf kind n m) budget (ofSets S) s
-        unfolding expand boardOf
+      module _ {ts : List ℕ} (et : ts ≡ picks (board_of kind n m) (of_sets S)) {found : SplitPlace} (ep : found ≡ split_place n m (of_sets S) (wires ts)) {u : State} where
+        pub improves : found ≡ Nowhere → u ≡ improved ts f (charged s) → u ≡ search_part (board_of kind n m) budget (of_sets S) s
+        unfolding expand board_of
         improves e eu =
-            let t = test-yes (compatible n m (ofSets S) (wires ts)) (found_nowhere n m (ofSets S) (wires ts) (sym ep ∙ e)) in
+            let t = test_yes (compatible n m (of_sets S) (wires ts)) (found_nowhere n m (of_sets S) (wires ts) (sym ep ∙ e)) in
             eu ∙ sym (step ∙ expands ∙ rw (← et, t, ← ef))
 
         pub splits : {p j : ℕ} → found ≡ Pair p j → {v : State} → v ≡ charged s
-            → u ≡ split (boardOf kind n m) budget (searchPart (boardOf kind n m) budget) (ofSets S) p j v → u ≡ searchPart (boardOf kind n m) budget (ofSets S) s
-        unfolding expand boardOf
+            → u ≡ split (board_of kind n m) budget (search_part (board_of kind n m) budget) (of_sets S) p j v → u ≡ search_part (board_of kind n m) budget (of_sets S) s
+        unfolding expand board_of
         splits {p} {j} e ev eu =
-            let told = place-told n m (ofSets S) (wires ts) p j (sym ep ∙ e) in
-            let t = test-no (compatible n m (ofSets S) (wires ts)) told.0 in
-            eu ∙ ap (split (boardOf kind n m) budget (searchPart (boardOf kind n m) budget) (ofSets S) p j) ev
+            let told = place_told n m (of_sets S) (wires ts) p j (sym ep ∙ e) in
+            let t = test_no (compatible n m (of_sets S) (wires ts)) told.0 in
+            eu ∙ ap (split (board_of kind n m) budget (search_part (board_of kind n m) budget) (of_sets S) p j) ev
             ∙ sym (step ∙ expands ∙ rw (← et, t, told.1, told.2))

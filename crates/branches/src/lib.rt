@@ -4,16 +4,16 @@
 // things are handed down that all of them but one stand in registers, and a call takes little of the stack.
 // Inner functions: `search_whole` of the crate `search` and the cycle itself meet what they require.
 ghost use Rattle.std.specs.Prelude.{◌≡◌, ◌<◌, ◌≤◌, ◌^◌, T, get_or};
-ghost use Rattle.relation.specs.Tests.{ofSets, isOpen};
-ghost use Rattle.branch_bound.specs.Search.{split as splitOf, searchPart};
-ghost use Rattle.branch_bound.specs.Boards.{boardOf};
-ghost use Rattle.parts.specs.Inner.Boards.{lentKind, lentInputs, lentWires, lentWide, Lent};
-ghost use Rattle.parts.specs.Inner.Cells.{cellsSum};
+ghost use Rattle.relation.specs.Tests.{of_sets, is_open};
+ghost use Rattle.branch_bound.specs.Search.{split as splitOf, search_part};
+ghost use Rattle.branch_bound.specs.Boards.{board_of};
+ghost use Rattle.parts.specs.Inner.Boards.{lent_kind, lent_inputs, lent_wires, lent_wide, Lent};
+ghost use Rattle.parts.specs.Inner.Cells.{cells_sum};
 ghost use Rattle.parts.specs.Inner.Picks.{tables_of};
 ghost use Rattle.parts.specs.Inner.Parts.{Carried};
-ghost use Rattle.parts.specs.Inner.States.{cellsPlace};
+ghost use Rattle.parts.specs.Inner.States.{cells_place};
 ghost use Rattle.visits.specs.Inner.Conflicts.{Settled};
-ghost use Rattle.visits.specs.Inner.States.{budgetIn, SameRest, Held, Ran};
+ghost use Rattle.visits.specs.Inner.States.{budget_in, SameRest, Held, Ran};
 ghost use Rattle.halves.specs.Inner.Whole.{Whole};
 
 use halves::remaking::{again, cut_at, lost_wires};
@@ -40,7 +40,7 @@ pub fn visit(
     cells: u64,
     from: u8,
 )
-    requires { Lent e.now × Carried (lentKind e.now) (lentInputs e.now) (lentWires e.now) sets.old masks.old state.old low cells
+    requires { Lent e.now × Carried (lent_kind e.now) (lent_inputs e.now) (lent_wires e.now) sets.old masks.old state.old low cells
         × Whole (lentWide e.now) (lentInputs e.now) sets.old state.old × (from ≤ 2 ^ lentInputs e.now)
         × Settled (lentWires e.now) sets.old (tables_of (lentKind e.now) (lentInputs e.now) sets.old) from × Held state.old × (cellsSum cells < get_or state.old cellsPlace 0) }
     ensures { (sets.new ≡ sets.old) × (masks.new ≡ masks.old) × SameRest state.old state.new
@@ -73,7 +73,7 @@ fn split(
     p: u8,
     j: u8,
 )
-    requires { Lent e.now × Carried (lentKind e.now) (lentInputs e.now) (lentWires e.now) sets.old masks.old state.old low cells
+    requires { Lent e.now × Carried (lent_kind e.now) (lent_inputs e.now) (lent_wires e.now) sets.old masks.old state.old low cells
         × Whole (lentWide e.now) (lentInputs e.now) sets.old state.old × (p < 2 ^ lentInputs e.now) × (j < lentWires e.now) × T (isOpen (lentWires e.now) (ofSets sets.old p) j)
         × Settled (lentWires e.now) sets.old (tables_of (lentKind e.now) (lentInputs e.now) sets.old) p × Held state.old × (cellsSum cells < get_or state.old cellsPlace 0) }
     ensures { (sets.new ≡ sets.old) × (masks.new ≡ masks.old) × SameRest state.old state.new

@@ -10,119 +10,119 @@ use lib.ListN.{get_or}
 use borrow.Author.Tests.{lt-ltb, le-ltb}
 use Rattle.base.specs.Lowest.{lowest}
 use Rattle.base.proofs.Tests.{decide, eq_test}
-use Rattle.base.proofs.Lowest.{lowest-is, lowest-below, lowest-cong}
-use Rattle.sheet.specs.Limits.{maxWires, maxPatterns, maxValues}
-use Rattle.table.specs.Bits.{bit, isOne}
+use Rattle.base.proofs.Lowest.{lowest_is, lowest_below, lowest_cong}
+use Rattle.sheet.specs.Limits.{max_wires, max_patterns, max_values}
+use Rattle.table.specs.Bits.{bit, is_one}
 use Rattle.table.specs.Cells.{wires}
-use Rattle.table.specs.Inner.Pairs.{narrowPatterns}
+use Rattle.table.specs.Inner.Pairs.{narrow_patterns}
 use Rattle.table.specs.Inner.Wide.{sections}
-use Rattle.table.proofs.Bits.{bit-lt, bit-ofBits, ofBits-lt, ones_bit, tabulate-at}
-use Rattle.table.proofs.BitColumns.{isOne-lt-two}
+use Rattle.table.proofs.Bits.{bit_lt, bit_of_bits, of_bits_lt, ones_bit, tabulate_at}
+use Rattle.table.proofs.BitColumns.{is_one_lt_two}
 use Rattle.relation.specs.Source.{value}
 use Rattle.relation.specs.Inner.Members.{member}
-use Rattle.relation.specs.Inner.Side.{side_by_side, valueIn}
-use Rattle.relation.proofs.Side.{sections-value}
-use Rattle.by_value.specs.Inner.ByValue.{wordValues, wordWidth, sectionWords, valueWordPlace, valueWord, SectionWords, allowedAt, allowsAt, Allowing, everyValue, filled, WordsBelow, firstRefused}
+use Rattle.relation.specs.Inner.Side.{side_by_side, value_in}
+use Rattle.relation.proofs.Side.{sections_value}
+use Rattle.by_value.specs.Inner.ByValue.{word_values, word_width, section_words, value_word_place, value_word, SectionWords, allowed_at, allows_at, Allowing, every_value, filled, WordsBelow, first_refused}
 
-value-lt : (tables p : ℕ) → valueIn tables p < maxValues
-unfolding valueIn
-value-lt tables p = ofBits-lt (λ j. bit tables (narrowPatterns * j + p)) maxWires (λ j _. bit-lt tables (narrowPatterns * j + p))
+value_lt : (tables p : ℕ) → value_in tables p < max_values
+unfolding value_in
+value_lt tables p = of_bits_lt (λ j. bit tables (narrow_patterns * j + p)) max_wires (λ j _. bit_lt tables (narrow_patterns * j + p))
 
 -- a bit of a word, by its lane and its place there
-word-bit : (sets : List ℕ) (q k i p : ℕ) → i < wordValues → p < narrowPatterns
-    → bit (valueWord sets q k) (narrowPatterns * i + p) ≡ isOne (member (get_or sets (narrowPatterns * q + p) 0) (wordValues * k + i))
-unfolding valueWord
-word-bit sets q k i p li lp =
-    let b = narrowPatterns * i + p in
-    let low : b % narrowPatterns ≡ p = omega arith in
-    let high : b / narrowPatterns ≡ i = omega arith in
-    bit-ofBits (λ b. isOne (member (get_or sets (narrowPatterns * q + b % narrowPatterns) 0) (wordValues * k + b / narrowPatterns))) wordWidth
-    (λ b _. isOne-lt-two (member (get_or sets (narrowPatterns * q + b % narrowPatterns) 0) (wordValues * k + b / narrowPatterns))) b (omega arith)
-    ∙ ap₂ (λ x y. isOne (member (get_or sets (narrowPatterns * q + x) 0) (wordValues * k + y))) low high
+word_bit : (sets : List ℕ) (q k i p : ℕ) → i < word_values → p < narrow_patterns
+    → bit (value_word sets q k) (narrow_patterns * i + p) ≡ is_one (member (get_or sets (narrow_patterns * q + p) 0) (word_values * k + i))
+unfolding value_word
+word_bit sets q k i p li lp =
+    let b = narrow_patterns * i + p in
+    let low : b % narrow_patterns ≡ p = omega arith in
+    let high : b / narrow_patterns ≡ i = omega arith in
+    bit_of_bits (λ b. is_one (member (get_or sets (narrow_patterns * q + b % narrow_patterns) 0) (word_values * k + b / narrow_patterns))) word_width
+    (λ b _. is_one_lt_two (member (get_or sets (narrow_patterns * q + b % narrow_patterns) 0) (word_values * k + b / narrow_patterns))) b (omega arith)
+    ∙ ap₂ (λ x y. is_one (member (get_or sets (narrow_patterns * q + x) 0) (word_values * k + y))) low high
 
 -- the answer is whether the value is in the pattern's set
 module _ (sets : List ℕ) (q a b c d tables r : ℕ) (words : SectionWords sets q a b c d) (allowing : Allowing a b c d tables r) where
-  among : (k : ℕ) → k < sectionWords → get_or (a ∷ b ∷ c ∷ d ∷ []) k 0 ≡ valueWord sets q k
+  among : (k : ℕ) → k < section_words → get_or (a ∷ b ∷ c ∷ d ∷ []) k 0 ≡ value_word sets q k
   among zero l = words.0
   among (suc zero) l = words.1
   among (suc (suc zero)) l = words.2
   among (suc (suc (suc zero))) l = words.3
   among (suc (suc (suc (suc k)))) l = absurd (omega arith)
 
-  pub told : (p : ℕ) → p < narrowPatterns → bit r p ≡ isOne (member (get_or sets (narrowPatterns * q + p) 0) (valueIn tables p))
-  unfolding allowedAt
+  pub told : (p : ℕ) → p < narrow_patterns → bit r p ≡ is_one (member (get_or sets (narrow_patterns * q + p) 0) (value_in tables p))
+  unfolding allowed_at
   told p l =
-      let v = valueIn tables p in
-      let k = v / wordValues in
-      let i = v % wordValues in
-      let lv = value-lt tables p in
-      let whole : wordValues * k + i ≡ v = omega arith in
-      allowing p l ∙ ap (λ w. bit w (narrowPatterns * i + p)) (among k (omega arith)) ∙ word-bit sets q k i p (omega arith) l
-      ∙ ap (λ x. isOne (member (get_or sets (narrowPatterns * q + p) 0) x)) whole
+      let v = value_in tables p in
+      let k = v / word_values in
+      let i = v % word_values in
+      let lv = value_lt tables p in
+      let whole : word_values * k + i ≡ v = omega arith in
+      allowing p l ∙ ap (λ w. bit w (narrow_patterns * i + p)) (among k (omega arith)) ∙ word_bit sets q k i p (omega arith) l
+      ∙ ap (λ x. is_one (member (get_or sets (narrow_patterns * q + p) 0) x)) whole
 
   -- for tables side by side
   module _ (ts : List ℕ) (side : tables ≡ side_by_side ts q) where
     abbrev allows : ℕ → Bool
-    allows p = allowsAt sets ts (narrowPatterns * q + p)
+    allows p = allows_at sets ts (narrow_patterns * q + p)
 
-    pub told-value : (p : ℕ) → p < narrowPatterns → bit r p ≡ isOne (allowsAt sets ts (narrowPatterns * q + p))
-    told-value p l =
-        told p l ∙ ap (λ x. isOne (member (get_or sets (narrowPatterns * q + p) 0) x)) (ap (λ t. valueIn t p) side ∙ sections-value ts q p l)
+    pub told_value : (p : ℕ) → p < narrow_patterns → bit r p ≡ is_one (allows_at sets ts (narrow_patterns * q + p))
+    told_value p l =
+        told p l ∙ ap (λ x. is_one (member (get_or sets (narrow_patterns * q + p) 0) x)) (ap (λ t. value_in t p) side ∙ sections_value ts q p l)
 
-    none-test : (t : Bool) → eqb (isOne t) 0 ≡ not t
-    unfolding isOne
-    none-test true = refl
-    none-test false = refl
+    none_test : (t : Bool) → eqb (is_one t) 0 ≡ not t
+    unfolding is_one
+    none_test true = refl
+    none_test false = refl
 
     -- so the first that is refused is the lowest pattern that does not allow its value
-    pub refused-lowest : firstRefused r ≡ lowest narrowPatterns (λ p. not (allowsAt sets ts (narrowPatterns * q + p)))
-    refused-lowest =
-        lowest-cong narrowPatterns (λ p. eqb (bit r p) 0) (λ p. not (allows p)) (λ p l. ap (λ x. eqb x 0) (told-value p l) ∙ none-test (allows p))
+    pub refused_lowest : first_refused r ≡ lowest narrow_patterns (λ p. not (allows_at sets ts (narrow_patterns * q + p)))
+    refused_lowest =
+        lowest_cong narrow_patterns (λ p. eqb (bit r p) 0) (λ p. not (allows p)) (λ p l. ap (λ x. eqb x 0) (told_value p l) ∙ none_test (allows p))
 
     -- the patterns below it allow theirs: so do all, where none is refused
-    pub allowed-below : (p : ℕ) → p < narrowPatterns → p < firstRefused r → T (allowsAt sets ts (narrowPatterns * q + p))
-    allowed-below p l h =
-        ⊎_elim (λ t. t) (λ t. absurd (omega (arith, refused-lowest, lowest-below narrowPatterns (λ p. not (allows p)) p l t))) (decide (allows p))
+    pub allowed_below : (p : ℕ) → p < narrow_patterns → p < first_refused r → T (allows_at sets ts (narrow_patterns * q + p))
+    allowed_below p l h =
+        ⊎_elim (λ t. t) (λ t. absurd (omega (arith, refused_lowest, lowest_below narrow_patterns (λ p. not (allows p)) p l t))) (decide (allows p))
 
     -- and it does not allow its own, where it is a pattern of the section
-    pub refused-is : firstRefused r < narrowPatterns → T (not (allowsAt sets ts (narrowPatterns * q + firstRefused r)))
-    refused-is h =
-        let e = refused-lowest in
-        subst (λ p. T (not (allows p))) (sym e) (lowest-is narrowPatterns (λ p. not (allows p)) (subst (λ p. p < narrowPatterns) e h))
+    pub refused_is : first_refused r < narrow_patterns → T (not (allows_at sets ts (narrow_patterns * q + first_refused r)))
+    refused_is h =
+        let e = refused_lowest in
+        subst (λ p. T (not (allows p))) (sym e) (lowest_is narrow_patterns (λ p. not (allows p)) (subst (λ p. p < narrow_patterns) e h))
 
 -- the words that are put together for the sections below a pattern serve as those of each of these sections
-pub below-words : (seen : ℕ) (sets words : List ℕ) (q : ℕ) → WordsBelow seen sets words → narrowPatterns * q < seen
-    → SectionWords sets q (get_or words (valueWordPlace q 0) 0) (get_or words (valueWordPlace q 1) 0) (get_or words (valueWordPlace q 2) 0) (get_or words (valueWordPlace q 3) 0)
-below-words seen sets words q h l = (h.0 q 0 l (omega arith), h.0 q 1 l (omega arith), h.0 q 2 l (omega arith), h.0 q 3 l (omega arith))
+pub below_words : (seen : ℕ) (sets words : List ℕ) (q : ℕ) → WordsBelow seen sets words → narrow_patterns * q < seen
+    → SectionWords sets q (get_or words (value_word_place q 0) 0) (get_or words (value_word_place q 1) 0) (get_or words (value_word_place q 2) 0) (get_or words (value_word_place q 3) 0)
+below_words seen sets words q h l = (h.0 q 0 l (omega arith), h.0 q 1 l (omega arith), h.0 q 2 l (omega arith), h.0 q 3 l (omega arith))
 
 -- the filled sets: those there are, and past them every value
-module _ (count : ℕ) (sets : List ℕ) (p : ℕ) (lp : p < maxPatterns) where
-  pub filled-there : p < count → get_or (filled count sets) p 0 ≡ get_or sets p 0
+module _ (count : ℕ) (sets : List ℕ) (p : ℕ) (lp : p < max_patterns) where
+  pub filled_there : p < count → get_or (filled count sets) p 0 ≡ get_or sets p 0
   unfolding filled
-  filled-there l =
-      tabulate-at maxPatterns (λ p. cond (ltb p count) (get_or sets p 0) everyValue) p lp ∙ ap (λ t. cond t (get_or sets p 0) everyValue) (lt-ltb p count l)
+  filled_there l =
+      tabulate_at max_patterns (λ p. cond (ltb p count) (get_or sets p 0) every_value) p lp ∙ ap (λ t. cond t (get_or sets p 0) every_value) (lt-ltb p count l)
 
-  pub filled-past : count ≤ p → get_or (filled count sets) p 0 ≡ everyValue
+  pub filled_past : count ≤ p → get_or (filled count sets) p 0 ≡ every_value
   unfolding filled
-  filled-past l =
-      tabulate-at maxPatterns (λ p. cond (ltb p count) (get_or sets p 0) everyValue) p lp ∙ ap (λ t. cond t (get_or sets p 0) everyValue) (le-ltb p count l)
+  filled_past l =
+      tabulate_at max_patterns (λ p. cond (ltb p count) (get_or sets p 0) every_value) p lp ∙ ap (λ t. cond t (get_or sets p 0) every_value) (le-ltb p count l)
 
   -- nothing is refused past them
-  pub past-allows : count ≤ p → (v : ℕ) → v < maxValues → T (member (get_or (filled count sets) p 0) v)
+  pub past_allows : count ≤ p → (v : ℕ) → v < max_values → T (member (get_or (filled count sets) p 0) v)
   unfolding member
-  past-allows l v lv = eq_test (ap (λ w. bit w v) (filled-past l) ∙ ones_bit maxValues v lv)
+  past_allows l v lv = eq_test (ap (λ w. bit w v) (filled_past l) ∙ ones_bit max_values v lv)
 
-driven-lt : (ts : List ℕ) (p : ℕ) → value maxWires (wires ts) p < maxValues
+driven_lt : (ts : List ℕ) (p : ℕ) → value max_wires (wires ts) p < max_values
 unfolding value
-driven-lt ts p = ofBits-lt (λ j. bit (wires ts j) p) maxWires (λ j _. bit-lt (wires ts j) p)
+driven_lt ts p = of_bits_lt (λ j. bit (wires ts j) p) max_wires (λ j _. bit_lt (wires ts j) p)
 
 -- so what is refused of filled sets is a pattern that there is
-pub refused-there : (count : ℕ) (sets : List ℕ) (q a b c d tables r : ℕ) → SectionWords (filled count sets) q a b c d → Allowing a b c d tables r
-    → (ts : List ℕ) → tables ≡ side_by_side ts q → q < sections → firstRefused r < narrowPatterns → narrowPatterns * q + firstRefused r < count
-refused-there count sets q a b c d tables r words allowing ts side lq h =
-    let p = narrowPatterns * q + firstRefused r in
-    let refused = refused-is (filled count sets) q a b c d tables r words allowing ts side h in
-    let v = value maxWires (wires ts) p in
+pub refused_there : (count : ℕ) (sets : List ℕ) (q a b c d tables r : ℕ) → SectionWords (filled count sets) q a b c d → Allowing a b c d tables r
+    → (ts : List ℕ) → tables ≡ side_by_side ts q → q < sections → first_refused r < narrow_patterns → narrow_patterns * q + first_refused r < count
+refused_there count sets q a b c d tables r words allowing ts side lq h =
+    let p = narrow_patterns * q + first_refused r in
+    let refused = refused_is (filled count sets) q a b c d tables r words allowing ts side h in
+    let v = value max_wires (wires ts) p in
     ⊎_elim (λ t. ltb→lt p count t)
-    (λ t. absurd (T_not (member (get_or (filled count sets) p 0) v) refused (past-allows count sets p (omega arith) (nltb→le p count t) v (driven-lt ts p))))
+    (λ t. absurd (T_not (member (get_or (filled count sets) p 0) v) refused (past_allows count sets p (omega arith) (nltb→le p count t) v (driven_lt ts p))))
     (decide (ltb p count))

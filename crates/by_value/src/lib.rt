@@ -3,13 +3,13 @@
 // A word has four lanes, one for each of four values, and a lane has one bit for each pattern of the section. Four words have all values of a section.
 // Inner functions: the search meets what they require, sections and patterns that there are and words that lack the pattern put in.
 ghost use Rattle.std.specs.Prelude.{◌≡◌, cond, ℕ, ◌+◌, ◌*◌, ◌/◌, ◌%◌, ◌<◌, ◌≤◌, ◌^◌, eqb, get_or, length};
-ghost use Rattle.sheet.specs.Limits.{maxPatterns};
+ghost use Rattle.sheet.specs.Limits.{max_patterns};
 ghost use Rattle.table.specs.Bits.{bit};
-ghost use Rattle.table.specs.Inner.Pairs.{narrowPatterns};
-ghost use Rattle.table.specs.Inner.Ranks.{narrowSpace};
+ghost use Rattle.table.specs.Inner.Pairs.{narrow_patterns};
+ghost use Rattle.table.specs.Inner.Ranks.{narrow_space};
 ghost use Rattle.table.specs.Inner.Wide.{sections};
-ghost use Rattle.lanes.specs.Inner.Lanes.{eachLane, lanes_of};
-ghost use Rattle.by_value.specs.Inner.ByValue.{wordValues, wordWidth, sectionWords, allWords, valueWordPlace, Allowing, valuesIn, added, valueWordAt, HasRoom, withWord, withSet, filled, WordsBelow, firstRefused};
+ghost use Rattle.lanes.specs.Inner.Lanes.{each_lane, lanes_of};
+ghost use Rattle.by_value.specs.Inner.ByValue.{word_values, word_width, section_words, all_words, value_word_place, Allowing, values_in, added, value_word_at, HasRoom, with_word, with_set, filled, WordsBelow, first_refused};
 
 use lanes::{LANE, LANES, lane};
 use sheet::Sheet;
@@ -46,16 +46,16 @@ fn choose(t: u64, zero: u64, one: u64) -> u64
 
 // A lane's number in each of the four lanes.
 fn in_lanes(x: u64) -> u64
-    requires { x < narrowSpace }
-    ensures { (i p : ℕ) → i < wordValues → p < narrowPatterns → bit result (narrowPatterns * i + p) ≡ bit x p }
+    requires { x < narrow_space }
+    ensures { (i p : ℕ) → i < word_values → p < narrow_patterns → bit result (narrow_patterns * i + p) ≡ bit x p }
 {
     x * LANES
 }
 
 // Lane j of a number in each of the four lanes, so that it can choose in each of them.
 fn lane_in_lanes(x: u64, j: u8) -> u64
-    requires { j < wordValues }
-    ensures { (i p : ℕ) → i < wordValues → p < narrowPatterns → bit result (narrowPatterns * i + p) ≡ bit x (narrowPatterns * j + p) }
+    requires { j < word_values }
+    ensures { (i p : ℕ) → i < word_values → p < narrow_patterns → bit result (narrow_patterns * i + p) ≡ bit x (narrow_patterns * j + p) }
 {
     in_lanes(lane(x, j))
 }
@@ -63,7 +63,7 @@ fn lane_in_lanes(x: u64, j: u8) -> u64
 // The patterns of a section that allow the value which four tables side by side drive there, by the section's four words. Wires 3 and 2 choose the word,
 // each pattern for itself, wires 1 and 0 the lane.
 pub fn allowing(a: u64, b: u64, c: u64, d: u64, tables: u64) -> u64
-    ensures { (result < narrowSpace) × Allowing a b c d tables result }
+    ensures { (result < narrow_space) × Allowing a b c d tables result }
 {
     let wire_3 = lane_in_lanes(tables, 3);
     let wire_2 = lane_in_lanes(tables, 2);
@@ -75,8 +75,8 @@ pub fn allowing(a: u64, b: u64, c: u64, d: u64, tables: u64) -> u64
 
 // The lowest pattern that is not fine, or one past the last.
 pub fn first_refused(fine: u64) -> u8
-    requires { fine < narrowSpace }
-    ensures { (result ≡ firstRefused fine) × (result ≤ narrowPatterns) }
+    requires { fine < narrow_space }
+    ensures { (result ≡ first_refused fine) × (result ≤ narrow_patterns) }
 {
     if fine == EVERY_PATTERN {
         SECTION
@@ -87,23 +87,23 @@ pub fn first_refused(fine: u64) -> u8
 
 // The values of word k that are in a set.
 fn values_in(set: u16, k: u8) -> u64
-    requires { k < sectionWords }
-    ensures { (result ≡ valuesIn set k) × (result < 2 ^ wordValues) }
+    requires { k < section_words }
+    ensures { (result ≡ values_in set k) × (result < 2 ^ word_values) }
 {
     ((set >> (WORD_VALUES * k)) % VALUES_SPACE) as u64
 }
 
 // The values of a word with a lane for each.
 fn spread(x: u64) -> u64
-    requires { x < 2 ^ wordValues }
-    ensures { (result ≡ lanes_of (bit x)) × (result ≤ eachLane) }
+    requires { x < 2 ^ word_values }
+    ensures { (result ≡ lanes_of (bit x)) × (result ≤ each_lane) }
 {
     (x * COPIES) & LANES
 }
 
 // A word with the p-th pattern of its section, which it lacks, put in by the pattern's set.
 fn put_lanes(word: u64, p: u8, set: u16, k: u8) -> u64
-    requires { (p < narrowPatterns) × (k < sectionWords) × (word + eachLane * 2 ^ p < 2 ^ wordWidth) }
+    requires { (p < narrow_patterns) × (k < section_words) × (word + each_lane * 2 ^ p < 2 ^ word_width) }
     ensures { result ≡ word + added set k p }
 {
     word + (spread(values_in(set, k)) << p)
@@ -111,16 +111,16 @@ fn put_lanes(word: u64, p: u8, set: u16, k: u8) -> u64
 
 // Where word k of section q stands.
 fn value_word_place(q: u8, k: u8) -> usize
-    requires { (q < sections) × (k < sectionWords) }
-    ensures { (result ≡ valueWordPlace q k) × (result < allWords) }
+    requires { (q < sections) × (k < section_words) }
+    ensures { (result ≡ value_word_place q k) × (result < all_words) }
 {
     SECTION_WORDS * q as usize + k as usize
 }
 
 // The words with pattern p, which they lack, put into word k of its section by its set.
 fn put_word(words: &mut [u64; VALUE_WORDS], p: u8, set: u16, k: u8)
-    requires { (p < maxPatterns) × (k < sectionWords) × HasRoom (valueWordAt words.old p k) p }
-    ensures { words.new ≡ withWord words.old p set k }
+    requires { (p < max_patterns) × (k < section_words) × HasRoom (value_word_at words.old p k) p }
+    ensures { words.new ≡ with_word words.old p set k }
 {
     let at = value_word_place(p / SECTION, k);
     words[at] = put_lanes(words[at], p % SECTION, set, k);
@@ -128,8 +128,8 @@ fn put_word(words: &mut [u64; VALUE_WORDS], p: u8, set: u16, k: u8)
 
 // The words with pattern p, which they lack, put into all words of its section.
 fn put_set(words: &mut [u64; VALUE_WORDS], p: u8, set: u16)
-    requires { (p < maxPatterns) × (length words.old ≡ allWords) × ((k : ℕ) → k < sectionWords → HasRoom (valueWordAt words.old p k) p) }
-    ensures { words.new ≡ withSet words.old p set }
+    requires { (p < max_patterns) × (length words.old ≡ all_words) × ((k : ℕ) → k < section_words → HasRoom (value_word_at words.old p k) p) }
+    ensures { words.new ≡ with_set words.old p set }
 {
     put_word(words, p, set, 0);
     put_word(words, p, set, 1);
@@ -139,7 +139,7 @@ fn put_set(words: &mut [u64; VALUE_WORDS], p: u8, set: u16)
 
 // The set of pattern p, where those from `count` on have every value.
 fn set_at(count: u8, sets: &[u16; Sheet::MAX_PATTERNS], p: u8) -> u16
-    requires { p < maxPatterns }
+    requires { p < max_patterns }
     ensures { result ≡ get_or (filled count sets.now) p 0 }
 {
     if p < count {
@@ -152,7 +152,7 @@ fn set_at(count: u8, sets: &[u16; Sheet::MAX_PATTERNS], p: u8) -> u16
 // The words of the sections below pattern `seen`. Patterns from `count` on have every value, so that a section which the patterns do not fill refuses
 // nothing there.
 pub fn whole_of(count: u8, seen: u8, sets: &[u16; Sheet::MAX_PATTERNS]) -> [u64; VALUE_WORDS]
-    requires { (seen ≤ maxPatterns) × (seen % narrowPatterns ≡ 0) }
+    requires { (seen ≤ max_patterns) × (seen % narrow_patterns ≡ 0) }
     ensures { WordsBelow seen (filled count sets.now) result }
 {
     let mut words = [0u64; VALUE_WORDS];

@@ -1,11 +1,11 @@
 // The calls that both boards have, as numbers: `dagmetzi_search` and `dagmetzi_search_shared` are one function here, and so on.
 ghost use Rattle.std.specs.Prelude.{◌≡◌, length};
-ghost use Rattle.nodes.specs.Counts.{mostInputs};
-ghost use Rattle.diagram.specs.Forms.{drawingOf};
-ghost use Rattle.quote.specs.Quote.{quotedOf, bufferQuoted};
+ghost use Rattle.nodes.specs.Counts.{most_inputs};
+ghost use Rattle.diagram.specs.Forms.{drawing_of};
+ghost use Rattle.quote.specs.Quote.{quoted_of, buffer_quoted};
 ghost use Rattle.quote.specs.Promised.{Promised};
-ghost use Rattle.quote.specs.Audit.{auditedOf};
-ghost use Rattle.capi.specs.Numbers.{quoteNumbers, searchHanded, searchNumbers, tablesAfter, auditNumbers};
+ghost use Rattle.quote.specs.Audit.{audited_of};
+ghost use Rattle.capi.specs.Numbers.{quote_numbers, search_handed, search_numbers, tables_after, audit_numbers};
 
 use crate::told::{audit_told, audited_cells, mark_told};
 use crate::{REPLY_NUMBERS, told};
@@ -25,9 +25,9 @@ pub fn search_numbers(
     tables: &mut [u64; Sheet::WIRES],
     reply: &mut [u64; REPLY_NUMBERS],
 ) -> u32
-    ensures refusal { result ≡ (searchHanded kind n m sets.now budget).mark.number }
-    ensures numbers { reply.new ≡ searchNumbers (searchHanded kind n m sets.now budget) }
-    ensures tables { tables.new ≡ tablesAfter (searchHanded kind n m sets.now budget) tables.old }
+    ensures refusal { result ≡ (search_handed kind n m sets.now budget).mark.number }
+    ensures numbers { reply.new ≡ search_numbers (search_handed kind n m sets.now budget) }
+    ensures tables { tables.new ≡ tables_after (search_handed kind n m sets.now budget) tables.old }
 {
     let copy = *sets;
     let answer = search_on(kind, Relation { n, m, sets: copy }, budget);
@@ -56,10 +56,10 @@ pub fn quote_numbers(
     buffer: &mut [u8],
     reply: &mut [u64; REPLY_NUMBERS],
 ) -> u32
-    ensures refusal { result ≡ (quotedOf kind sheet.now budget (length buffer.old)).mark.number }
-    ensures numbers { reply.new ≡ quoteNumbers (quotedOf kind sheet.now budget (length buffer.old)) }
-    ensures bytes { buffer.new ≡ bufferQuoted kind sheet.now budget buffer.old }
-    ensures promise { Promised (drawingOf kind) (mostInputs kind) sheet.now budget (quotedOf kind sheet.now budget (length buffer.old))
+    ensures refusal { result ≡ (quoted_of kind sheet.now budget (length buffer.old)).mark.number }
+    ensures numbers { reply.new ≡ quote_numbers (quoted_of kind sheet.now budget (length buffer.old)) }
+    ensures bytes { buffer.new ≡ buffer_quoted kind sheet.now budget buffer.old }
+    ensures promise { Promised (drawing_of kind) (most_inputs kind) sheet.now budget (quoted_of kind sheet.now budget (length buffer.old))
         buffer.new }
 {
     let quoted = quote_on(kind, sheet, budget, buffer);
@@ -83,8 +83,8 @@ pub fn audit_numbers(
     stage: &[u8],
     reply: &mut [u64; REPLY_NUMBERS],
 ) -> u32
-    ensures refusal { result ≡ (auditedOf kind sheet.now stage.now).number }
-    ensures numbers { reply.new ≡ auditNumbers (auditedOf kind sheet.now stage.now) }
+    ensures refusal { result ≡ (audited_of kind sheet.now stage.now).number }
+    ensures numbers { reply.new ≡ audit_numbers (audited_of kind sheet.now stage.now) }
 {
     let audited = audit_on(kind, sheet, stage);
     let told = audit_told(audited);

@@ -1,18 +1,18 @@
 // The library for C and Rust: the search, the quote and the audit, on either board, the joint quote, and clean copies, over numbers and slices. `include/dagmetzi.h` declares
 // what is exported here.
 ghost use Rattle.std.specs.Prelude.{◌≡◌, length};
-ghost use Rattle.sheet.specs.Limits.{maxInputs, maxSharedInputs};
+ghost use Rattle.sheet.specs.Limits.{max_inputs, max_shared_inputs};
 ghost use Rattle.nodes.specs.declared.BoardKind.TheVariants.{Tree, Sharing};
-ghost use Rattle.stage.specs.Trees.{treeDrawing};
-ghost use Rattle.diagram.specs.Diagrams.{diagramDrawing};
-ghost use Rattle.quote.specs.Quote.{quotedOf, bufferQuoted};
+ghost use Rattle.stage.specs.Trees.{tree_drawing};
+ghost use Rattle.diagram.specs.Diagrams.{diagram_drawing};
+ghost use Rattle.quote.specs.Quote.{quoted_of, buffer_quoted};
 ghost use Rattle.quote.specs.Promised.{Promised};
-ghost use Rattle.quote.specs.Audit.{auditedOf};
-ghost use Rattle.joined.specs.Joint.{jointQuoted, jointBuffer};
+ghost use Rattle.quote.specs.Audit.{audited_of};
+ghost use Rattle.joined.specs.Joint.{joint_quoted, joint_buffer};
 ghost use Rattle.joined.specs.Promised.{JointPromised};
-ghost use Rattle.clean.specs.Cleaned.{cleanedOf, bufferCleaned};
+ghost use Rattle.clean.specs.Cleaned.{cleaned_of, buffer_cleaned};
 ghost use Rattle.clean.specs.CleanCopy.{CleanPromise};
-ghost use Rattle.capi.specs.Numbers.{quoteNumbers, searchHanded, searchNumbers, tablesAfter, auditNumbers, copyNumbers};
+ghost use Rattle.capi.specs.Numbers.{quote_numbers, search_handed, search_numbers, tables_after, audit_numbers, copy_numbers};
 
 use clean::clean;
 use joined::quote_joined;
@@ -36,9 +36,9 @@ pub extern "C" fn dagmetzi_search(
     tables: &mut [u64; Sheet::WIRES],
     reply: &mut [u64; REPLY_NUMBERS],
 ) -> u32
-    ensures refusal { result ≡ (searchHanded Tree n m sets.now budget).mark.number }
-    ensures numbers { reply.new ≡ searchNumbers (searchHanded Tree n m sets.now budget) }
-    ensures tables { tables.new ≡ tablesAfter (searchHanded Tree n m sets.now budget) tables.old }
+    ensures refusal { result ≡ (search_handed Tree n m sets.now budget).mark.number }
+    ensures numbers { reply.new ≡ search_numbers (search_handed Tree n m sets.now budget) }
+    ensures tables { tables.new ≡ tables_after (search_handed Tree n m sets.now budget) tables.old }
 {
     boards::search_numbers(BoardKind::Tree, n, m, sets, budget, tables, reply)
 }
@@ -53,9 +53,9 @@ pub extern "C" fn dagmetzi_search_shared(
     tables: &mut [u64; Sheet::WIRES],
     reply: &mut [u64; REPLY_NUMBERS],
 ) -> u32
-    ensures refusal { result ≡ (searchHanded Sharing n m sets.now budget).mark.number }
-    ensures numbers { reply.new ≡ searchNumbers (searchHanded Sharing n m sets.now budget) }
-    ensures tables { tables.new ≡ tablesAfter (searchHanded Sharing n m sets.now budget) tables.old }
+    ensures refusal { result ≡ (search_handed Sharing n m sets.now budget).mark.number }
+    ensures numbers { reply.new ≡ search_numbers (search_handed Sharing n m sets.now budget) }
+    ensures tables { tables.new ≡ tables_after (search_handed Sharing n m sets.now budget) tables.old }
 {
     boards::search_numbers(BoardKind::Sharing, n, m, sets, budget, tables, reply)
 }
@@ -68,10 +68,10 @@ pub extern "C" fn dagmetzi_quote(
     buffer: &mut [u8],
     reply: &mut [u64; REPLY_NUMBERS],
 ) -> u32
-    ensures refusal { result ≡ (quotedOf Tree sheet.now budget (length buffer.old)).mark.number }
-    ensures numbers { reply.new ≡ quoteNumbers (quotedOf Tree sheet.now budget (length buffer.old)) }
-    ensures bytes { buffer.new ≡ bufferQuoted Tree sheet.now budget buffer.old }
-    ensures promise { Promised treeDrawing maxInputs sheet.now budget (quotedOf Tree sheet.now budget (length buffer.old))
+    ensures refusal { result ≡ (quoted_of Tree sheet.now budget (length buffer.old)).mark.number }
+    ensures numbers { reply.new ≡ quote_numbers (quoted_of Tree sheet.now budget (length buffer.old)) }
+    ensures bytes { buffer.new ≡ buffer_quoted Tree sheet.now budget buffer.old }
+    ensures promise { Promised tree_drawing max_inputs sheet.now budget (quoted_of Tree sheet.now budget (length buffer.old))
         buffer.new }
 {
     boards::quote_numbers(BoardKind::Tree, sheet, budget, buffer, reply)
@@ -85,10 +85,10 @@ pub extern "C" fn dagmetzi_quote_shared(
     buffer: &mut [u8],
     reply: &mut [u64; REPLY_NUMBERS],
 ) -> u32
-    ensures refusal { result ≡ (quotedOf Sharing sheet.now budget (length buffer.old)).mark.number }
-    ensures numbers { reply.new ≡ quoteNumbers (quotedOf Sharing sheet.now budget (length buffer.old)) }
-    ensures bytes { buffer.new ≡ bufferQuoted Sharing sheet.now budget buffer.old }
-    ensures promise { Promised diagramDrawing maxSharedInputs sheet.now budget (quotedOf Sharing sheet.now budget (length buffer.old))
+    ensures refusal { result ≡ (quoted_of Sharing sheet.now budget (length buffer.old)).mark.number }
+    ensures numbers { reply.new ≡ quote_numbers (quoted_of Sharing sheet.now budget (length buffer.old)) }
+    ensures bytes { buffer.new ≡ buffer_quoted Sharing sheet.now budget buffer.old }
+    ensures promise { Promised diagram_drawing max_shared_inputs sheet.now budget (quoted_of Sharing sheet.now budget (length buffer.old))
         buffer.new }
 {
     boards::quote_numbers(BoardKind::Sharing, sheet, budget, buffer, reply)
@@ -103,9 +103,9 @@ pub extern "C" fn dagmetzi_quote_joined(
     buffer: &mut [u8],
     reply: &mut [u64; REPLY_NUMBERS],
 ) -> u32
-    ensures refusal { result ≡ (jointQuoted first.now second.now budget (length buffer.old)).mark.number }
-    ensures numbers { reply.new ≡ quoteNumbers (jointQuoted first.now second.now budget (length buffer.old)) }
-    ensures bytes { buffer.new ≡ jointBuffer first.now second.now budget buffer.old }
+    ensures refusal { result ≡ (joint_quoted first.now second.now budget (length buffer.old)).mark.number }
+    ensures numbers { reply.new ≡ quote_numbers (joint_quoted first.now second.now budget (length buffer.old)) }
+    ensures bytes { buffer.new ≡ joint_buffer first.now second.now budget buffer.old }
     ensures promise { JointPromised first.now second.now budget
         (jointQuoted first.now second.now budget (length buffer.old)) buffer.new }
 {
@@ -130,8 +130,8 @@ pub extern "C" fn dagmetzi_audit(
     stage: &[u8],
     reply: &mut [u64; REPLY_NUMBERS],
 ) -> u32
-    ensures refusal { result ≡ (auditedOf Tree sheet.now stage.now).number }
-    ensures numbers { reply.new ≡ auditNumbers (auditedOf Tree sheet.now stage.now) }
+    ensures refusal { result ≡ (audited_of Tree sheet.now stage.now).number }
+    ensures numbers { reply.new ≡ audit_numbers (audited_of Tree sheet.now stage.now) }
 {
     boards::audit_numbers(BoardKind::Tree, sheet, stage, reply)
 }
@@ -143,8 +143,8 @@ pub extern "C" fn dagmetzi_audit_shared(
     stage: &[u8],
     reply: &mut [u64; REPLY_NUMBERS],
 ) -> u32
-    ensures refusal { result ≡ (auditedOf Sharing sheet.now stage.now).number }
-    ensures numbers { reply.new ≡ auditNumbers (auditedOf Sharing sheet.now stage.now) }
+    ensures refusal { result ≡ (audited_of Sharing sheet.now stage.now).number }
+    ensures numbers { reply.new ≡ audit_numbers (audited_of Sharing sheet.now stage.now) }
 {
     boards::audit_numbers(BoardKind::Sharing, sheet, stage, reply)
 }
@@ -156,10 +156,10 @@ pub extern "C" fn dagmetzi_clean(
     buffer: &mut [u8],
     reply: &mut [u64; REPLY_NUMBERS],
 ) -> u32
-    ensures refusal { result ≡ (cleanedOf sheet.now (length buffer.old)).number }
-    ensures numbers { reply.new ≡ copyNumbers (cleanedOf sheet.now (length buffer.old)) }
-    ensures bytes { buffer.new ≡ bufferCleaned sheet.now buffer.old }
-    ensures copy { CleanPromise sheet.now (cleanedOf sheet.now (length buffer.old)) buffer.new }
+    ensures refusal { result ≡ (cleaned_of sheet.now (length buffer.old)).number }
+    ensures numbers { reply.new ≡ copy_numbers (cleaned_of sheet.now (length buffer.old)) }
+    ensures bytes { buffer.new ≡ buffer_cleaned sheet.now buffer.old }
+    ensures copy { CleanPromise sheet.now (cleaned_of sheet.now (length buffer.old)) buffer.new }
 {
     let written = clean(sheet, buffer);
     let told = written_told(written);

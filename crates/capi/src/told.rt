@@ -1,9 +1,9 @@
 // A case of an answer as numbers: its outcome, and the number and the place of its refusal, 0 where nothing is refused.
 ghost use Rattle.std.specs.Prelude.{◌≡◌};
-ghost use Rattle.base.specs.Cases.{accepting, refusing, writtenCase};
-ghost use Rattle.search.specs.Cases.{markCase};
-ghost use Rattle.quote.specs.Cases.{auditedCase};
-ghost use Rattle.joined.specs.Cases.{jointCase};
+ghost use Rattle.base.specs.Cases.{accepting, refusing, written_case};
+ghost use Rattle.search.specs.Cases.{mark_case};
+ghost use Rattle.quote.specs.Cases.{audited_case};
+ghost use Rattle.joined.specs.Cases.{joint_case};
 ghost use Rattle.capi.specs.Inner.Told.{told};
 
 use base::{Refusal, Written};
@@ -54,7 +54,7 @@ fn tell_refusal(outcome: u64, refusal: Refusal) -> Told
 }
 
 pub fn mark_told(mark: Mark) -> Told
-    ensures { result ≡ told (markCase mark) }
+    ensures { result ≡ told (mark_case mark) }
 {
     match mark {
         Mark::Best => tell(BEST),
@@ -64,7 +64,7 @@ pub fn mark_told(mark: Mark) -> Told
 }
 
 pub fn joint_told(mark: JointMark) -> Told
-    ensures { result ≡ told (jointCase mark) }
+    ensures { result ≡ told (joint_case mark) }
 {
     match mark {
         JointMark::Best => tell(BEST),
@@ -75,7 +75,7 @@ pub fn joint_told(mark: JointMark) -> Told
 }
 
 pub fn audit_told(audited: Audited) -> Told
-    ensures { result ≡ told (auditedCase audited) }
+    ensures { result ≡ told (audited_case audited) }
 {
     match audited {
         Audited::Fits(_) => tell(FITS),
@@ -87,7 +87,7 @@ pub fn audit_told(audited: Audited) -> Told
 
 // The cells of a stage that was judged, 0 where one of the sheets was refused.
 pub fn audited_cells(audited: Audited) -> u32
-    ensures { result ≡ (auditedCase audited).value }
+    ensures { result ≡ (audited_case audited).value }
 {
     match audited {
         Audited::Fits(cells) => cells,
@@ -98,7 +98,7 @@ pub fn audited_cells(audited: Audited) -> u32
 }
 
 pub fn written_told(written: Written) -> Told
-    ensures { result ≡ told (writtenCase written) }
+    ensures { result ≡ told (written_case written) }
 {
     match written {
         Written::Length(_) => tell(WRITTEN),
@@ -108,7 +108,7 @@ pub fn written_told(written: Written) -> Told
 
 // The length of what was written, 0 where it was refused.
 pub fn written_length(written: Written) -> usize
-    ensures { result ≡ (writtenCase written).value }
+    ensures { result ≡ (written_case written).value }
 {
     match written {
         Written::Length(length) => length,

@@ -7,113 +7,113 @@ use Rattle.base.proofs.Tests.{cond_has}
 use Rattle.sheet.specs.declared.Command.{Command}
 use Rattle.sheet.specs.declared.Command.TheVariants.{Sizes, Row, DontCare, Limit}
 use Rattle.sheet.specs.declared.Sheet.{Sheet}
-use Rattle.sheet.specs.Commands.{collect, about, row_in, dontCareIn, limitIn, gateIn, outputIn, rowsOn, dontCaresOn, limitsOn, gatesOf, outputsOf, LogicGate}
-use Rattle.sheet.proofs.Lists.{about-other}
-use Rattle.reader.proofs.Placed.{gateOf}
-use Rattle.clean.specs.Copy.{listed, marksDontCare, permitsAll, copyMark, copyLimit, copyGate, copyOutput}
-use Rattle.clean.proofs.Listed.{collect-then, pieces-silent}
+use Rattle.sheet.specs.Commands.{collect, about, row_in, dont_care_in, limit_in, gate_in, output_in, rows_on, dont_cares_on, limits_on, gates_of, outputs_of, LogicGate}
+use Rattle.sheet.proofs.Lists.{about_other}
+use Rattle.reader.proofs.Placed.{gate_of}
+use Rattle.clean.specs.Copy.{listed, marks_dont_care, permits_all, copy_mark, copy_limit, copy_gate, copy_output}
+use Rattle.clean.proofs.Listed.{collect_then, pieces_silent}
 
 module _ (h : Sheet) where
   -- the copy as far as its sizes, its marks, its limits, its gates, its outputs go
-  abbrev pub toSizes : List Command
-  toSizes = Sizes h.n h.m ∷ []
+  abbrev pub to_sizes : List Command
+  to_sizes = Sizes h.n h.m ∷ []
 
-  abbrev pub toMarks : ℕ → List Command
-  toMarks k = toSizes ++ listed k (copyMark h)
+  abbrev pub to_marks : ℕ → List Command
+  to_marks k = to_sizes ++ listed k (copy_mark h)
 
-  abbrev pub toLimits : ℕ → List Command
-  toLimits k = toMarks (2 ^ h.n) ++ listed k (copyLimit h)
+  abbrev pub to_limits : ℕ → List Command
+  to_limits k = to_marks (2 ^ h.n) ++ listed k (copy_limit h)
 
-  abbrev pub toGates : ℕ → List Command
-  toGates k = toLimits (2 ^ h.n) ++ listed k (copyGate h)
+  abbrev pub to_gates : ℕ → List Command
+  to_gates k = to_limits (2 ^ h.n) ++ listed k (copy_gate h)
 
-  abbrev pub toOutputs : ℕ → List Command
-  toOutputs k = toGates h.gate_count ++ listed k (copyOutput h)
+  abbrev pub to_outputs : ℕ → List Command
+  to_outputs k = to_gates h.gate_count ++ listed k (copy_output h)
 
   -- the gates and the outputs that were gathered, in order
-  abbrev pub gatesHeld : ℕ → List LogicGate
-  gatesHeld k = listed k (λ i. gateOf h i ∷ [])
+  abbrev pub gates_held : ℕ → List LogicGate
+  gates_held k = listed k (λ i. gate_of h i ∷ [])
 
-  abbrev pub outputsHeld : ℕ → List ℕ
-  outputsHeld k = listed k (λ i. get_or h.signals i 0 ∷ [])
+  abbrev pub outputs_held : ℕ → List ℕ
+  outputs_held k = listed k (λ i. get_or h.signals i 0 ∷ [])
 
   -- what the marks and the limits do not say
-  mark-silent : {A : Type 0} (says : Command → List A) → ((p v : ℕ) → says (Row p v) ≡ []) → ((p : ℕ) → says (DontCare p) ≡ []) → (p : ℕ)
-      → collect says (copyMark h p) ≡ []
+  mark_silent : {A : Type 0} (says : Command → List A) → ((p v : ℕ) → says (Row p v) ≡ []) → ((p : ℕ) → says (DontCare p) ≡ []) → (p : ℕ)
+      → collect says (copy_mark h p) ≡ []
   unfolding collect
-  mark-silent says r d p = cond_has (λ cs. collect says cs ≡ []) (marksDontCare (get_or h.marks p 0)) (λ _. simp d) (λ _. simp r)
+  mark_silent says r d p = cond_has (λ cs. collect says cs ≡ []) (marks_dont_care (get_or h.marks p 0)) (λ _. simp d) (λ _. simp r)
 
-  limit-silent : {A : Type 0} (says : Command → List A) → ((p w : ℕ) → says (Limit p w) ≡ []) → (p : ℕ) → collect says (copyLimit h p) ≡ []
+  limit_silent : {A : Type 0} (says : Command → List A) → ((p w : ℕ) → says (Limit p w) ≡ []) → (p : ℕ) → collect says (copy_limit h p) ≡ []
   unfolding collect
-  limit-silent says l p = cond_has (λ cs. collect says cs ≡ []) (permitsAll h.m (get_or h.limits p 0)) (λ _. refl) (λ _. simp l)
+  limit_silent says l p = cond_has (λ cs. collect says cs ≡ []) (permits_all h.m (get_or h.limits p 0)) (λ _. refl) (λ _. simp l)
 
   -- the gates and the outputs
-  pub gates-wired : (k : ℕ) → gatesOf (toGates k) ≡ gatesHeld k
+  pub gates_wired : (k : ℕ) → gates_of (to_gates k) ≡ gates_held k
   unfolding collect
-  gates-wired k =
-      collect-then gateIn (toLimits (2 ^ h.n)) k (copyGate h)
-      ∙ ap (λ xs. xs ++ gatesHeld k)
-      (pieces-silent gateIn (toMarks (2 ^ h.n)) (2 ^ h.n) (copyLimit h) (limit-silent gateIn (λ _ _. refl))
-      ∙ pieces-silent gateIn toSizes (2 ^ h.n) (copyMark h) (mark-silent gateIn (λ _ _. refl) (λ _. refl)))
+  gates_wired k =
+      collect_then gate_in (to_limits (2 ^ h.n)) k (copy_gate h)
+      ∙ ap (λ xs. xs ++ gates_held k)
+      (pieces_silent gate_in (to_marks (2 ^ h.n)) (2 ^ h.n) (copy_limit h) (limit_silent gate_in (λ _ _. refl))
+      ∙ pieces_silent gate_in to_sizes (2 ^ h.n) (copy_mark h) (mark_silent gate_in (λ _ _. refl) (λ _. refl)))
 
-  pub gates-led : (k : ℕ) → gatesOf (toOutputs k) ≡ gatesHeld h.gate_count
+  pub gates_led : (k : ℕ) → gates_of (to_outputs k) ≡ gates_held h.gate_count
   unfolding collect
-  gates-led k = pieces-silent gateIn (toGates h.gate_count) k (copyOutput h) (λ _. refl) ∙ gates-wired h.gate_count
+  gates_led k = pieces_silent gate_in (to_gates h.gate_count) k (copy_output h) (λ _. refl) ∙ gates_wired h.gate_count
 
-  pub outputs-led : (k : ℕ) → outputsOf (toOutputs k) ≡ outputsHeld k
+  pub outputs_led : (k : ℕ) → outputs_of (to_outputs k) ≡ outputs_held k
   unfolding collect
-  outputs-led k =
-      collect-then outputIn (toGates h.gate_count) k (copyOutput h)
-      ∙ ap (λ xs. xs ++ outputsHeld k)
-      (pieces-silent outputIn (toLimits (2 ^ h.n)) h.gate_count (copyGate h) (λ _. refl)
-      ∙ pieces-silent outputIn (toMarks (2 ^ h.n)) (2 ^ h.n) (copyLimit h) (limit-silent outputIn (λ _ _. refl))
-      ∙ pieces-silent outputIn toSizes (2 ^ h.n) (copyMark h) (mark-silent outputIn (λ _ _. refl) (λ _. refl)))
+  outputs_led k =
+      collect_then output_in (to_gates h.gate_count) k (copy_output h)
+      ∙ ap (λ xs. xs ++ outputs_held k)
+      (pieces_silent output_in (to_limits (2 ^ h.n)) h.gate_count (copy_gate h) (λ _. refl)
+      ∙ pieces_silent output_in (to_marks (2 ^ h.n)) (2 ^ h.n) (copy_limit h) (limit_silent output_in (λ _ _. refl))
+      ∙ pieces_silent output_in to_sizes (2 ^ h.n) (copy_mark h) (mark_silent output_in (λ _ _. refl) (λ _. refl)))
 
   -- what is said of a pattern alone: the gates and the outputs say nothing of it, nor do the sizes
-  module _ {A : Type 0} (says : Command → List A) (k : ℕ) (g : (i : ℕ) → collect says (copyGate h i) ≡ []) (o : (i : ℕ) → collect says (copyOutput h i) ≡ [])
+  module _ {A : Type 0} (says : Command → List A) (k : ℕ) (g : (i : ℕ) → collect says (copy_gate h i) ≡ []) (o : (i : ℕ) → collect says (copy_output h i) ≡ [])
       (z : says (Sizes h.n h.m) ≡ []) where
-    by-limits-too : collect says (toOutputs k) ≡ collect says (toLimits (2 ^ h.n))
-    by-limits-too =
-        pieces-silent says (toGates h.gate_count) k (copyOutput h) o ∙ pieces-silent says (toLimits (2 ^ h.n)) h.gate_count (copyGate h) g
+    by_limits_too : collect says (to_outputs k) ≡ collect says (to_limits (2 ^ h.n))
+    by_limits_too =
+        pieces_silent says (to_gates h.gate_count) k (copy_output h) o ∙ pieces_silent says (to_limits (2 ^ h.n)) h.gate_count (copy_gate h) g
 
     -- it is said by the marks, or by the limits
-    by-marks : ((i : ℕ) → collect says (copyLimit h i) ≡ []) → collect says (toOutputs k) ≡ listed (2 ^ h.n) (λ p. collect says (copyMark h p))
+    by_marks : ((i : ℕ) → collect says (copy_limit h i) ≡ []) → collect says (to_outputs k) ≡ listed (2 ^ h.n) (λ p. collect says (copy_mark h p))
     unfolding collect
-    by-marks l =
-        by-limits-too ∙ pieces-silent says (toMarks (2 ^ h.n)) (2 ^ h.n) (copyLimit h) l ∙ collect-then says toSizes (2 ^ h.n) (copyMark h) ∙ rw z
+    by_marks l =
+        by_limits_too ∙ pieces_silent says (to_marks (2 ^ h.n)) (2 ^ h.n) (copy_limit h) l ∙ collect_then says to_sizes (2 ^ h.n) (copy_mark h) ∙ rw z
 
-    by-limits : ((i : ℕ) → collect says (copyMark h i) ≡ []) → collect says (toOutputs k) ≡ listed (2 ^ h.n) (λ p. collect says (copyLimit h p))
+    by_limits : ((i : ℕ) → collect says (copy_mark h i) ≡ []) → collect says (to_outputs k) ≡ listed (2 ^ h.n) (λ p. collect says (copy_limit h p))
     unfolding collect
-    by-limits l =
-        by-limits-too ∙ collect-then says (toMarks (2 ^ h.n)) (2 ^ h.n) (copyLimit h)
-        ∙ ap (λ xs. xs ++ listed (2 ^ h.n) (λ p. collect says (copyLimit h p))) (pieces-silent says toSizes (2 ^ h.n) (copyMark h) l)
+    by_limits l =
+        by_limits_too ∙ collect_then says (to_marks (2 ^ h.n)) (2 ^ h.n) (copy_limit h)
+        ∙ ap (λ xs. xs ++ listed (2 ^ h.n) (λ p. collect says (copy_limit h p))) (pieces_silent says to_sizes (2 ^ h.n) (copy_mark h) l)
         ∙ rw z
 
-  pub rows-led : (p k : ℕ) → rowsOn p (toOutputs k) ≡ listed (2 ^ h.n) (λ q. collect (row_in p) (copyMark h q))
+  pub rows_led : (p k : ℕ) → rows_on p (to_outputs k) ≡ listed (2 ^ h.n) (λ q. collect (row_in p) (copy_mark h q))
   unfolding collect
-  rows-led p k = by-marks (row_in p) k (λ _. refl) (λ _. refl) refl (limit-silent (row_in p) (λ _ _. refl))
+  rows_led p k = by_marks (row_in p) k (λ _. refl) (λ _. refl) refl (limit_silent (row_in p) (λ _ _. refl))
 
-  pub dont-cares-led : (p k : ℕ) → dontCaresOn p (toOutputs k) ≡ listed (2 ^ h.n) (λ q. collect (dontCareIn p) (copyMark h q))
+  pub dont_cares_led : (p k : ℕ) → dont_cares_on p (to_outputs k) ≡ listed (2 ^ h.n) (λ q. collect (dont_care_in p) (copy_mark h q))
   unfolding collect
-  dont-cares-led p k = by-marks (dontCareIn p) k (λ _. refl) (λ _. refl) refl (limit-silent (dontCareIn p) (λ _ _. refl))
+  dont_cares_led p k = by_marks (dont_care_in p) k (λ _. refl) (λ _. refl) refl (limit_silent (dont_care_in p) (λ _ _. refl))
 
-  pub limits-led : (p k : ℕ) → limitsOn p (toOutputs k) ≡ listed (2 ^ h.n) (λ q. collect (limitIn p) (copyLimit h q))
+  pub limits_led : (p k : ℕ) → limits_on p (to_outputs k) ≡ listed (2 ^ h.n) (λ q. collect (limit_in p) (copy_limit h q))
   unfolding collect
-  limits-led p k = by-limits (limitIn p) k (λ _. refl) (λ _. refl) refl (mark-silent (limitIn p) (λ _ _. refl) (λ _. refl))
+  limits_led p k = by_limits (limit_in p) k (λ _. refl) (λ _. refl) refl (mark_silent (limit_in p) (λ _ _. refl) (λ _. refl))
 
 -- a mark says nothing of another pattern, nor does a limit
 module _ (h : Sheet) (p q : ℕ) (e : q ≡ p → ⊥) where
-  about-silent : {A : Type 0} (x : A) → about p q x ++ [] ≡ []
-  about-silent x = rw (about-other p q x e)
+  about_silent : {A : Type 0} (x : A) → about p q x ++ [] ≡ []
+  about_silent x = rw (about_other p q x e)
 
-  pub row_other : collect (row_in p) (copyMark h q) ≡ []
+  pub row_other : collect (row_in p) (copy_mark h q) ≡ []
   unfolding collect
-  row_other = cond_has (λ cs. collect (row_in p) cs ≡ []) (marksDontCare (get_or h.marks q 0)) (λ _. refl) (λ _. about-silent _)
+  row_other = cond_has (λ cs. collect (row_in p) cs ≡ []) (marks_dont_care (get_or h.marks q 0)) (λ _. refl) (λ _. about_silent _)
 
-  pub dont-care-other : collect (dontCareIn p) (copyMark h q) ≡ []
+  pub dont_care_other : collect (dont_care_in p) (copy_mark h q) ≡ []
   unfolding collect
-  dont-care-other = cond_has (λ cs. collect (dontCareIn p) cs ≡ []) (marksDontCare (get_or h.marks q 0)) (λ _. about-silent _) (λ _. refl)
+  dont_care_other = cond_has (λ cs. collect (dont_care_in p) cs ≡ []) (marks_dont_care (get_or h.marks q 0)) (λ _. about_silent _) (λ _. refl)
 
-  pub limit-other : collect (limitIn p) (copyLimit h q) ≡ []
+  pub limit_other : collect (limit_in p) (copy_limit h q) ≡ []
   unfolding collect
-  limit-other = cond_has (λ cs. collect (limitIn p) cs ≡ []) (permitsAll h.m (get_or h.limits q 0)) (λ _. refl) (λ _. about-silent _)
+  limit_other = cond_has (λ cs. collect (limit_in p) cs ≡ []) (permits_all h.m (get_or h.limits q 0)) (λ _. refl) (λ _. about_silent _)

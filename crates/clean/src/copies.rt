@@ -1,10 +1,10 @@
 // The copy of a sheet that was read, at the start of a lent buffer.
 // Inner function: `clean` has the sheet from its reader.
 ghost use Rattle.std.specs.Prelude.{◌≡◌, length};
-ghost use Rattle.base.specs.Buffers.{fitted, bufferWith};
-ghost use Rattle.base.specs.Cases.{writtenCase};
+ghost use Rattle.base.specs.Buffers.{fitted, buffer_with};
+ghost use Rattle.base.specs.Cases.{written_case};
 ghost use Rattle.reader.specs.Inner.WasRead.{WasRead};
-ghost use Rattle.clean.specs.Copy.{copyBytes};
+ghost use Rattle.clean.specs.Copy.{copy_bytes};
 
 use crate::lengths::copy_length;
 use crate::sections::put_copy;
@@ -14,7 +14,7 @@ use sheet::Sheet;
 // Writes the copy, unless the buffer is too short.
 pub fn write_copy(sheet: Sheet, buffer: &mut [u8]) -> Written
     requires { WasRead sheet }
-    ensures { (writtenCase result ≡ fitted (copyBytes sheet) (length buffer.old))
+    ensures { (written_case result ≡ fitted (copy_bytes sheet) (length buffer.old))
         × (buffer.new ≡ bufferWith (copyBytes sheet) buffer.old (fitted (copyBytes sheet) (length buffer.old))) }
 {
     let length = copy_length(sheet);

@@ -2,8 +2,8 @@
 // Inner functions: `write_copy` hands on the sheet that it is given.
 ghost use Rattle.std.specs.Prelude.{◌≡◌, ◌≤◌, length};
 ghost use Rattle.reader.specs.Inner.WasRead.{WasRead};
-ghost use Rattle.writer.specs.Inner.Widths.{longestCommand};
-ghost use Rattle.clean.specs.Copy.{copyBytes, markLength, limitLength, longestCopy};
+ghost use Rattle.writer.specs.Inner.Widths.{longest_command};
+ghost use Rattle.clean.specs.Copy.{copy_bytes, mark_length, limit_length, longest_copy};
 
 use crate::sections::permits_all;
 use sheet::Sheet;
@@ -21,7 +21,7 @@ pub const LONGEST_COPY: usize = SIZES_WIDTH
 
 // The bytes that a pattern's mark takes.
 fn mark_length(mark: u8) -> usize
-    ensures { (result ≡ markLength mark) × (result ≤ longestCommand) }
+    ensures { (result ≡ mark_length mark) × (result ≤ longest_command) }
 {
     if mark == Sheet::DONT_CARE {
         DONT_CARE_WIDTH
@@ -32,7 +32,7 @@ fn mark_length(mark: u8) -> usize
 
 // The bytes that a pattern's limit takes: none where its set is all values.
 fn limit_length(m: u8, set: u16) -> usize
-    ensures { (result ≡ limitLength m set) × (result ≤ longestCommand) }
+    ensures { (result ≡ limit_length m set) × (result ≤ longest_command) }
 {
     if permits_all(m, set) { 0 } else { LIMIT_WIDTH }
 }
@@ -40,7 +40,7 @@ fn limit_length(m: u8, set: u16) -> usize
 // The length of a sheet's copy.
 pub fn copy_length(sheet: Sheet) -> usize
     requires { WasRead sheet }
-    ensures { (result ≡ length (copyBytes sheet)) × (result ≤ longestCopy) }
+    ensures { (result ≡ length (copy_bytes sheet)) × (result ≤ longest_copy) }
 {
     let m = sheet.m;
     let marks = sheet.marks;

@@ -1,7 +1,7 @@
 // Clean copies of unit sheets: what a sheet says, written in one order.
 ghost use Rattle.std.specs.Prelude.{◌≡◌, length};
-ghost use Rattle.base.specs.Cases.{writtenCase};
-ghost use Rattle.clean.specs.Cleaned.{cleanedOf, bufferCleaned};
+ghost use Rattle.base.specs.Cases.{written_case};
+ghost use Rattle.clean.specs.Cleaned.{cleaned_of, buffer_cleaned};
 ghost use Rattle.clean.specs.CleanCopy.{CleanPromise};
 
 use base::{Verdict, Written};
@@ -16,9 +16,9 @@ pub use lengths::LONGEST_COPY;
 
 // Reads a sheet and writes its clean copy to the front of the buffer; what is behind the copy is left alone, and a refusal leaves every byte.
 pub fn clean(sheet: &[u8], buffer: &mut [u8]) -> Written
-    ensures reply { writtenCase result ≡ cleanedOf sheet.now (length buffer.old) }
-    ensures bytes { buffer.new ≡ bufferCleaned sheet.now buffer.old }
-    ensures copy { CleanPromise sheet.now (writtenCase result) buffer.new }
+    ensures reply { written_case result ≡ cleaned_of sheet.now (length buffer.old) }
+    ensures bytes { buffer.new ≡ buffer_cleaned sheet.now buffer.old }
+    ensures copy { CleanPromise sheet.now (written_case result) buffer.new }
 {
     let reply = read_sheet(sheet);
     let answer = reply.answer;

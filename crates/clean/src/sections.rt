@@ -2,11 +2,11 @@
 // Inner functions: `write_copy` hands on the sheet that it is given; the bounds on places are there for the sums alone.
 ghost use Rattle.std.specs.Prelude.{◌≡◌, ◌+◌, ◌*◌, ◌≤◌, get_or};
 ghost use Rattle.std.proofs.lemmas.List.Edits.{sets};
-ghost use Rattle.base.specs.Inner.Put.{PutWithin, lastPlace};
+ghost use Rattle.base.specs.Inner.Put.{PutWithin, last_place};
 ghost use Rattle.sheet.specs.Bytes.{bytes_of};
 ghost use Rattle.reader.specs.Inner.WasRead.{WasRead};
-ghost use Rattle.writer.specs.Inner.Widths.{longestCommand};
-ghost use Rattle.clean.specs.Copy.{listed, permitsAll, copyMark, copyLimit, copyGate, copyOutput, copyBytes};
+ghost use Rattle.writer.specs.Inner.Widths.{longest_command};
+ghost use Rattle.clean.specs.Copy.{listed, permits_all, copy_mark, copy_limit, copy_gate, copy_output, copy_bytes};
 ghost use Rattle.clean.specs.Inner.Sections.{piece_of};
 
 use base::byte_at;
@@ -25,8 +25,8 @@ enum Section {
 
 // Puts a pattern's 02 or 03.
 fn put_mark(out: &mut [u8], at: usize, sheet: Sheet, p: u8) -> usize
-    requires { at + longestCommand ≤ lastPlace }
-    ensures { PutWithin longestCommand out.old at (bytes_of (copyMark sheet p)) out.new result }
+    requires { at + longest_command ≤ last_place }
+    ensures { PutWithin longest_command out.old at (bytes_of (copy_mark sheet p)) out.new result }
 {
     let marks = sheet.marks;
     if byte_at(&marks, p as usize) == Sheet::DONT_CARE {
@@ -50,7 +50,7 @@ fn set_at(limits: [u16; Sheet::MAX_PATTERNS], i: usize) -> u16
 
 // Whether a set has every value of m wires, so that it limits nothing.
 pub(crate) fn permits_all(m: u8, set: u16) -> bool
-    ensures { result ≡ permitsAll m set }
+    ensures { result ≡ permits_all m set }
 {
     let all = all_ones(m);
     set == all
@@ -58,8 +58,8 @@ pub(crate) fn permits_all(m: u8, set: u16) -> bool
 
 // Puts a pattern's 06, unless its set is all values.
 fn put_limit(out: &mut [u8], at: usize, sheet: Sheet, p: u8) -> usize
-    requires { at + longestCommand ≤ lastPlace }
-    ensures { PutWithin longestCommand out.old at (bytes_of (copyLimit sheet p)) out.new result }
+    requires { at + longest_command ≤ last_place }
+    ensures { PutWithin longest_command out.old at (bytes_of (copy_limit sheet p)) out.new result }
 {
     let limits = sheet.limits;
     let set = set_at(limits, p as usize);
@@ -71,8 +71,8 @@ fn put_limit(out: &mut [u8], at: usize, sheet: Sheet, p: u8) -> usize
 
 // Puts a gate.
 fn put_gate(out: &mut [u8], at: usize, sheet: Sheet, i: u8) -> usize
-    requires { at + longestCommand ≤ lastPlace }
-    ensures { PutWithin longestCommand out.old at (bytes_of (copyGate sheet i)) out.new result }
+    requires { at + longest_command ≤ last_place }
+    ensures { PutWithin longest_command out.old at (bytes_of (copy_gate sheet i)) out.new result }
 {
     let kinds = sheet.kinds;
     let lefts = sheet.lefts;
@@ -85,8 +85,8 @@ fn put_gate(out: &mut [u8], at: usize, sheet: Sheet, i: u8) -> usize
 
 // Puts an output.
 fn put_output(out: &mut [u8], at: usize, sheet: Sheet, i: u8) -> usize
-    requires { at + longestCommand ≤ lastPlace }
-    ensures { PutWithin longestCommand out.old at (bytes_of (copyOutput sheet i)) out.new result }
+    requires { at + longest_command ≤ last_place }
+    ensures { PutWithin longest_command out.old at (bytes_of (copy_output sheet i)) out.new result }
 {
     let signals = sheet.signals;
     let s = byte_at(&signals, i as usize);
@@ -95,8 +95,8 @@ fn put_output(out: &mut [u8], at: usize, sheet: Sheet, i: u8) -> usize
 
 // Puts what a section has for a pattern, a gate or an output.
 fn put_piece(out: &mut [u8], at: usize, sheet: Sheet, section: Section, i: u8) -> usize
-    requires { at + longestCommand ≤ lastPlace }
-    ensures { PutWithin longestCommand out.old at (bytes_of (piece_of section sheet i)) out.new result }
+    requires { at + longest_command ≤ last_place }
+    ensures { PutWithin longest_command out.old at (bytes_of (piece_of section sheet i)) out.new result }
 {
     match section {
         Section::Marks => put_mark(out, at, sheet, i),
@@ -108,8 +108,8 @@ fn put_piece(out: &mut [u8], at: usize, sheet: Sheet, section: Section, i: u8) -
 
 // Puts a section: so many patterns, gates or outputs, one after the other.
 fn put_section(out: &mut [u8], at: usize, sheet: Sheet, section: Section, count: u8) -> usize
-    requires { at + longestCommand * count ≤ lastPlace }
-    ensures { PutWithin (longestCommand * count) out.old at (bytes_of (listed count (piece_of section sheet))) out.new result }
+    requires { at + longest_command * count ≤ last_place }
+    ensures { PutWithin (longest_command * count) out.old at (bytes_of (listed count (piece_of section sheet))) out.new result }
 {
     let mut next = at;
     let mut i: u8 = 0;
@@ -123,7 +123,7 @@ fn put_section(out: &mut [u8], at: usize, sheet: Sheet, section: Section, count:
 // Puts the copy of a sheet. Bytes that find no room are dropped.
 pub fn put_copy(out: &mut [u8], sheet: Sheet)
     requires { WasRead sheet }
-    ensures { out.new ≡ sets out.old 0 (copyBytes sheet) }
+    ensures { out.new ≡ sets out.old 0 (copy_bytes sheet) }
 {
     let patterns = patterns_of(sheet.n);
     let sizes = Command::Sizes {

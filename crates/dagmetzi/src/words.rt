@@ -9,12 +9,12 @@ use nodes::BoardKind;
 use printed::{LONGEST_SHEET, audit_reply, clean_reply, joined_reply, quote_reply};
 use report::{LONGEST_COPY_LINE, LONGEST_REPORT};
 
-// One byte more than the longest sheet is enough to tell one that is too long (printed/proofs/Printing, `quote-front`, `audit-front`, `clean-front`,
-// `joined-front`).
+// One byte more than the longest sheet is enough to tell one that is too long (printed/proofs/Printing, `quote_front`, `audit_front`, `clean_front`,
+// `joined_front`).
 const SHEET_ROOM: usize = LONGEST_SHEET + 1;
 
 // Of a stage's file the front is read. Reading a stage looks at no byte past the one after the longest stage, which is one of diagrams, so that the bytes left
-// out change nothing of the reply (printed/proofs/Printing, `stage-front`).
+// out change nothing of the reply (printed/proofs/Printing, `stage_front`).
 const STAGE_ROOM: usize = LONGEST_DIAGRAMS + 1;
 
 // The words whose first name is a sheet's.

@@ -4,12 +4,12 @@ use Rattle.nodes.specs.declared.BoardKind.TheVariants.{Tree, Sharing}
 use Rattle.table.specs.Drawing.{Drawing}
 use Rattle.stage.specs.Form.{StageForm}
 use Rattle.stage.specs.Read.{drawing}
-use Rattle.stage.specs.Trees.{treeForm}
-use Rattle.diagram.specs.Diagrams.{diagramForm}
+use Rattle.stage.specs.Trees.{tree_form}
+use Rattle.diagram.specs.Diagrams.{diagram_form}
 
 abbrev pub form_of : BoardKind → StageForm
-form_of Tree = treeForm
-form_of Sharing = diagramForm
+form_of Tree = tree_form
+form_of Sharing = diagram_form
 
-abbrev pub drawingOf : BoardKind → Drawing
-drawingOf kind = drawing (form_of kind)
+abbrev pub drawing_of : BoardKind → Drawing
+drawing_of kind = drawing (form_of kind)

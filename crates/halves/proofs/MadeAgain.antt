@@ -10,96 +10,96 @@ use lib.Arith.{digits_div, digits_mod}
 use lib.Dec.{T, T_not, eqb, eqb→eq, ltb, ltb→lt, nltb→le}
 use lib.Pow.{pow_mono, pow_pos}
 use lib.ListN.{get_or}
-use Rattle.base.proofs.Tests.{cond_has, decide, eq_test, eqb_yes, eqb-not, test-yes, test-no}
-use Rattle.base.proofs.Lowest.{lowest-is}
-use Rattle.sheet.specs.Limits.{maxInputs, maxWires}
+use Rattle.base.proofs.Tests.{cond_has, decide, eq_test, eqb_yes, eqb_not, test_yes, test_no}
+use Rattle.base.proofs.Lowest.{lowest_is}
+use Rattle.sheet.specs.Limits.{max_inputs, max_wires}
 use Rattle.table.specs.Bits.{sum}
-use Rattle.table.proofs.Bits.{sum-cong}
-use Rattle.table.proofs.Sums.{sum-le, sum_bound}
-use Rattle.table.specs.Inner.Ranks.{narrowSpace}
+use Rattle.table.proofs.Bits.{sum_cong}
+use Rattle.table.proofs.Sums.{sum_le, sum_bound}
+use Rattle.table.specs.Inner.Ranks.{narrow_space}
 use Rattle.table.specs.Inner.Wide.{sections}
 use Rattle.relation.specs.Inner.Side.{section}
-use Rattle.relation.proofs.Side.{section-lt}
-use Rattle.lanes.specs.Inner.Lanes.{laneBits, laneSpace, lanesSpace, lane_of, lanes_of, putLane, firstWire, LanesBelow}
-use Rattle.lanes.proofs.Lanes.{lane-lt, lane-lanes, lanes-cong, lanes-back, put-lane-at, put-lane-lt, put-lane-below}
-use Rattle.lanes.proofs.First.{first-lt}
-use Rattle.parts.specs.Inner.Boards.{lentKind, lentInputs, lentWide, Lent}
-use Rattle.parts.specs.Inner.Cells.{cellSpace, byteIn, putCells, packed, cellsSum}
-use Rattle.parts.specs.Inner.Picks.{pickOn, cellsOn, sideRank}
-use Rattle.parts.specs.Inner.States.{cellsPlace, restPlace, SameBut, PutRest}
-use Rattle.parts.proofs.CellBytes.{packed_lt, packed_byte, packed-put}
-use Rattle.parts.proofs.Keeping.{count-few, count-byte}
-use Rattle.parts.proofs.LentPicks.{lent-few}
-use Rattle.visits.proofs.StateChanges.{but-trans}
+use Rattle.relation.proofs.Side.{section_lt}
+use Rattle.lanes.specs.Inner.Lanes.{lane_bits, lane_space, lanes_space, lane_of, lanes_of, put_lane, first_wire, LanesBelow}
+use Rattle.lanes.proofs.Lanes.{lane_lt, lane_lanes, lanes_cong, lanes_back, put_lane_at, put_lane_lt, put_lane_below}
+use Rattle.lanes.proofs.First.{first_lt}
+use Rattle.parts.specs.Inner.Boards.{lent_kind, lent_inputs, lent_wide, Lent}
+use Rattle.parts.specs.Inner.Cells.{cell_space, byte_in, put_cells, packed, cells_sum}
+use Rattle.parts.specs.Inner.Picks.{pick_on, cells_on, side_rank}
+use Rattle.parts.specs.Inner.States.{cells_place, rest_place, SameBut, PutRest}
+use Rattle.parts.proofs.CellBytes.{packed_lt, packed_byte, packed_put}
+use Rattle.parts.proofs.Keeping.{count_few, count_byte}
+use Rattle.parts.proofs.LentPicks.{lent_few}
+use Rattle.visits.proofs.StateChanges.{but_trans}
 use Rattle.halves.specs.declared.Picks.{Picks}
-use Rattle.halves.specs.Inner.Remade.{marked, FewCells, cellsAgain, sideAgain, Remade}
+use Rattle.halves.specs.Inner.Remade.{marked, FewCells, cells_again, side_again, Remade}
 
 -- cells are what their bytes make: digit by digit
-digit : (x : ℕ) → x % cellSpace + x / cellSpace * cellSpace ≡ x
+digit : (x : ℕ) → x % cell_space + x / cell_space * cell_space ≡ x
 digit x = omega arith
 
-packed-back : (c : ℕ) → c < cellSpace ^ maxWires → packed (byteIn c) ≡ c
-unfolding packed byteIn sum
-packed-back c l =
-    let b : c / cellSpace / cellSpace ≡ c / cellSpace ^ 2 = div-div-eq-div-mul c cellSpace cellSpace in
-    let d : c / cellSpace ^ 2 / cellSpace ≡ c / cellSpace ^ 3 = div-div-eq-div-mul c (cellSpace ^ 2) cellSpace in
-    let top : c / cellSpace ^ 3 % cellSpace ≡ c / cellSpace ^ 3 = mod-eq_of_lt (omega arith) in
-    let one : c / cellSpace ^ 0 % cellSpace ≡ c % cellSpace = omega arith in
-    let d1 : c / cellSpace % cellSpace + c / cellSpace ^ 2 * cellSpace ≡ c / cellSpace = ap (λ x. c / cellSpace % cellSpace + x * cellSpace) (sym b) ∙ digit (c / cellSpace) in
-    let d2 : c / cellSpace ^ 2 % cellSpace + c / cellSpace ^ 3 * cellSpace ≡ c / cellSpace ^ 2 = ap (λ x. c / cellSpace ^ 2 % cellSpace + x * cellSpace) (sym d) ∙ digit (c / cellSpace ^ 2) in
-    join (c / cellSpace ^ 0 % cellSpace) (c / cellSpace % cellSpace) (c / cellSpace ^ 2 % cellSpace) (c / cellSpace ^ 3 % cellSpace) c (c / cellSpace) (c / cellSpace ^ 2) (c / cellSpace ^ 3)
-    (ap (λ x. x + c / cellSpace * cellSpace) one ∙ digit c) d1 d2 top
+packed_back : (c : ℕ) → c < cell_space ^ max_wires → packed (byte_in c) ≡ c
+unfolding packed byte_in sum
+packed_back c l =
+    let b : c / cell_space / cell_space ≡ c / cell_space ^ 2 = div-div-eq-div-mul c cell_space cell_space in
+    let d : c / cell_space ^ 2 / cell_space ≡ c / cell_space ^ 3 = div-div-eq-div-mul c (cell_space ^ 2) cell_space in
+    let top : c / cell_space ^ 3 % cell_space ≡ c / cell_space ^ 3 = mod-eq_of_lt (omega arith) in
+    let one : c / cell_space ^ 0 % cell_space ≡ c % cell_space = omega arith in
+    let d1 : c / cell_space % cell_space + c / cell_space ^ 2 * cell_space ≡ c / cell_space = ap (λ x. c / cell_space % cell_space + x * cell_space) (sym b) ∙ digit (c / cell_space) in
+    let d2 : c / cell_space ^ 2 % cell_space + c / cell_space ^ 3 * cell_space ≡ c / cell_space ^ 2 = ap (λ x. c / cell_space ^ 2 % cell_space + x * cell_space) (sym d) ∙ digit (c / cell_space ^ 2) in
+    join (c / cell_space ^ 0 % cell_space) (c / cell_space % cell_space) (c / cell_space ^ 2 % cell_space) (c / cell_space ^ 3 % cell_space) c (c / cell_space) (c / cell_space ^ 2) (c / cell_space ^ 3)
+    (ap (λ x. x + c / cell_space * cell_space) one ∙ digit c) d1 d2 top
   where
-    join : (w x y z c a b d : ℕ) → w + a * cellSpace ≡ c → x + b * cellSpace ≡ a → y + d * cellSpace ≡ b → z ≡ d
-        → 0 + w * cellSpace ^ 0 + x * cellSpace ^ 1 + y * cellSpace ^ 2 + z * cellSpace ^ 3 ≡ c
+    join : (w x y z c a b d : ℕ) → w + a * cell_space ≡ c → x + b * cell_space ≡ a → y + d * cell_space ≡ b → z ≡ d
+        → 0 + w * cell_space ^ 0 + x * cell_space ^ 1 + y * cell_space ^ 2 + z * cell_space ^ 3 ≡ c
     join w x y z c a b d e0 e1 e2 e3 = omega arith
 
-byte-lt : (c j : ℕ) → byteIn c j < cellSpace
-unfolding byteIn
-byte-lt c j = mod-lt (c / cellSpace ^ j) (omega arith)
+byte_lt : (c j : ℕ) → byte_in c j < cell_space
+unfolding byte_in
+byte_lt c j = mod-lt (c / cell_space ^ j) (omega arith)
 
 -- past the last wire a number has no lane
-lane_past : (x i : ℕ) → x < lanesSpace → maxWires ≤ i → lane_of x i ≡ 0
+lane_past : (x i : ℕ) → x < lanes_space → max_wires ≤ i → lane_of x i ≡ 0
 unfolding lane_of
 lane_past x i lx li =
-    let big : lanesSpace ≤ 2 ^ (laneBits * i) = pow_mono {i = laneBits * maxWires} {j = laneBits * i} (omega arith) in
-    ap (λ y. y % laneSpace) (div-eq_of_lt (lt_of_lt_of_le lx big))
+    let big : lanes_space ≤ 2 ^ (lane_bits * i) = pow_mono {i = lane_bits * max_wires} {j = lane_bits * i} (omega arith) in
+    ap (λ y. y % lane_space) (div-eq_of_lt (lt_of_lt_of_le lx big))
 
-pub lane-zero : (j : ℕ) → lane_of 0 j ≡ 0
+pub lane_zero : (j : ℕ) → lane_of 0 j ≡ 0
 unfolding lane_of
-lane-zero j = ap (λ y. y % laneSpace) (div-eq_of_lt (pow_pos (laneBits * j)))
+lane_zero j = ap (λ y. y % lane_space) (div-eq_of_lt (pow_pos (lane_bits * j)))
 
 module _ (e words : List ℕ) (wires tables cells : ℕ) (before : List ℕ) where
   -- wire j's table on section q, and its cells, while the wires of `left` are not made yet
-  abbrev sideNow : (left side q j : ℕ) → ℕ
-  sideNow left side q j = cond (marked left j) (lane_of side j) (sideAgain e words wires side q j)
+  abbrev side_now : (left side q j : ℕ) → ℕ
+  side_now left side q j = cond (marked left j) (lane_of side j) (side_again e words wires side q j)
 
-  abbrev cellsNow : (left j : ℕ) → ℕ
-  cellsNow left j = cond (marked left j) (byteIn cells j) (cellsAgain e words wires cells j)
+  abbrev cells_now : (left j : ℕ) → ℕ
+  cells_now left j = cond (marked left j) (byte_in cells j) (cells_again e words wires cells j)
 
   pub record Partly (state : List ℕ) (left low all : ℕ) : Type 0 where
     pub but : SameBut before state
     pub bits : LanesBelow 2 left
-    pub within : left < lanesSpace
-    pub among : (j : ℕ) → j < maxWires → T (marked left j) → T (marked wires j)
-    pub sides : low ≡ lanes_of (sideNow left tables 0)
+    pub within : left < lanes_space
+    pub among : (j : ℕ) → j < max_wires → T (marked left j) → T (marked wires j)
+    pub sides : low ≡ lanes_of (side_now left tables 0)
     pub rest : (q : ℕ) → 1 ≤ q → q < sections
-        → get_or state (restPlace q) 0 ≡ cond (lentWide e) (lanes_of (sideNow left (get_or before (restPlace q) 0) q)) (get_or before (restPlace q) 0)
-    pub counts : all ≡ packed (cellsNow left)
+        → get_or state (rest_place q) 0 ≡ cond (lent_wide e) (lanes_of (side_now left (get_or before (rest_place q) 0) q)) (get_or before (rest_place q) 0)
+    pub counts : all ≡ packed (cells_now left)
 
-  side-small : (left side q j : ℕ) → sideNow left side q j < laneSpace
-  side-small left side q j =
-      cond_has (λ x. x < laneSpace) (marked left j) (λ _. lane-lt side j)
-      (λ _. cond_has (λ x. x < laneSpace) (marked wires j) (λ _. section-lt (pickOn e words j) q) (λ _. lane-lt side j))
+  side_small : (left side q j : ℕ) → side_now left side q j < lane_space
+  side_small left side q j =
+      cond_has (λ x. x < lane_space) (marked left j) (λ _. lane_lt side j)
+      (λ _. cond_has (λ x. x < lane_space) (marked wires j) (λ _. section_lt (pick_on e words j) q) (λ _. lane_lt side j))
 
   -- at the start nothing is made again
-  side-first : (side q j : ℕ) → lane_of side j ≡ sideNow wires side q j
-  side-first side q j = cond_has (λ x. lane_of side j ≡ x) (marked wires j) (λ _. refl) (λ t. sym (ap (λ y. cond y (section (pickOn e words j) q) (lane_of side j)) (test-no (marked wires j) t)))
+  side_first : (side q j : ℕ) → lane_of side j ≡ side_now wires side q j
+  side_first side q j = cond_has (λ x. lane_of side j ≡ x) (marked wires j) (λ _. refl) (λ t. sym (ap (λ y. cond y (section (pick_on e words j) q) (lane_of side j)) (test_no (marked wires j) t)))
 
-  cells-first : (j : ℕ) → byteIn cells j ≡ cellsNow wires j
-  cells-first j = cond_has (λ x. byteIn cells j ≡ x) (marked wires j) (λ _. refl) (λ t. sym (ap (λ y. cond y (cellsOn e words j) (byteIn cells j)) (test-no (marked wires j) t)))
+  cells_first : (j : ℕ) → byte_in cells j ≡ cells_now wires j
+  cells_first j = cond_has (λ x. byte_in cells j ≡ x) (marked wires j) (λ _. refl) (λ t. sym (ap (λ y. cond y (cells_on e words j) (byte_in cells j)) (test_no (marked wires j) t)))
 
-  pub none_yet : LanesBelow 2 wires → wires < lanesSpace → tables < lanesSpace → FewCells cells → SameBut before before → ((q : ℕ) → 1 ≤ q → q < sections → get_or before (restPlace q) 0 < lanesSpace)
+  pub none_yet : LanesBelow 2 wires → wires < lanes_space → tables < lanes_space → FewCells cells → SameBut before before → ((q : ℕ) → 1 ≤ q → q < sections → get_or before (rest_place q) 0 < lanes_space)
       → Partly before wires tables cells
   unfolding packed
   none_yet bits within lt few but fit =
@@ -108,176 +108,176 @@ module _ (e words : List ℕ) (wires tables cells : ℕ) (before : List ℕ) whe
         bits = bits;
         within = within;
         among = λ j _ t. t;
-        sides = sym (lanes-back tables lt) ∙ lanes-cong (lane_of tables) (sideNow wires tables 0) (λ j _. side-first tables 0 j);
+        sides = sym (lanes_back tables lt) ∙ lanes_cong (lane_of tables) (side_now wires tables 0) (λ j _. side_first tables 0 j);
         rest = λ q l1 lq.
-            let x = get_or before (restPlace q) 0 in
-            cond_has (λ y. x ≡ y) (lentWide e) (λ _. sym (lanes-back x (fit q l1 lq)) ∙ lanes-cong (lane_of x) (sideNow wires x q) (λ j _. side-first x q j)) (λ _. refl);
-        counts = sym (packed-back cells few.0)
-            ∙ sum-cong maxWires (λ j. byteIn cells j * cellSpace ^ j) (λ j. cellsNow wires j * cellSpace ^ j) (λ j _. ap (λ y. y * cellSpace ^ j) (cells-first j));
+            let x = get_or before (rest_place q) 0 in
+            cond_has (λ y. x ≡ y) (lent_wide e) (λ _. sym (lanes_back x (fit q l1 lq)) ∙ lanes_cong (lane_of x) (side_now wires x q) (λ j _. side_first x q j)) (λ _. refl);
+        counts = sym (packed_back cells few.0)
+            ∙ sum_cong max_wires (λ j. byte_in cells j * cell_space ^ j) (λ j. cells_now wires j * cell_space ^ j) (λ j _. ap (λ y. y * cell_space ^ j) (cells_first j));
       }
 
   -- the cells are few
   module _ (lent : Lent e) (few : FewCells cells) where
-    pub cells-few : (j : ℕ) → cellsOn e words j < 2 ^ maxInputs
-    cells-few j = count-few (lentKind e) (lentInputs e) (pickOn e words j) (lent-few e lent)
+    pub cells_few : (j : ℕ) → cells_on e words j < 2 ^ max_inputs
+    cells_few j = count_few (lent_kind e) (lent_inputs e) (pick_on e words j) (lent_few e lent)
 
     -- as they come in the number of a pick
-    pub found-byte : (j : ℕ) {r : ℕ} → r ≡ sideRank e words j → r / narrowSpace < cellSpace
-    found-byte j er =
-        rw (ap (λ y. y / narrowSpace) er ∙ digits_div (cellsOn e words j) (section-lt (pickOn e words j) 0))
-        (count-byte (lentKind e) (lentInputs e) (pickOn e words j) (lent-few e lent))
+    pub found_byte : (j : ℕ) {r : ℕ} → r ≡ side_rank e words j → r / narrow_space < cell_space
+    found_byte j er =
+        rw (ap (λ y. y / narrow_space) er ∙ digits_div (cells_on e words j) (section_lt (pick_on e words j) 0))
+        (count_byte (lent_kind e) (lent_inputs e) (pick_on e words j) (lent_few e lent))
 
-    now-few : (left j : ℕ) → j < maxWires → cellsNow left j < 2 ^ maxInputs
-    now-few left j lj =
-        cond_has (λ x. x < 2 ^ maxInputs) (marked left j) (λ _. few.1 j lj) (λ _. cond_has (λ x. x < 2 ^ maxInputs) (marked wires j) (λ _. cells-few j) (λ _. few.1 j lj))
+    now_few : (left j : ℕ) → j < max_wires → cells_now left j < 2 ^ max_inputs
+    now_few left j lj =
+        cond_has (λ x. x < 2 ^ max_inputs) (marked left j) (λ _. few.1 j lj) (λ _. cond_has (λ x. x < 2 ^ max_inputs) (marked wires j) (λ _. cells_few j) (λ _. few.1 j lj))
 
-    now-byte : (left j : ℕ) → cellsNow left j < cellSpace
-    now-byte left j =
-        cond_has (λ x. x < cellSpace) (marked left j) (λ _. byte-lt cells j)
-        (λ _. cond_has (λ x. x < cellSpace) (marked wires j) (λ _. count-byte (lentKind e) (lentInputs e) (pickOn e words j) (lent-few e lent)) (λ _. byte-lt cells j))
+    now_byte : (left j : ℕ) → cells_now left j < cell_space
+    now_byte left j =
+        cond_has (λ x. x < cell_space) (marked left j) (λ _. byte_lt cells j)
+        (λ _. cond_has (λ x. x < cell_space) (marked wires j) (λ _. count_byte (lent_kind e) (lent_inputs e) (pick_on e words j) (lent_few e lent)) (λ _. byte_lt cells j))
 
     -- all cells together
-    now-sum : (left : ℕ) → cellsSum (packed (cellsNow left)) ≡ sum maxWires (cellsNow left)
-    unfolding cellsSum
-    now-sum left = sum-cong maxWires (byteIn (packed (cellsNow left))) (cellsNow left) (packed_byte (cellsNow left) (now-byte left))
+    now_sum : (left : ℕ) → cells_sum (packed (cells_now left)) ≡ sum max_wires (cells_now left)
+    unfolding cells_sum
+    now_sum left = sum_cong max_wires (byte_in (packed (cells_now left))) (cells_now left) (packed_byte (cells_now left) (now_byte left))
 
-    pub now-fit : {state : List ℕ} {left low all : ℕ} → Partly state left low all → (all < cellSpace ^ maxWires) × (cellsSum all < cellSpace)
-    now-fit {left = left} h =
-        let s = sum_bound maxWires (2 ^ maxInputs - 1) (cellsNow left) (λ j lj. omega (arith, now-few left j lj)) in
-        (rw h.counts (packed_lt (cellsNow left) (now-byte left)), rw h.counts (omega (arith, s, now-sum left)))
+    pub now_fit : {state : List ℕ} {left low all : ℕ} → Partly state left low all → (all < cell_space ^ max_wires) × (cells_sum all < cell_space)
+    now_fit {left = left} h =
+        let s = sum_bound max_wires (2 ^ max_inputs - 1) (cells_now left) (λ j lj. omega (arith, now_few left j lj)) in
+        (rw h.counts (packed_lt (cells_now left) (now_byte left)), rw h.counts (omega (arith, s, now_sum left)))
 
     -- the first wire that is left is made again
     module _ {state : List ℕ} {left low all : ℕ} (h : Partly state left low all) (some : 0 < left) where
       abbrev j : ℕ
-      j = firstWire left
+      j = first_wire left
 
-      pub wire-lt : j < maxWires
-      wire-lt = first-lt left h.within h.bits some
+      pub wire_lt : j < max_wires
+      wire_lt = first_lt left h.within h.bits some
 
-      is-left : T (marked left j)
-      is-left = lowest-is maxWires (λ i. eqb (lane_of left i) 1) wire-lt
+      is_left : T (marked left j)
+      is_left = lowest_is max_wires (λ i. eqb (lane_of left i) 1) wire_lt
 
       abbrev next : ℕ
-      next = putLane left j 0
+      next = put_lane left j 0
 
       -- it is left no more, and every other as before
-      now-made : lane_of next j ≡ 0
-      now-made = put-lane-at left j 0 j (omega arith) wire-lt ∙ eqb_yes j j 0 (lane_of left j) refl
+      now_made : lane_of next j ≡ 0
+      now_made = put_lane_at left j 0 j (omega arith) wire_lt ∙ eqb_yes j j 0 (lane_of left j) refl
 
       as_before : (i : ℕ) → (i ≡ j → ⊥) → lane_of next i ≡ lane_of left i
       as_before i ne =
-          ⊎_elim (λ t. put-lane-at left j 0 i (omega arith) (ltb→lt i maxWires t) ∙ eqb-not i j 0 (lane_of left i) ne)
-          (λ t. let l = nltb→le i maxWires t in lane_past next i (put-lane-lt left j 0 (omega arith)) l ∙ sym (lane_past left i h.within l))
-          (decide (ltb i maxWires))
+          ⊎_elim (λ t. put_lane_at left j 0 i (omega arith) (ltb→lt i max_wires t) ∙ eqb_not i j 0 (lane_of left i) ne)
+          (λ t. let l = nltb→le i max_wires t in lane_past next i (put_lane_lt left j 0 (omega arith)) l ∙ sym (lane_past left i h.within l))
+          (decide (ltb i max_wires))
 
-      side-made : (side q : ℕ) → section (pickOn e words j) q ≡ sideNow next side q j
-      side-made side q =
-          sym (ap (λ y. cond (eqb y 1) (lane_of side j) (sideAgain e words wires side q j)) now-made
-          ∙ ap (λ y. cond y (section (pickOn e words j) q) (lane_of side j)) (test-yes (marked wires j) (h.among j wire-lt is-left)))
+      side_made : (side q : ℕ) → section (pick_on e words j) q ≡ side_now next side q j
+      side_made side q =
+          sym (ap (λ y. cond (eqb y 1) (lane_of side j) (side_again e words wires side q j)) now_made
+          ∙ ap (λ y. cond y (section (pick_on e words j) q) (lane_of side j)) (test_yes (marked wires j) (h.among j wire_lt is_left)))
 
-      cells-made : cellsNow next j ≡ cellsOn e words j
-      cells-made =
-          ap (λ y. cond (eqb y 1) (byteIn cells j) (cellsAgain e words wires cells j)) now-made
-          ∙ ap (λ y. cond y (cellsOn e words j) (byteIn cells j)) (test-yes (marked wires j) (h.among j wire-lt is-left))
+      cells_made : cells_now next j ≡ cells_on e words j
+      cells_made =
+          ap (λ y. cond (eqb y 1) (byte_in cells j) (cells_again e words wires cells j)) now_made
+          ∙ ap (λ y. cond y (cells_on e words j) (byte_in cells j)) (test_yes (marked wires j) (h.among j wire_lt is_left))
 
       -- a number of lanes with this wire's put in
-      lane_made : (side q : ℕ) → putLane (lanes_of (sideNow left side q)) j (section (pickOn e words j) q) ≡ lanes_of (sideNow next side q)
-      unfolding putLane
+      lane_made : (side q : ℕ) → put_lane (lanes_of (side_now left side q)) j (section (pick_on e words j) q) ≡ lanes_of (side_now next side q)
+      unfolding put_lane
       lane_made side q =
-          lanes-cong (λ i. cond (eqb i j) (section (pickOn e words j) q) (lane_of (lanes_of (sideNow left side q)) i)) (sideNow next side q)
+          lanes_cong (λ i. cond (eqb i j) (section (pick_on e words j) q) (lane_of (lanes_of (side_now left side q)) i)) (side_now next side q)
           (λ i li.
           ⊎_elim
           (λ t.
           let d = eqb→eq i j t in
-          eqb_yes i j (section (pickOn e words j) q) (lane_of (lanes_of (sideNow left side q)) i) d ∙ side-made side q ∙ ap (sideNow next side q) (sym d))
+          eqb_yes i j (section (pick_on e words j) q) (lane_of (lanes_of (side_now left side q)) i) d ∙ side_made side q ∙ ap (side_now next side q) (sym d))
           (λ t.
           let ne : i ≡ j → ⊥ = λ d. T_not (eqb i j) t (eq_test d) in
-          eqb-not i j (section (pickOn e words j) q) (lane_of (lanes_of (sideNow left side q)) i) ne ∙ lane-lanes (sideNow left side q) (λ k _. side-small left side q k) i li
-          ∙ ap (λ y. cond (eqb y 1) (lane_of side i) (sideAgain e words wires side q i)) (sym (as_before i ne)))
+          eqb_not i j (section (pick_on e words j) q) (lane_of (lanes_of (side_now left side q)) i) ne ∙ lane_lanes (side_now left side q) (λ k _. side_small left side q k) i li
+          ∙ ap (λ y. cond (eqb y 1) (lane_of side i) (side_again e words wires side q i)) (sym (as_before i ne)))
           (decide (eqb i j)))
 
       -- the cells in the code's number
-      found-cells : {r : ℕ} → r ≡ sideRank e words j → r / narrowSpace ≡ cellsOn e words j
-      found-cells er = ap (λ y. y / narrowSpace) er ∙ digits_div (cellsOn e words j) (section-lt (pickOn e words j) 0)
+      found_cells : {r : ℕ} → r ≡ side_rank e words j → r / narrow_space ≡ cells_on e words j
+      found_cells er = ap (λ y. y / narrow_space) er ∙ digits_div (cells_on e words j) (section_lt (pick_on e words j) 0)
 
-      found_side : {r : ℕ} → r ≡ sideRank e words j → r % narrowSpace ≡ section (pickOn e words j) 0
-      found_side er = ap (λ y. y % narrowSpace) er ∙ digits_mod (cellsOn e words j) (section-lt (pickOn e words j) 0)
+      found_side : {r : ℕ} → r ≡ side_rank e words j → r % narrow_space ≡ section (pick_on e words j) 0
+      found_side er = ap (λ y. y % narrow_space) er ∙ digits_mod (cells_on e words j) (section_lt (pick_on e words j) 0)
 
-      pub one_more : {after : List ℕ} {r low' all' next' : ℕ} → r ≡ sideRank e words j → PutRest (lentWide e) j (pickOn e words j) state after
-          → low' ≡ putLane low j (r % narrowSpace) → all' ≡ putCells all j (r / narrowSpace) → next' ≡ next → Partly after next' low' all'
+      pub one_more : {after : List ℕ} {r low' all' next' : ℕ} → r ≡ side_rank e words j → PutRest (lent_wide e) j (pick_on e words j) state after
+          → low' ≡ put_lane low j (r % narrow_space) → all' ≡ put_cells all j (r / narrow_space) → next' ≡ next → Partly after next' low' all'
       one_more {after} er put el ea en =
           rw en
           record {
-            but = but-trans h.but put.same;
-            bits = put-lane-below 2 left j 0 (omega arith) (omega arith) h.bits;
-            within = put-lane-lt left j 0 (omega arith);
+            but = but_trans h.but put.same;
+            bits = put_lane_below 2 left j 0 (omega arith) (omega arith) h.bits;
+            within = put_lane_lt left j 0 (omega arith);
             among = λ i li t.
                 h.among i li
                 (⊎_elim
                 (λ z. absurd (none (subst (λ k. T (eqb (lane_of next k) 1)) (eqb→eq i j z) t)))
                 (λ z. subst (λ y. T (eqb y 1)) (as_before i (λ d. T_not (eqb i j) z (eq_test d))) t)
                 (decide (eqb i j)));
-            sides = el ∙ ap₂ (λ x y. putLane x j y) h.sides (found_side er) ∙ lane_made tables 0;
+            sides = el ∙ ap₂ (λ x y. put_lane x j y) h.sides (found_side er) ∙ lane_made tables 0;
             rest = λ q l1 lq.
-                let x = get_or before (restPlace q) 0 in
+                let x = get_or before (rest_place q) 0 in
                 put.rest q l1 lq
                 ∙ ⊎_elim
                 (λ t.
-                ap (λ y. cond y (putLane (get_or state (restPlace q) 0) j (section (pickOn e words j) q)) (get_or state (restPlace q) 0)) (test-yes (lentWide e) t)
-                ∙ ap (λ y. putLane y j (section (pickOn e words j) q)) (h.rest q l1 lq ∙ ap (λ y. cond y (lanes_of (sideNow left x q)) x) (test-yes (lentWide e) t))
-                ∙ lane_made x q ∙ sym (ap (λ y. cond y (lanes_of (sideNow next x q)) x) (test-yes (lentWide e) t)))
+                ap (λ y. cond y (put_lane (get_or state (rest_place q) 0) j (section (pick_on e words j) q)) (get_or state (rest_place q) 0)) (test_yes (lent_wide e) t)
+                ∙ ap (λ y. put_lane y j (section (pick_on e words j) q)) (h.rest q l1 lq ∙ ap (λ y. cond y (lanes_of (side_now left x q)) x) (test_yes (lent_wide e) t))
+                ∙ lane_made x q ∙ sym (ap (λ y. cond y (lanes_of (side_now next x q)) x) (test_yes (lent_wide e) t)))
                 (λ t.
-                ap (λ y. cond y (putLane (get_or state (restPlace q) 0) j (section (pickOn e words j) q)) (get_or state (restPlace q) 0)) (test-no (lentWide e) t)
-                ∙ h.rest q l1 lq ∙ ap (λ y. cond y (lanes_of (sideNow left x q)) x) (test-no (lentWide e) t)
-                ∙ sym (ap (λ y. cond y (lanes_of (sideNow next x q)) x) (test-no (lentWide e) t)))
-                (decide (lentWide e));
-            counts = ea ∙ ap₂ (λ x y. putCells x j y) h.counts (found-cells er)
-                ∙ packed-put (cellsNow left) (now-byte left) (cellsNow next) j (cellsOn e words j) wire-lt cells-made
-                (λ i ne. ap (λ y. cond (eqb y 1) (byteIn cells i) (cellsAgain e words wires cells i)) (sym (as_before i ne)));
+                ap (λ y. cond y (put_lane (get_or state (rest_place q) 0) j (section (pick_on e words j) q)) (get_or state (rest_place q) 0)) (test_no (lent_wide e) t)
+                ∙ h.rest q l1 lq ∙ ap (λ y. cond y (lanes_of (side_now left x q)) x) (test_no (lent_wide e) t)
+                ∙ sym (ap (λ y. cond y (lanes_of (side_now next x q)) x) (test_no (lent_wide e) t)))
+                (decide (lent_wide e));
+            counts = ea ∙ ap₂ (λ x y. put_cells x j y) h.counts (found_cells er)
+                ∙ packed_put (cells_now left) (now_byte left) (cells_now next) j (cells_on e words j) wire_lt cells_made
+                (λ i ne. ap (λ y. cond (eqb y 1) (byte_in cells i) (cells_again e words wires cells i)) (sym (as_before i ne)));
           }
         where
           none : T (eqb (lane_of next j) 1) → ⊥
-          none t = let z : ◌≡◌ {A = ℕ} (lane_of next j) 1 = eqb→eq (lane_of next j) 1 t in absurd (omega (arith, z, now-made))
+          none t = let z : ◌≡◌ {A = ℕ} (lane_of next j) 1 = eqb→eq (lane_of next j) 1 t in absurd (omega (arith, z, now_made))
 
     -- a part whose cells are no longer below the best is not kept: with more wires made again it would have no fewer
-    pub not-kept : {state : List ℕ} {left low all : ℕ} → Partly state left low all → get_or before cellsPlace 0 ≤ cellsSum all → {r : Picks} → T (not r.kept)
+    pub not_kept : {state : List ℕ} {left low all : ℕ} → Partly state left low all → get_or before cells_place 0 ≤ cells_sum all → {r : Picks} → T (not r.kept)
         → Remade e words wires tables cells before state r
-    not-kept {state} {left} h over {r} dropped =
+    not_kept {state} {left} h over {r} dropped =
         record {
           same = h.but;
           low = λ k. absurd (T_not r.kept dropped k);
           rest = λ k. absurd (T_not r.kept dropped k);
           counts = λ k. absurd (T_not r.kept dropped k);
-          narrow = λ t q l1 lq. h.rest q l1 lq ∙ ap (λ y. cond y (lanes_of (sideNow left (get_or before (restPlace q) 0) q)) (get_or before (restPlace q) 0)) (test-no (lentWide e) t);
+          narrow = λ t q l1 lq. h.rest q l1 lq ∙ ap (λ y. cond y (lanes_of (side_now left (get_or before (rest_place q) 0) q)) (get_or before (rest_place q) 0)) (test_no (lent_wide e) t);
           over = λ _ more.
               le_trans over
-              (rw (h.counts, now-sum left)
-              (sum-le maxWires (cellsNow left) (cellsAgain e words wires cells)
-              (λ j lj. cond_has (λ x. x ≤ cellsAgain e words wires cells j) (marked left j)
-              (λ t. rw (test-yes (marked wires j) (h.among j lj t)) (more j lj)) (λ _. le_refl (cellsAgain e words wires cells j)))));
+              (rw (h.counts, now_sum left)
+              (sum_le max_wires (cells_now left) (cells_again e words wires cells)
+              (λ j lj. cond_has (λ x. x ≤ cells_again e words wires cells j) (marked left j)
+              (λ t. rw (test_yes (marked wires j) (h.among j lj t)) (more j lj)) (λ _. le_refl (cells_again e words wires cells j)))));
         }
 
     -- once none is left all are made
-    pub all_made : {state : List ℕ} {left low all : ℕ} → Partly state left low all → left ≡ 0 → cellsSum all < get_or before cellsPlace 0 → {r : Picks} → T r.kept → r.low ≡ low → r.cells ≡ all
+    pub all_made : {state : List ℕ} {left low all : ℕ} → Partly state left low all → left ≡ 0 → cells_sum all < get_or before cells_place 0 → {r : Picks} → T r.kept → r.low ≡ low → r.cells ≡ all
         → Remade e words wires tables cells before state r
     unfolding packed
     all_made {state} {left} {low} {all} h el under {r} held er ec =
         record {
           same = h.but;
-          low = λ _. er ∙ h.sides ∙ lanes-cong (sideNow left tables 0) (sideAgain e words wires tables 0) (λ j _. none_left (lane_of tables j) (sideAgain e words wires tables 0 j) j);
+          low = λ _. er ∙ h.sides ∙ lanes_cong (side_now left tables 0) (side_again e words wires tables 0) (λ j _. none_left (lane_of tables j) (side_again e words wires tables 0 j) j);
           rest = λ _ q l1 lq.
-              let x = get_or before (restPlace q) 0 in
+              let x = get_or before (rest_place q) 0 in
               h.rest q l1 lq
-              ∙ ap (λ y. cond (lentWide e) y x) (lanes-cong (sideNow left x q) (sideAgain e words wires x q) (λ j _. none_left (lane_of x j) (sideAgain e words wires x q j) j));
+              ∙ ap (λ y. cond (lent_wide e) y x) (lanes_cong (side_now left x q) (side_again e words wires x q) (λ j _. none_left (lane_of x j) (side_again e words wires x q j) j));
           counts = λ _. (
             ec ∙ h.counts
-                ∙ sum-cong maxWires (λ j. cellsNow left j * cellSpace ^ j) (λ j. cellsAgain e words wires cells j * cellSpace ^ j)
-                (λ j _. ap (λ y. y * cellSpace ^ j) (none_left (byteIn cells j) (cellsAgain e words wires cells j) j)),
+                ∙ sum_cong max_wires (λ j. cells_now left j * cell_space ^ j) (λ j. cells_again e words wires cells j * cell_space ^ j)
+                (λ j _. ap (λ y. y * cell_space ^ j) (none_left (byte_in cells j) (cells_again e words wires cells j) j)),
             rw ec under,
           );
-          narrow = λ t q l1 lq. h.rest q l1 lq ∙ ap (λ y. cond y (lanes_of (sideNow left (get_or before (restPlace q) 0) q)) (get_or before (restPlace q) 0)) (test-no (lentWide e) t);
+          narrow = λ t q l1 lq. h.rest q l1 lq ∙ ap (λ y. cond y (lanes_of (side_now left (get_or before (rest_place q) 0) q)) (get_or before (rest_place q) 0)) (test_no (lent_wide e) t);
           over = λ t. absurd (T_not r.kept t held);
         }
       where
         none_left : (x y j : ℕ) → cond (marked left j) x y ≡ y
-        none_left x y j = ap (λ z. cond (eqb (lane_of z j) 1) x y) el ∙ ap (λ z. cond (eqb z 1) x y) (lane-zero j)
+        none_left x y j = ap (λ z. cond (eqb (lane_of z j) 1) x y) el ∙ ap (λ z. cond (eqb z 1) x y) (lane_zero j)

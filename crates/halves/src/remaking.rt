@@ -1,17 +1,17 @@
 // The picks of a part that no longer fit, found for all wires in one step and made again, and the masks that they are made from.
 // Inner functions: the cycle of the search meets what they require.
 ghost use Rattle.std.specs.Prelude.{◌≡◌, not, ℕ, ◌/◌, ◌<◌, ◌≤◌, length, get_or};
-ghost use Rattle.sheet.specs.Limits.{maxWires, maxPatterns};
-ghost use Rattle.table.specs.Bits.{isOne};
+ghost use Rattle.sheet.specs.Limits.{max_wires, max_patterns};
+ghost use Rattle.table.specs.Bits.{is_one};
 ghost use Rattle.table.specs.Inner.Wide.{sections};
 ghost use Rattle.relation.specs.Tests.{occurs};
 ghost use Rattle.relation.specs.Inner.Members.{member};
-ghost use Rattle.lanes.specs.Inner.Lanes.{lanesSpace, lane_of, LanesBelow};
-ghost use Rattle.parts.specs.Inner.Boards.{lentInputs, Lent};
+ghost use Rattle.lanes.specs.Inner.Lanes.{lanes_space, lane_of, LanesBelow};
+ghost use Rattle.parts.specs.Inner.Boards.{lent_inputs, Lent};
 ghost use Rattle.parts.specs.Inner.Words.{Covers};
-ghost use Rattle.parts.specs.Inner.Masks.{rowPatterns, maskCount, words_of, withLanes, cutRow};
-ghost use Rattle.parts.specs.Inner.Cells.{cellsSum};
-ghost use Rattle.parts.specs.Inner.States.{cellsPlace, restPlace, stateLength};
+ghost use Rattle.parts.specs.Inner.Masks.{row_patterns, mask_count, words_of, with_lanes, cut_row};
+ghost use Rattle.parts.specs.Inner.Cells.{cells_sum};
+ghost use Rattle.parts.specs.Inner.States.{cells_place, rest_place, state_length};
 ghost use Rattle.halves.specs.Inner.Remade.{FewCells, Remade};
 
 use crate::Picks;
@@ -25,15 +25,15 @@ use table::picks::LENT;
 // The wires whose bit no value of the set has.
 pub fn lost_wires(driven: u64, set: u16) -> u64
     requires { LanesBelow 2 driven }
-    ensures { ((j : ℕ) → j < maxWires → lane_of result j ≡ isOne (not (occurs maxWires (member set) j (lane_of driven j)))) × LanesBelow 2 result × (result < lanesSpace) }
+    ensures { ((j : ℕ) → j < max_wires → lane_of result j ≡ is_one (not (occurs max_wires (member set) j (lane_of driven j)))) × LanesBelow 2 result × (result < lanes_space) }
 {
     broken(driven, no_zeros(set), no_ones(set))
 }
 
 // The masks once pattern p has a set, where `row` is the pattern's row as it was.
 pub fn cut_at(masks: &mut [u16; MASKS], p: u8, row: u64, set: u16)
-    requires { (p < maxPatterns) × (length masks.old ≡ maskCount) }
-    ensures { masks.new ≡ withLanes masks.old (p / rowPatterns) (cutRow row p set) }
+    requires { (p < max_patterns) × (length masks.old ≡ mask_count) }
+    ensures { masks.new ≡ with_lanes masks.old (p / row_patterns) (cut_row row p set) }
 {
     put_row(masks, p, cut_row(row, p, set));
 }
@@ -47,7 +47,7 @@ pub fn again(
     tables: u64,
     cells: u64,
 ) -> Picks
-    requires { Lent e.now × ((j : ℕ) → j < maxWires → Covers (lentInputs e.now) (words_of masks.now) j) × (length state.old ≡ stateLength)
+    requires { Lent e.now × ((j : ℕ) → j < max_wires → Covers (lent_inputs e.now) (words_of masks.now) j) × (length state.old ≡ state_length)
         × ((q : ℕ) → 1 ≤ q → q < sections → get_or state.old (restPlace q) 0 < lanesSpace) × LanesBelow 2 wires × (wires < lanesSpace)
         × FewCells cells × (cellsSum cells < get_or state.old cellsPlace 0) }
     ensures { Remade e.now (words_of masks.now) wires tables cells state.old state.new result }

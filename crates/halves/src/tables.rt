@@ -1,13 +1,13 @@
 // The tables of the part at hand, as a split reads them and puts them back, and where to look for a conflict of a part with other tables.
 // Inner functions: the cycle of the search meets what they require.
 ghost use Rattle.std.specs.Prelude.{◌≡◌, cond, ℕ, ◌/◌, ◌%◌, ◌<◌, length};
-ghost use Rattle.sheet.specs.Limits.{maxWires, maxPatterns};
+ghost use Rattle.sheet.specs.Limits.{max_wires, max_patterns};
 ghost use Rattle.table.specs.Bits.{bit};
-ghost use Rattle.table.specs.Inner.Pairs.{narrowPatterns};
+ghost use Rattle.table.specs.Inner.Pairs.{narrow_patterns};
 ghost use Rattle.lanes.specs.Inner.Lanes.{lane_of, LanesBelow};
-ghost use Rattle.parts.specs.Inner.Boards.{lentInputs, lentWide, Lent};
-ghost use Rattle.parts.specs.Inner.States.{stateLength, sideAt};
-ghost use Rattle.visits.specs.Inner.States.{savedOf, withRest};
+ghost use Rattle.parts.specs.Inner.Boards.{lent_inputs, lent_wide, Lent};
+ghost use Rattle.parts.specs.Inner.States.{state_length, side_at};
+ghost use Rattle.visits.specs.Inner.States.{saved_of, with_rest};
 ghost use Rattle.visits.specs.Inner.Conflicts.{AllowedBelow};
 
 use lanes::LANES;
@@ -19,8 +19,8 @@ use visits::states::{RESTS, put_back, rest_of};
 
 // The bits of all wires' tables on pattern p.
 pub fn driven_on(state: &[u64; STATE], low: u64, p: u8) -> u64
-    requires { p < maxPatterns }
-    ensures { ((j : ℕ) → j < maxWires → lane_of result j ≡ bit (lane_of (sideAt low state.now (p / narrowPatterns)) j) (p % narrowPatterns)) × LanesBelow 2 result }
+    requires { p < max_patterns }
+    ensures { ((j : ℕ) → j < max_wires → lane_of result j ≡ bit (lane_of (side_at low state.now (p / narrow_patterns)) j) (p % narrow_patterns)) × LanesBelow 2 result }
 {
     (word_of(state, low, p / SECTION) >> (p % SECTION)) & LANES
 }
@@ -28,7 +28,7 @@ pub fn driven_on(state: &[u64; STATE], low: u64, p: u8) -> u64
 // A pattern below which a part is without conflict. Where no pick was made again, the conflict stays where it was.
 pub fn begin_at(e: &[u32; LENT], state: &[u64; STATE], wires: u64, low: u64, p: u8) -> u8
     requires { Lent e.now }
-    ensures { (wires ≡ 0 → result ≡ p) × (0 < wires → AllowedBelow (lentWide e.now) (lentInputs e.now) low state.now result) }
+    ensures { (wires ≡ 0 → result ≡ p) × (0 < wires → AllowedBelow (lent_wide e.now) (lent_inputs e.now) low state.now result) }
 {
     if wires == 0 {
         return p;
@@ -38,15 +38,15 @@ pub fn begin_at(e: &[u32; LENT], state: &[u64; STATE], wires: u64, low: u64, p: 
 
 // The tables on the sections past the first, where the board is wide; zeros where it is not.
 pub fn saved(wide: bool, state: &[u64; STATE]) -> [u64; RESTS]
-    ensures { result ≡ savedOf wide state.now }
+    ensures { result ≡ saved_of wide state.now }
 {
     if wide { rest_of(state) } else { [0; RESTS] }
 }
 
 // They are put back where the board is wide.
 pub fn restore(wide: bool, state: &mut [u64; STATE], rest: [u64; RESTS])
-    requires { length state.old ≡ stateLength }
-    ensures { state.new ≡ cond wide (withRest state.old rest) state.old }
+    requires { length state.old ≡ state_length }
+    ensures { state.new ≡ cond wide (with_rest state.old rest) state.old }
 {
     if wide {
         put_back(state, rest);

@@ -5,35 +5,35 @@ use mathlib.Core.Bool.{true, false}
 use mathlib.Core.List.{List}
 use borrow.Author.Tests.{lt-ltb, le-ltb}
 use Rattle.base.specs.declared.Refusal.{Refusal}
-use Rattle.base.specs.Cases.{acceptedCase}
-use Rattle.base.specs.Refusals.{refusalAt, empty, sizesDiffer}
+use Rattle.base.specs.Cases.{accepted_case}
+use Rattle.base.specs.Refusals.{refusal_at, empty, sizes_differ}
 use Rattle.sheet.specs.declared.Command.{Command}
-use Rattle.sheet.specs.Commands.{inputsOf}
+use Rattle.sheet.specs.Commands.{inputs_of}
 use Rattle.sheet.specs.Judged.{holds, refused}
 use Rattle.reader.specs.Reading.{reading_of}
-use Rattle.unit.specs.Formed.{turnedAway}
-use Rattle.joined.specs.Joint.{secondTurnedAway, areSized, joinedCommands, joinedFrom, joinedOf}
-use Rattle.joined.proofs.JointRivals.{emptyInBoth, joinedIn}
+use Rattle.unit.specs.Formed.{turned_away}
+use Rattle.joined.specs.Joint.{second_turned_away, are_sized, joined_commands, joined_from, joined_of}
+use Rattle.joined.proofs.JointRivals.{empty_in_both, joined_in}
 
 module _ (first second : List ℕ) where
-  pub first-refused : (f : Refusal) → reading_of first ≡ refused f → joinedOf first second ≡ turnedAway f
-  unfolding joinedOf joinedFrom
-  first-refused f e = rw e
+  pub first_refused_lem : (f : Refusal) → reading_of first ≡ refused f → joined_of first second ≡ turned_away f
+  unfolding joined_of joined_from
+  first_refused_lem f e = rw e
 
   module _ (cs : List Command) (e : reading_of first ≡ holds cs) where
-    pub second-refused : (f : Refusal) → reading_of second ≡ refused f → joinedOf first second ≡ secondTurnedAway f
-    unfolding joinedOf joinedFrom
-    second-refused f d = rw (e, d)
+    pub second_refused : (f : Refusal) → reading_of second ≡ refused f → joined_of first second ≡ second_turned_away f
+    unfolding joined_of joined_from
+    second_refused f d = rw (e, d)
 
     module _ (ds : List Command) (d : reading_of second ≡ holds ds) where
-      pub sizes-apart : areSized cs ds ≡ false → joinedOf first second ≡ secondTurnedAway (refusalAt sizesDiffer 0)
-      unfolding joinedOf joinedFrom joinedCommands
-      sizes-apart h = rw (e, d, h)
+      pub sizes_apart_lem : are_sized cs ds ≡ false → joined_of first second ≡ second_turned_away (refusal_at sizes_differ 0)
+      unfolding joined_of joined_from joined_commands
+      sizes_apart_lem h = rw (e, d, h)
 
-      pub joined-empty : areSized cs ds ≡ true → emptyInBoth cs ds < 2 ^ inputsOf cs → joinedOf first second ≡ secondTurnedAway (refusalAt empty (emptyInBoth cs ds))
-      unfolding joinedOf joinedFrom joinedCommands
-      joined-empty h l = rw (e, d, h, lt-ltb (emptyInBoth cs ds) (2 ^ inputsOf cs) l)
+      pub joined_empty : are_sized cs ds ≡ true → empty_in_both cs ds < 2 ^ inputs_of cs → joined_of first second ≡ second_turned_away (refusal_at empty (empty_in_both cs ds))
+      unfolding joined_of joined_from joined_commands
+      joined_empty h l = rw (e, d, h, lt-ltb (empty_in_both cs ds) (2 ^ inputs_of cs) l)
 
-      pub joined-whole : areSized cs ds ≡ true → 2 ^ inputsOf cs ≤ emptyInBoth cs ds → joinedOf first second ≡ record { relation = joinedIn cs ds; answer = acceptedCase }
-      unfolding joinedOf joinedFrom joinedCommands
-      joined-whole h l = rw (e, d, h, le-ltb (emptyInBoth cs ds) (2 ^ inputsOf cs) l)
+      pub joined_whole : are_sized cs ds ≡ true → 2 ^ inputs_of cs ≤ empty_in_both cs ds → joined_of first second ≡ record { relation = joined_in cs ds; answer = accepted_case }
+      unfolding joined_of joined_from joined_commands
+      joined_whole h l = rw (e, d, h, le-ltb (empty_in_both cs ds) (2 ^ inputs_of cs) l)

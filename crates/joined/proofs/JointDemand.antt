@@ -8,35 +8,35 @@ use native.Mathlib.Omega.{arith}
 use lib.Dec.{T, T_not, eqb, eqb→eq, ltb, ltb→lt, nltb→le}
 use lib.ListN.{length}
 use Rattle.base.specs.declared.Refusal.{Refusal}
-use Rattle.base.specs.Cases.{refusedOutcome, secondRefusedOutcome, refusing}
-use Rattle.base.specs.Refusals.{refusalAt, empty, sizesDiffer}
-use Rattle.base.proofs.Tabulate.{tabulate-length}
-use Rattle.base.proofs.Tests.{and_intro, and_left, and_right, decide, eq_test, test-yes, test-no}
+use Rattle.base.specs.Cases.{refused_outcome, second_refused_outcome, refusing}
+use Rattle.base.specs.Refusals.{refusal_at, empty, sizes_differ}
+use Rattle.base.proofs.Tabulate.{tabulate_length}
+use Rattle.base.proofs.Tests.{and_intro, and_left, and_right, decide, eq_test, test_yes, test_no}
 use Rattle.nodes.specs.declared.BoardKind.TheVariants.{Tree}
 use Rattle.nodes.specs.Counts.{count_of}
 use Rattle.sheet.specs.declared.Command.{Command}
-use Rattle.sheet.specs.Commands.{inputsOf, wiresOf}
+use Rattle.sheet.specs.Commands.{inputs_of, wires_of}
 use Rattle.sheet.specs.Judged.{Reading, holds, refused}
-use Rattle.sheet.specs.Limits.{maxPatterns}
+use Rattle.sheet.specs.Limits.{max_patterns}
 use Rattle.reader.specs.Reading.{reading_of}
-use Rattle.reader.proofs.Numbers.{reading-early}
+use Rattle.reader.proofs.Numbers.{reading_early}
 use Rattle.reader.proofs.Sound.{sound}
 use Rattle.table.specs.Inner.Drawing.{FairCount}
-use Rattle.stage.specs.Trees.{treeDrawing}
-use Rattle.diagram.proofs.Forms.{form-fair}
+use Rattle.stage.specs.Trees.{tree_drawing}
+use Rattle.diagram.proofs.Forms.{form_fair}
 use Rattle.relation.specs.Joined.{join_of}
-use Rattle.unit.specs.Formed.{relationIn}
-use Rattle.unit.proofs.Rivals.{commands-only}
+use Rattle.unit.specs.Formed.{relation_in}
+use Rattle.unit.proofs.Rivals.{commands_only}
 use Rattle.quote.specs.Cases.{QuoteReply}
-use Rattle.quote.specs.Quote.{noQuote, searched}
-use Rattle.quote.specs.Promised.{inputsIn, wiresIn}
+use Rattle.quote.specs.Quote.{no_quote, searched}
+use Rattle.quote.specs.Promised.{inputs_in, wires_in}
 use Rattle.quote.proofs.Demand.{read_is}
-use Rattle.quote.proofs.Searched.{refused-promise, Tells, searched-promise}
-use Rattle.joined.specs.Joint.{areSized, jointQuoted, jointBuffer}
+use Rattle.quote.proofs.Searched.{refused_promise, Tells, searched_promise}
+use Rattle.joined.specs.Joint.{are_sized, joint_quoted, joint_buffer}
 use Rattle.joined.specs.Promised.{JointRival, NoJointRival, JointPromised}
-use Rattle.joined.proofs.AsSecond.{second-promise}
-use Rattle.joined.proofs.Joining.{first-refused, second-refused, sizes-apart, joined-empty, joined-whole}
-use Rattle.joined.proofs.JointRivals.{emptyInBoth, joinedIn, joint-told, none-joint, joined-passes}
+use Rattle.joined.proofs.AsSecond.{second_promise}
+use Rattle.joined.proofs.Joining.{first_refused_lem, second_refused, sizes_apart_lem, joined_empty, joined_whole}
+use Rattle.joined.proofs.JointRivals.{empty_in_both, joined_in, joint_told, none_joint, joined_passes}
 
 unread : (cs : List Command) (f : Refusal) → holds cs ≡ refused f → ⊥
 unread cs f d = let z : ◌≡◌ {A = ℕ} 0 1 = cc in omega arith
@@ -46,108 +46,108 @@ module _ (first second : List ℕ) (budget : ℕ) (buffer : List ℕ) where
   Kept = JointPromised first second budget
 
   abbrev PromiseKept : Type 0
-  PromiseKept = Kept (jointQuoted first second budget (length buffer)) (jointBuffer first second budget buffer)
+  PromiseKept = Kept (joint_quoted first second budget (length buffer)) (joint_buffer first second budget buffer)
 
   abbrev None : Type 0
-  None = NoJointRival treeDrawing first second
+  None = NoJointRival tree_drawing first second
 
-  refusal : (o : ℕ) (f : Refusal) → refusedOutcome ≤ o → (f.number ≡ empty) ↔ None → Kept (noQuote (refusing o f)) buffer
-  refusal = refused-promise treeDrawing (inputsIn first) (wiresIn first) (JointRival treeDrawing first second) None budget buffer
+  refusal : (o : ℕ) (f : Refusal) → refused_outcome ≤ o → (f.number ≡ empty) ↔ None → Kept (no_quote (refusing o f)) buffer
+  refusal = refused_promise tree_drawing (inputs_in first) (wires_in first) (JointRival tree_drawing first second) None budget buffer
 
   -- a refusal that is not 10, where something else is wrong
   other : (f : Refusal) → (f.number ≡ empty → ⊥) → (None → ⊥) → (f.number ≡ empty) ↔ None
   other f ne none = (λ e. absurd (ne e), λ h. absurd (none h))
 
   -- reading refuses the first sheet, or the second
-  first-unread : (f : Refusal) → reading_of first ≡ refused f → PromiseKept
-  unfolding jointQuoted jointBuffer
-  first-unread f e =
-      rw (first-refused first second f e)
-      (refusal refusedOutcome f (omega arith) (other f (λ w. omega (arith, reading-early first f e)) (λ h. unread h.commands f (sym h.held ∙ e))))
+  first_unread : (f : Refusal) → reading_of first ≡ refused f → PromiseKept
+  unfolding joint_quoted joint_buffer
+  first_unread f e =
+      rw (first_refused_lem first second f e)
+      (refusal refused_outcome f (omega arith) (other f (λ w. omega (arith, reading_early first f e)) (λ h. unread h.commands f (sym h.held ∙ e))))
 
   module _ (cs : List Command) (e : reading_of first ≡ holds cs) where
-    second-unread : (f : Refusal) → reading_of second ≡ refused f → PromiseKept
-    unfolding jointQuoted jointBuffer
-    second-unread f d =
-        rw (second-refused first second cs e f d)
-        (refusal secondRefusedOutcome f (omega arith) (other f (λ w. omega (arith, reading-early second f d)) (λ h. unread h.others f (sym h.held-others ∙ d))))
+    second_unread : (f : Refusal) → reading_of second ≡ refused f → PromiseKept
+    unfolding joint_quoted joint_buffer
+    second_unread f d =
+        rw (second_refused first second cs e f d)
+        (refusal second_refused_outcome f (omega arith) (other f (λ w. omega (arith, reading_early second f d)) (λ h. unread h.others f (sym h.held_others ∙ d))))
 
     module _ (ds : List Command) (d : reading_of second ≡ holds ds) where
       -- the sizes differ: 13
-      not-sized : T (not (areSized cs ds)) → None → ⊥
-      not-sized t h =
-          let a = commands-only first h.commands cs h.held e in
-          let b = commands-only second h.others ds h.held-others d in
-          T_not (areSized cs ds) t
-          (and_intro (eqb (inputsOf cs) (inputsOf ds)) (eqb (wiresOf cs) (wiresOf ds))
-          (eq_test (sym (ap inputsOf a) ∙ h.same_inputs ∙ ap inputsOf b)) (eq_test (sym (ap wiresOf a) ∙ h.same-wires ∙ ap wiresOf b)))
+      not_sized : T (not (are_sized cs ds)) → None → ⊥
+      not_sized t h =
+          let a = commands_only first h.commands cs h.held e in
+          let b = commands_only second h.others ds h.held_others d in
+          T_not (are_sized cs ds) t
+          (and_intro (eqb (inputs_of cs) (inputs_of ds)) (eqb (wires_of cs) (wires_of ds))
+          (eq_test (sym (ap inputs_of a) ∙ h.same_inputs ∙ ap inputs_of b)) (eq_test (sym (ap wires_of a) ∙ h.same_wires ∙ ap wires_of b)))
 
-      differ : T (not (areSized cs ds)) → PromiseKept
-      unfolding jointQuoted jointBuffer
+      differ : T (not (are_sized cs ds)) → PromiseKept
+      unfolding joint_quoted joint_buffer
       differ t =
-          rw (sizes-apart first second cs e ds d (test-no (areSized cs ds) t))
-          (refusal secondRefusedOutcome (refusalAt sizesDiffer 0) (omega arith) (other (refusalAt sizesDiffer 0) (λ w. omega arith) (not-sized t)))
+          rw (sizes_apart_lem first second cs e ds d (test_no (are_sized cs ds) t))
+          (refusal second_refused_outcome (refusal_at sizes_differ 0) (omega arith) (other (refusal_at sizes_differ 0) (λ w. omega arith) (not_sized t)))
 
       -- they agree
-      module _ (t : T (areSized cs ds)) where
-        en : inputsOf cs ≡ inputsOf ds
-        en = eqb→eq (inputsOf cs) (inputsOf ds) (and_left (eqb (inputsOf cs) (inputsOf ds)) (eqb (wiresOf cs) (wiresOf ds)) t)
+      module _ (t : T (are_sized cs ds)) where
+        en : inputs_of cs ≡ inputs_of ds
+        en = eqb→eq (inputs_of cs) (inputs_of ds) (and_left (eqb (inputs_of cs) (inputs_of ds)) (eqb (wires_of cs) (wires_of ds)) t)
 
-        em : wiresOf cs ≡ wiresOf ds
-        em = eqb→eq (wiresOf cs) (wiresOf ds) (and_right (eqb (inputsOf cs) (inputsOf ds)) (eqb (wiresOf cs) (wiresOf ds)) t)
+        em : wires_of cs ≡ wires_of ds
+        em = eqb→eq (wires_of cs) (wires_of ds) (and_right (eqb (inputs_of cs) (inputs_of ds)) (eqb (wires_of cs) (wires_of ds)) t)
 
-        fair : FairCount treeDrawing (inputsOf cs) (count_of Tree (inputsOf cs))
-        fair = form-fair Tree (inputsOf cs) (sound first cs e).sizes.n-most
+        fair : FairCount tree_drawing (inputs_of cs) (count_of Tree (inputs_of cs))
+        fair = form_fair Tree (inputs_of cs) (sound first cs e).sizes.n_most
 
         -- some pattern is left no value: 10
-        none_left : emptyInBoth cs ds < 2 ^ inputsOf cs → PromiseKept
-        unfolding jointQuoted jointBuffer
+        none_left : empty_in_both cs ds < 2 ^ inputs_of cs → PromiseKept
+        unfolding joint_quoted joint_buffer
         none_left l =
-            rw (joined-empty first second cs e ds d (test-yes (areSized cs ds) t) l)
-            (refusal secondRefusedOutcome (refusalAt empty (emptyInBoth cs ds)) (omega arith) (
+            rw (joined_empty first second cs e ds d (test_yes (are_sized cs ds) t) l)
+            (refusal second_refused_outcome (refusal_at empty (empty_in_both cs ds)) (omega arith) (
               λ _. record {
                 commands = cs;
                 held = e;
                 others = ds;
-                held-others = d;
+                held_others = d;
                 same_inputs = en;
-                same-wires = em;
-                none = none-joint first second cs ds e d en em treeDrawing (count_of Tree (inputsOf cs)) fair l;
+                same_wires = em;
+                none = none_joint first second cs ds e d en em tree_drawing (count_of Tree (inputs_of cs)) fair l;
               },
               λ _. refl,
             ))
 
         -- each has one: what the search promises
-        tells : 2 ^ inputsOf cs ≤ emptyInBoth cs ds → Tells Tree (inputsIn first) (wiresIn first) (JointRival treeDrawing first second) (joinedIn cs ds)
-        unfolding join_of relationIn
+        tells : 2 ^ inputs_of cs ≤ empty_in_both cs ds → Tells Tree (inputs_in first) (wires_in first) (JointRival tree_drawing first second) (joined_in cs ds)
+        unfolding join_of relation_in
         tells l =
             record {
-              inputs = sym (ap inputsOf (read_is first cs e));
-              wires = sym (ap wiresOf (read_is first cs e));
-              long = tabulate-length maxPatterns _;
-              passes = joined-passes first second cs ds e d en em l;
-              families = joint-told first second cs ds e d en em treeDrawing (count_of Tree (inputsOf cs)) fair;
+              inputs = sym (ap inputs_of (read_is first cs e));
+              wires = sym (ap wires_of (read_is first cs e));
+              long = tabulate_length max_patterns _;
+              passes = joined_passes first second cs ds e d en em l;
+              families = joint_told first second cs ds e d en em tree_drawing (count_of Tree (inputs_of cs)) fair;
             }
 
-        whole : 2 ^ inputsOf cs ≤ emptyInBoth cs ds → PromiseKept
-        unfolding jointQuoted jointBuffer
+        whole : 2 ^ inputs_of cs ≤ empty_in_both cs ds → PromiseKept
+        unfolding joint_quoted joint_buffer
         whole l =
-            rw (joined-whole first second cs e ds d (test-yes (areSized cs ds) t) l)
-            (second-promise treeDrawing (inputsIn first) (wiresIn first) (JointRival treeDrawing first second) None budget (searched Tree (joinedIn cs ds) budget (length buffer)) _
-            (searched-promise Tree (inputsIn first) (wiresIn first) (JointRival treeDrawing first second) None (joinedIn cs ds) (tells l) (λ h. h.none) budget buffer))
+            rw (joined_whole first second cs e ds d (test_yes (are_sized cs ds) t) l)
+            (second_promise tree_drawing (inputs_in first) (wires_in first) (JointRival tree_drawing first second) None budget (searched Tree (joined_in cs ds) budget (length buffer)) _
+            (searched_promise Tree (inputs_in first) (wires_in first) (JointRival tree_drawing first second) None (joined_in cs ds) (tells l) (λ h. h.none) budget buffer))
 
         agree : PromiseKept
         agree =
-            ⊎_elim (λ u. none_left (ltb→lt (emptyInBoth cs ds) (2 ^ inputsOf cs) u)) (λ u. whole (nltb→le (emptyInBoth cs ds) (2 ^ inputsOf cs) u))
-            (decide (ltb (emptyInBoth cs ds) (2 ^ inputsOf cs)))
+            ⊎_elim (λ u. none_left (ltb→lt (empty_in_both cs ds) (2 ^ inputs_of cs) u)) (λ u. whole (nltb→le (empty_in_both cs ds) (2 ^ inputs_of cs) u))
+            (decide (ltb (empty_in_both cs ds) (2 ^ inputs_of cs)))
 
       both_read : PromiseKept
-      both_read = ⊎_elim agree differ (decide (areSized cs ds))
+      both_read = ⊎_elim agree differ (decide (are_sized cs ds))
 
-  pub joint-promised : JointPromised first second budget (jointQuoted first second budget (length buffer)) (jointBuffer first second budget buffer)
-  joint-promised = go (reading_of first) (reading_of second) refl refl
+  pub joint_promised : JointPromised first second budget (joint_quoted first second budget (length buffer)) (joint_buffer first second budget buffer)
+  joint_promised = go (reading_of first) (reading_of second) refl refl
     where
       go : (x y : Reading) → reading_of first ≡ x → reading_of second ≡ y → PromiseKept
-      go (refused f) y e d = first-unread f e
-      go (holds cs) (refused f) e d = second-unread cs e f d
+      go (refused f) y e d = first_unread f e
+      go (holds cs) (refused f) e d = second_unread cs e f d
       go (holds cs) (holds ds) e d = both_read cs e ds d

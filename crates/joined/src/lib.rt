@@ -1,13 +1,13 @@
 // One stage for two units: the quote over what two sheets both allow (document 02, E6).
 ghost use Rattle.std.specs.Prelude.{◌≡◌, length};
-ghost use Rattle.search.specs.Cases.{markCase};
-ghost use Rattle.quote.specs.Cases.{quoteReply};
-ghost use Rattle.quote.specs.Audit.{sizesApart};
-ghost use Rattle.quote.specs.Quote.{noQuote};
-ghost use Rattle.joined.specs.Cases.{jointCase, jointReply, unnamedCase, unnamed};
-ghost use Rattle.joined.specs.Joint.{asSecond, quotedAsSecond, jointQuoted, jointBuffer};
+ghost use Rattle.search.specs.Cases.{mark_case};
+ghost use Rattle.quote.specs.Cases.{quote_reply};
+ghost use Rattle.quote.specs.Audit.{sizes_apart};
+ghost use Rattle.quote.specs.Quote.{no_quote};
+ghost use Rattle.joined.specs.Cases.{joint_case, joint_reply, unnamed_case, unnamed};
+ghost use Rattle.joined.specs.Joint.{as_second, quoted_as_second, joint_quoted, joint_buffer};
 ghost use Rattle.joined.specs.Promised.{JointPromised};
-ghost use Rattle.joined.specs.Inner.Both.{bothQuoted, bothBuffer};
+ghost use Rattle.joined.specs.Inner.Both.{both_quoted, both_buffer};
 
 use base::{Refusal, Verdict};
 use nodes::BoardKind;
@@ -38,7 +38,7 @@ pub struct JointQuoted {
 impl JointQuoted {
     // The same reply with no sheet named, as that of a quote.
     pub fn unnamed(self) -> Quoted
-        ensures { quoteReply result ≡ unnamed (jointReply self) }
+        ensures { quote_reply result ≡ unnamed (joint_reply self) }
     {
         let mark = self.mark;
         Quoted {
@@ -52,7 +52,7 @@ impl JointQuoted {
 }
 
 fn unnamed_mark(mark: JointMark) -> Mark
-    ensures { markCase result ≡ unnamedCase (jointCase mark) }
+    ensures { mark_case result ≡ unnamed_case (joint_case mark) }
 {
     match mark {
         JointMark::Best => Mark::Best,
@@ -64,7 +64,7 @@ fn unnamed_mark(mark: JointMark) -> Mark
 
 // A refused joint quote: every number but its mark's is 0.
 pub fn refused_joint(mark: JointMark) -> JointQuoted
-    ensures { jointReply result ≡ noQuote (jointCase mark) }
+    ensures { joint_reply result ≡ no_quote (joint_case mark) }
 {
     JointQuoted {
         cells: 0,
@@ -77,7 +77,7 @@ pub fn refused_joint(mark: JointMark) -> JointQuoted
 
 // The mark of a quote over both sheets: its refusals count as the second's.
 fn mark_of_both(mark: Mark) -> JointMark
-    ensures { jointCase result ≡ asSecond (markCase mark) }
+    ensures { joint_case result ≡ as_second (mark_case mark) }
 {
     match mark {
         Mark::Best => JointMark::Best,
@@ -88,7 +88,7 @@ fn mark_of_both(mark: Mark) -> JointMark
 
 // The reply of a quote over both sheets.
 fn reply_of_both(quoted: Quoted) -> JointQuoted
-    ensures { jointReply result ≡ quotedAsSecond (quoteReply quoted) }
+    ensures { joint_reply result ≡ quoted_as_second (quote_reply quoted) }
 {
     let mark = quoted.mark;
     JointQuoted {
@@ -102,14 +102,14 @@ fn reply_of_both(quoted: Quoted) -> JointQuoted
 
 // 13, which counts as the second's.
 fn sizes_differ() -> JointQuoted
-    ensures { jointReply result ≡ noQuote sizesApart }
+    ensures { joint_reply result ≡ no_quote sizes_apart }
 {
     refused_joint(JointMark::SecondRefused(Refusal::at(Refusal::SIZES_DIFFER, 0)))
 }
 
 // The quote of what two relations both allow, or 13 where their sizes differ.
 fn quote_both(first: Relation, second: Relation, budget: u32, buffer: &mut [u8]) -> JointQuoted
-    ensures { (jointReply result ≡ bothQuoted first second budget (length buffer.old))
+    ensures { (joint_reply result ≡ both_quoted first second budget (length buffer.old))
         × (buffer.new ≡ bothBuffer first second budget buffer.old) }
 {
     if first.n != second.n {
@@ -125,9 +125,9 @@ fn quote_both(first: Relation, second: Relation, budget: u32, buffer: &mut [u8])
 // The smallest stage that serves two units, written at the start of the lent buffer, or the best found under the budget; or the refusal, which writes nothing.
 // The first sheet's refusals come before the second's, and 13, 10 and 12 after both; a sheet whose own sets leave a pattern no value is refused with 10 then.
 pub fn quote_joined(first: &[u8], second: &[u8], budget: u32, buffer: &mut [u8]) -> JointQuoted
-    ensures reply { jointReply result ≡ jointQuoted first.now second.now budget (length buffer.old) }
-    ensures bytes { buffer.new ≡ jointBuffer first.now second.now budget buffer.old }
-    ensures promise { JointPromised first.now second.now budget (jointReply result) buffer.new }
+    ensures reply { joint_reply result ≡ joint_quoted first.now second.now budget (length buffer.old) }
+    ensures bytes { buffer.new ≡ joint_buffer first.now second.now budget buffer.old }
+    ensures promise { JointPromised first.now second.now budget (joint_reply result) buffer.new }
 {
     let one = unit::relate(first);
     let answer = one.answer;

@@ -6,62 +6,62 @@ use native.Mathlib.Nat.{add_comm, lt_of_le_of_lt}
 use borrow.Author.Tests.{ne_eqb}
 use lib.Bits.{bit_and, and_mask, and_le_r}
 use lib.Dec.{eqb}
-use Rattle.sheet.specs.Limits.{maxWires}
-use Rattle.table.specs.Bits.{bit, sum, isOne}
-use Rattle.table.proofs.Bits.{bit-div}
-use Rattle.lanes.specs.Inner.Lanes.{laneBits, halfLane, lanesSpace, eachLane, lane_of, lanes_of, LanesBelow}
-use Rattle.lanes.proofs.Lanes.{lane-bit, lane-lanes, lane_and, lanes-back, lanes-are}
+use Rattle.sheet.specs.Limits.{max_wires}
+use Rattle.table.specs.Bits.{bit, sum, is_one}
+use Rattle.table.proofs.Bits.{bit_div}
+use Rattle.lanes.specs.Inner.Lanes.{lane_bits, half_lane, lanes_space, each_lane, lane_of, lanes_of, LanesBelow}
+use Rattle.lanes.proofs.Lanes.{lane_bit, lane_lanes, lane_and, lanes_back, lanes_are}
 
 -- the highest bit of each lane
 abbrev pub highest : ℕ
-highest = halfLane * eachLane
+highest = half_lane * each_lane
 
 -- a number times one in each lane stands in every lane
-pub each-times : (s : ℕ) → s * eachLane ≡ lanes_of (λ _. s)
+pub each_times : (s : ℕ) → s * each_lane ≡ lanes_of (λ _. s)
 unfolding lanes_of sum
-each-times s = omega arith
+each_times s = omega arith
 
-pub each_lane : (j : ℕ) → j < maxWires → lane_of eachLane j ≡ 1
+pub each_lane_lem : (j : ℕ) → j < max_wires → lane_of each_lane j ≡ 1
 unfolding lanes_of sum
-each_lane j l = lane-lanes (λ _. 1) (λ _ _. omega arith) j l
+each_lane_lem j l = lane_lanes (λ _. 1) (λ _ _. omega arith) j l
 
 -- the highest bit is left where nothing is taken off it
-highest-left : (a : ℕ) → a < halfLane → bit (halfLane - a) (laneBits - 1) ≡ isOne (eqb a 0)
-unfolding bit isOne
-highest-left zero l = refl
-highest-left (suc a) l = let e : isOne (eqb (suc a) 0) ≡ 0 = ap isOne (ne_eqb (suc a) 0 (λ d. absurd (omega arith))) in omega (arith, e)
+highest_left : (a : ℕ) → a < half_lane → bit (half_lane - a) (lane_bits - 1) ≡ is_one (eqb a 0)
+unfolding bit is_one
+highest_left zero l = refl
+highest_left (suc a) l = let e : is_one (eqb (suc a) 0) ≡ 0 = ap is_one (ne_eqb (suc a) 0 (λ d. absurd (omega arith))) in omega (arith, e)
 
 -- the lowest bit of each lane of a number
-lowest-bits : (y j : ℕ) → j < maxWires → lane_of (bit_and y eachLane) j ≡ bit y (laneBits * j)
+lowest_bits : (y j : ℕ) → j < max_wires → lane_of (bit_and y each_lane) j ≡ bit y (lane_bits * j)
 unfolding bit
-lowest-bits y j l =
+lowest_bits y j l =
     let low : lane_of y j % 2 ≡ lane_of y j / 2 ^ 0 % 2 = omega arith in
-    lane_and y eachLane j ∙ ap (bit_and (lane_of y j)) (each_lane j l) ∙ and_mask (lane_of y j) 1 ∙ low ∙ lane-bit y j 0 (omega arith)
+    lane_and y each_lane j ∙ ap (bit_and (lane_of y j)) (each_lane_lem j l) ∙ and_mask (lane_of y j) 1 ∙ low ∙ lane_bit y j 0 (omega arith)
     ∙ ap (bit y) (omega arith)
 
-module _ (x : ℕ) (lx : x < lanesSpace) (half : LanesBelow halfLane x) where
-  pub under-highest : x ≤ highest
+module _ (x : ℕ) (lx : x < lanes_space) (half : LanesBelow half_lane x) where
+  pub under_highest : x ≤ highest
   unfolding lanes_of sum
-  under-highest =
-      omega (arith, lanes-back x lx, half 0 (omega arith), half 1 (omega arith), half 2 (omega arith), half 3 (omega arith))
+  under_highest =
+      omega (arith, lanes_back x lx, half 0 (omega arith), half 1 (omega arith), half 2 (omega arith), half 3 (omega arith))
 
   -- no lane borrows
-  taken-off : highest - x ≡ lanes_of (λ j. halfLane - lane_of x j)
+  taken_off : highest - x ≡ lanes_of (λ j. half_lane - lane_of x j)
   unfolding lanes_of sum
-  taken-off =
-      omega (arith, lanes-back x lx, half 0 (omega arith), half 1 (omega arith), half 2 (omega arith), half 3 (omega arith))
+  taken_off =
+      omega (arith, lanes_back x lx, half 0 (omega arith), half 1 (omega arith), half 2 (omega arith), half 3 (omega arith))
 
-  left_lane : (j : ℕ) → j < maxWires → lane_of (highest - x) j ≡ halfLane - lane_of x j
-  left_lane j l = ap (λ y. lane_of y j) taken-off ∙ lane-lanes (λ i. halfLane - lane_of x i) (λ i _. omega arith) j l
+  left_lane : (j : ℕ) → j < max_wires → lane_of (highest - x) j ≡ half_lane - lane_of x j
+  left_lane j l = ap (λ y. lane_of y j) taken_off ∙ lane_lanes (λ i. half_lane - lane_of x i) (λ i _. omega arith) j l
 
-  empty-lane : (j : ℕ) → j < maxWires → lane_of (bit_and ((highest - x) / halfLane) eachLane) j ≡ isOne (eqb (lane_of x j) 0)
-  empty-lane j l =
-      lowest-bits ((highest - x) / halfLane) j l ∙ bit-div (highest - x) (laneBits - 1) (laneBits * j)
-      ∙ ap (bit (highest - x)) (add_comm (laneBits - 1) (laneBits * j))
-      ∙ sym (lane-bit (highest - x) j (laneBits - 1) (omega arith))
-      ∙ ap (λ y. bit y (laneBits - 1)) (left_lane j l) ∙ highest-left (lane_of x j) (half j l)
+  empty_lane : (j : ℕ) → j < max_wires → lane_of (bit_and ((highest - x) / half_lane) each_lane) j ≡ is_one (eqb (lane_of x j) 0)
+  empty_lane j l =
+      lowest_bits ((highest - x) / half_lane) j l ∙ bit_div (highest - x) (lane_bits - 1) (lane_bits * j)
+      ∙ ap (bit (highest - x)) (add_comm (lane_bits - 1) (lane_bits * j))
+      ∙ sym (lane_bit (highest - x) j (lane_bits - 1) (omega arith))
+      ∙ ap (λ y. bit y (lane_bits - 1)) (left_lane j l) ∙ highest_left (lane_of x j) (half j l)
 
-  pub empty-lanes : bit_and ((highest - x) / halfLane) eachLane ≡ lanes_of (λ j. isOne (eqb (lane_of x j) 0))
-  empty-lanes =
-      lanes-are (bit_and ((highest - x) / halfLane) eachLane) (λ j. isOne (eqb (lane_of x j) 0))
-      (lt_of_le_of_lt (and_le_r ((highest - x) / halfLane) eachLane) (omega arith)) empty-lane
+  pub empty_lanes : bit_and ((highest - x) / half_lane) each_lane ≡ lanes_of (λ j. is_one (eqb (lane_of x j) 0))
+  empty_lanes =
+      lanes_are (bit_and ((highest - x) / half_lane) each_lane) (λ j. is_one (eqb (lane_of x j) 0))
+      (lt_of_le_of_lt (and_le_r ((highest - x) / half_lane) each_lane) (omega arith)) empty_lane

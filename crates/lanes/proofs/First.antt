@@ -9,51 +9,51 @@ use lib.Count.{count_trailing_zeros}
 use lib.Dec.{T, eqb, ltb, eqb→eq, ltb→lt}
 use Rattle.base.specs.Lowest.{lowest}
 use Rattle.base.proofs.Tests.{and_left, and_right, or_cases}
-use Rattle.sheet.specs.Limits.{maxWires, maxValues}
+use Rattle.sheet.specs.Limits.{max_wires, max_values}
 use Rattle.table.specs.Bits.{bit, sum, of_bits, all}
-use Rattle.table.proofs.Bits.{bit-ofBits, ofBits-lt, all-at}
-use Rattle.lanes.specs.Inner.Lanes.{laneBits, lanesSpace, lane_of, lanes_of, putLane, firstWire, LanesBelow}
-use Rattle.lanes.proofs.Lanes.{lanes-are}
+use Rattle.table.proofs.Bits.{bit_of_bits, of_bits_lt, all_at}
+use Rattle.lanes.specs.Inner.Lanes.{lane_bits, lanes_space, lane_of, lanes_of, put_lane, first_wire, LanesBelow}
+use Rattle.lanes.proofs.Lanes.{lanes_are}
 
 -- a test of all numbers whose lanes are bits
-pub all-values : (test : ℕ → Bool) → T (all maxValues (λ v. test (lanes_of (bit v)))) → (x : ℕ) → x < lanesSpace → LanesBelow 2 x → T (test x)
-all-values test t x lx bits =
-    let v = of_bits maxWires (lane_of x) in
-    let e : x ≡ lanes_of (bit v) = lanes-are x (bit v) lx (λ j l. sym (bit-ofBits (lane_of x) maxWires bits j l)) in
-    subst (λ y. T (test y)) (sym e) (all-at maxValues (λ w. test (lanes_of (bit w))) t v (ofBits-lt (lane_of x) maxWires bits))
+pub all_values : (test : ℕ → Bool) → T (all max_values (λ v. test (lanes_of (bit v)))) → (x : ℕ) → x < lanes_space → LanesBelow 2 x → T (test x)
+all_values test t x lx bits =
+    let v = of_bits max_wires (lane_of x) in
+    let e : x ≡ lanes_of (bit v) = lanes_are x (bit v) lx (λ j l. sym (bit_of_bits (lane_of x) max_wires bits j l)) in
+    subst (λ y. T (test y)) (sym e) (all_at max_values (λ w. test (lanes_of (bit w))) t v (of_bits_lt (lane_of x) max_wires bits))
 
 -- the lowest bit of a number that is not 0 stands in the lane of the first wire whose bit is 1
 abbrev found : ℕ → Bool
-found x = eqb (count_trailing_zeros (laneBits * maxWires) x / laneBits) (firstWire x) && ltb (firstWire x) maxWires
+found x = eqb (count_trailing_zeros (lane_bits * max_wires) x / lane_bits) (first_wire x) && ltb (first_wire x) max_wires
 
 -- so the lane is 0 once that bit is taken out
 abbrev emptied : ℕ → Bool
-emptied x = eqb (bit_and x (x - 1)) (putLane x (firstWire x) 0)
+emptied x = eqb (bit_and x (x - 1)) (put_lane x (first_wire x) 0)
 
 abbrev right : ℕ → Bool
 right x = eqb x 0 || (found x && emptied x)
 
-tested : T (all maxValues (λ v. right (lanes_of (bit v))))
-unfolding all lanes_of sum bit lane_of putLane lowest count_trailing_zeros
+tested : T (all max_values (λ v. right (lanes_of (bit v))))
+unfolding all lanes_of sum bit lane_of put_lane lowest count_trailing_zeros
 tested = tt
 
-module _ (x : ℕ) (lx : x < lanesSpace) (bits : LanesBelow 2 x) (some : 0 < x) where
+module _ (x : ℕ) (lx : x < lanes_space) (bits : LanesBelow 2 x) (some : 0 < x) where
   both : T (found x && emptied x)
   both =
-      ⊎_elim (λ t. absurd (omega (arith, eqb→eq x 0 t))) (λ t. t) (or_cases (eqb x 0) (found x && emptied x) (all-values right tested x lx bits))
+      ⊎_elim (λ t. absurd (omega (arith, eqb→eq x 0 t))) (λ t. t) (or_cases (eqb x 0) (found x && emptied x) (all_values right tested x lx bits))
 
   abbrev place : ℕ
-  place = count_trailing_zeros (laneBits * maxWires) x / laneBits
+  place = count_trailing_zeros (lane_bits * max_wires) x / lane_bits
 
-  pub first_found : place ≡ firstWire x
-  first_found = eqb→eq place (firstWire x) (and_left (eqb place (firstWire x)) (ltb (firstWire x) maxWires) (and_left (found x) (emptied x) both))
+  pub first_found : place ≡ first_wire x
+  first_found = eqb→eq place (first_wire x) (and_left (eqb place (first_wire x)) (ltb (first_wire x) max_wires) (and_left (found x) (emptied x) both))
 
-  pub first-lt : firstWire x < maxWires
-  first-lt = ltb→lt (firstWire x) maxWires (and_right (eqb place (firstWire x)) (ltb (firstWire x) maxWires) (and_left (found x) (emptied x) both))
+  pub first_lt : first_wire x < max_wires
+  first_lt = ltb→lt (first_wire x) max_wires (and_right (eqb place (first_wire x)) (ltb (first_wire x) max_wires) (and_left (found x) (emptied x) both))
 
-  pub first-emptied : bit_and x (x - 1) ≡ putLane x (firstWire x) 0
-  first-emptied = eqb→eq (bit_and x (x - 1)) (putLane x (firstWire x) 0) (and_right (found x) (emptied x) both)
+  pub first_emptied : bit_and x (x - 1) ≡ put_lane x (first_wire x) 0
+  first_emptied = eqb→eq (bit_and x (x - 1)) (put_lane x (first_wire x) 0) (and_right (found x) (emptied x) both)
 
   -- and the number becomes less
-  pub first-less : putLane x (firstWire x) 0 < x
-  first-less = let e : bit_and x (x - 1) ≤ x - 1 = and_le_r x (x - 1) in omega (arith, e, first-emptied)
+  pub first_less : put_lane x (first_wire x) 0 < x
+  first_less = let e : bit_and x (x - 1) ≤ x - 1 = and_le_r x (x - 1) in omega (arith, e, first_emptied)

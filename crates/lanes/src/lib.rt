@@ -2,11 +2,11 @@
 // `by_value` have a lane for each of four values.
 // Inner functions: the search meets what they require, wires that there are, and bits in the lanes where bits are asked for.
 ghost use Rattle.std.specs.Prelude.{◌≡◌, not, cond, ℕ, ◌<◌, eqb};
-ghost use Rattle.sheet.specs.Limits.{maxWires};
-ghost use Rattle.table.specs.Bits.{isOne};
+ghost use Rattle.sheet.specs.Limits.{max_wires};
+ghost use Rattle.table.specs.Bits.{is_one};
 ghost use Rattle.relation.specs.Tests.{occurs};
 ghost use Rattle.relation.specs.Inner.Members.{member};
-ghost use Rattle.lanes.specs.Inner.Lanes.{laneSpace, halfLane, lanesSpace, lane_of, lanes_of, putLane, firstWire, LanesBelow};
+ghost use Rattle.lanes.specs.Inner.Lanes.{lane_space, half_lane, lanes_space, lane_of, lanes_of, put_lane, first_wire, LanesBelow};
 
 use sheet::Sheet;
 
@@ -36,16 +36,16 @@ const ONES_LOWERED: u64 = 0x7f80_7878_6666_5555;
 
 // The lane of wire j.
 pub fn lane(x: u64, j: u8) -> u64
-    requires { j < maxWires }
-    ensures { (result ≡ lane_of x j) × (result < laneSpace) }
+    requires { j < max_wires }
+    ensures { (result ≡ lane_of x j) × (result < lane_space) }
 {
     (x >> (LANE * j)) % LANE_SPACE
 }
 
 // The number once the lane of wire j is y: the old lane is taken off, and y is put there.
 pub fn put_lane(x: u64, j: u8, y: u64) -> u64
-    requires { (j < maxWires) × (y < laneSpace) }
-    ensures { result ≡ putLane x j y }
+    requires { (j < max_wires) × (y < lane_space) }
+    ensures { result ≡ put_lane x j y }
 {
     let at = LANE * j;
     x - (x & (FULL << at)) + (y << at)
@@ -54,22 +54,22 @@ pub fn put_lane(x: u64, j: u8, y: u64) -> u64
 // 1 in each lane that is 0, and 0 in the others: each lane is taken off its highest bit, which is left only where nothing was taken off. A lane
 // without its highest bit is less than that bit, so none borrows from the next.
 fn vacant(x: u64) -> u64
-    requires { LanesBelow halfLane x }
-    ensures { result ≡ lanes_of (λ j. isOne (eqb (lane_of x j) 0)) }
+    requires { LanesBelow half_lane x }
+    ensures { result ≡ lanes_of (λ j. is_one (eqb (lane_of x j) 0)) }
 {
     ((HIGHEST - x) >> TOP) & LANES
 }
 
 // For each wire whether no value of a set has it at 0, with no branch and no loop over the wires.
 pub fn no_zeros(set: u16) -> u64
-    ensures { result ≡ lanes_of (λ j. isOne (not (occurs maxWires (member set) j 0))) }
+    ensures { result ≡ lanes_of (λ j. is_one (not (occurs max_wires (member set) j 0))) }
 {
     vacant((set as u64 * LANES) & ZEROS)
 }
 
 // For each wire whether no value of a set has it at 1. Set and values are both one bit lower, which changes no answer.
 pub fn no_ones(set: u16) -> u64
-    ensures { result ≡ lanes_of (λ j. isOne (not (occurs maxWires (member set) j 1))) }
+    ensures { result ≡ lanes_of (λ j. is_one (not (occurs max_wires (member set) j 1))) }
 {
     vacant(((set as u64 * LANES) >> 1) & ONES_LOWERED)
 }
@@ -77,7 +77,7 @@ pub fn no_ones(set: u16) -> u64
 // The wires whose bit no value has any more: of a wire that drives 1 whether none has it at 1, of one that drives 0 whether none has it at 0.
 pub fn broken(driven: u64, zeroless: u64, oneless: u64) -> u64
     requires { LanesBelow 2 driven × LanesBelow 2 zeroless × LanesBelow 2 oneless }
-    ensures { ((j : ℕ) → j < maxWires → lane_of result j ≡ cond (eqb (lane_of driven j) 1) (lane_of oneless j) (lane_of zeroless j)) × LanesBelow 2 result × (result < lanesSpace) }
+    ensures { ((j : ℕ) → j < max_wires → lane_of result j ≡ cond (eqb (lane_of driven j) 1) (lane_of oneless j) (lane_of zeroless j)) × LanesBelow 2 result × (result < lanes_space) }
 {
     zeroless ^ ((zeroless ^ oneless) & driven)
 }
@@ -85,7 +85,7 @@ pub fn broken(driven: u64, zeroless: u64, oneless: u64) -> u64
 // The first wire whose bit is 1: the lowest bit of the number stands in its lane.
 pub fn lowest_wire(x: u64) -> u8
     requires { LanesBelow 2 x × (0 < x) }
-    ensures { (result ≡ firstWire x) × (result < maxWires) }
+    ensures { (result ≡ first_wire x) × (result < max_wires) }
 {
     (u64::trailing_zeros(x) / LANE as u32) as u8
 }
@@ -93,7 +93,7 @@ pub fn lowest_wire(x: u64) -> u8
 // The number once the bit of that wire is 0: it is the number's lowest bit.
 pub fn without_lowest(x: u64) -> u64
     requires { LanesBelow 2 x × (0 < x) }
-    ensures { result ≡ putLane x (firstWire x) 0 }
+    ensures { result ≡ put_lane x (first_wire x) 0 }
 {
     x & (x - 1)
 }

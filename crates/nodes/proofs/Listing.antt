@@ -8,48 +8,48 @@ use native.Mathlib.Omega.{arith}
 use lib.Dec.{T, T_not, not_T, eqb, eqb→eq}
 use lib.ListN.{length}
 use Rattle.base.proofs.Tests.{cond_has, eq_test}
-use Rattle.table.specs.Cells.{low, high, full, wiredTable, selectorCells}
-use Rattle.table.proofs.Wired.{selector-most}
+use Rattle.table.specs.Cells.{low, high, full, wired_table, selector_cells}
+use Rattle.table.proofs.Wired.{selector_most}
 use Rattle.nodes.specs.Nodes.{Node, node, same, has, listing, price, weight, nodes}
 use Rattle.nodes.specs.Subfunctions.{Distinct}
-use Rattle.nodes.proofs.Lists.{has-later, has-cases}
+use Rattle.nodes.proofs.Lists.{has_later, has_cases}
 
 -- Worked rows, computed from the meanings.
 unfoldable pub counting : ℕ
-unfolding low high full wiredTable selectorCells same has listing price weight nodes
+unfolding low high full wired_table selector_cells same has listing price weight nodes
 counting = 0
 
 -- the majority of three inputs: input 3; it and input 2; it or input 2; and the choice between these by input 1. The latest stands first
-pub majority-listed : listing 3 0xE8 [] ≡ node 2 0xE8 ∷ node 1 0xE ∷ node 1 0x8 ∷ node 0 0x2 ∷ []
+pub majority_listed : listing 3 0xE8 [] ≡ node 2 0xE8 ∷ node 1 0xE ∷ node 1 0x8 ∷ node 0 0x2 ∷ []
 unfolding counting
-majority-listed = refl
+majority_listed = refl
 
 -- it counts for three, since input 3 itself is free
-pub majority-nodes : nodes 3 0xE8 ≡ 3
+pub majority_nodes : nodes 3 0xE8 ≡ 3
 unfolding counting
-majority-nodes = refl
+majority_nodes = refl
 
 -- the parity of three inputs counts for four, its five nodes but for input 3 itself, and that of four inputs likewise for six of seven; input 2 of three
 -- counts for none, its inverse for one, and a constant for none
-pub parity-nodes : nodes 3 0x96 ≡ 4
+pub parity_nodes : nodes 3 0x96 ≡ 4
 unfolding counting
-parity-nodes = refl
+parity_nodes = refl
 
-pub parity-four-nodes : nodes 4 0x6996 ≡ 6
+pub parity_four_nodes : nodes 4 0x6996 ≡ 6
 unfolding counting
-parity-four-nodes = refl
+parity_four_nodes = refl
 
-pub input-nodes : nodes 3 0xCC ≡ 0
+pub input_nodes : nodes 3 0xCC ≡ 0
 unfolding counting
-input-nodes = refl
+input_nodes = refl
 
-pub inverse-nodes : nodes 3 0x33 ≡ 1
+pub inverse_nodes : nodes 3 0x33 ≡ 1
 unfolding counting
-inverse-nodes = refl
+inverse_nodes = refl
 
-pub constant-nodes : nodes 4 0xFFFF ≡ 0
+pub constant_nodes : nodes 4 0xFFFF ≡ 0
 unfolding counting
-constant-nodes = refl
+constant_nodes = refl
 
 -- what holds of every visit: by the four ways that a visit can go
 module _
@@ -78,42 +78,42 @@ pub record Grown (r : ℕ) (s o : List Node) : Type 0 where
   pub fresh : (k : Node) → r ≤ k.after → T (has o k) → T (has s k)
   pub distinct : Distinct s → Distinct o
 
-grown-same : (r : ℕ) (s : List Node) → Grown r s s
-grown-same r s = record { kept = λ k h. h; fresh = λ k l h. h; distinct = λ d. d }
+grown_same : (r : ℕ) (s : List Node) → Grown r s s
+grown_same r s = record { kept = λ k h. h; fresh = λ k l h. h; distinct = λ d. d }
 
-grown-passed : (r : ℕ) (s o : List Node) → Grown r s o → Grown (suc r) s o
-grown-passed r s o p = record { kept = p.kept; fresh = λ k l h. p.fresh k (omega arith) h; distinct = p.distinct }
+grown_passed : (r : ℕ) (s o : List Node) → Grown r s o → Grown (suc r) s o
+grown_passed r s o p = record { kept = p.kept; fresh = λ k l h. p.fresh k (omega arith) h; distinct = p.distinct }
 
-grown-new : (r t : ℕ) (s m o : List Node) → T (not (has s (node r t))) → Grown r s m → Grown r m o → Grown (suc r) s (node r t ∷ o)
+grown_new : (r t : ℕ) (s m o : List Node) → T (not (has s (node r t))) → Grown r s m → Grown r m o → Grown (suc r) s (node r t ∷ o)
 unfolding Distinct
-grown-new r t s m o y p q = record {
-  kept = λ k h. has-later (node r t) k o (q.kept k (p.kept k h));
+grown_new r t s m o y p q = record {
+  kept = λ k h. has_later (node r t) k o (q.kept k (p.kept k h));
   fresh = λ k l h.
       ⊎_elim (λ (e : k ≡ node r t). let w : k.after ≡ r = ap (λ z. z.after) e in absurd (omega arith))
-      (λ g. p.fresh k (omega arith) (q.fresh k (omega arith) g)) (has-cases (node r t) k o h);
+      (λ g. p.fresh k (omega arith) (q.fresh k (omega arith) g)) (has_cases (node r t) k o h);
   distinct = λ d. (
     not_T (has o (node r t)) (λ g. T_not (has s (node r t)) y (p.fresh (node r t) (omega arith) (q.fresh (node r t) (omega arith) g))),
     q.distinct (p.distinct d),
   );
 }
 
-pub listing-grown : (r t : ℕ) (s : List Node) → Grown r s (listing r t s)
-listing-grown =
-    visits (λ r t s o. Grown r s o) (λ t s. grown-same zero s)
-    (λ r t s o e p. grown-passed r s o p)
-    (λ r t s d y. grown-same (suc r) s) (λ r t s m o d y p q. grown-new r t s m o y p q)
+pub listing_grown : (r t : ℕ) (s : List Node) → Grown r s (listing r t s)
+listing_grown =
+    visits (λ r t s o. Grown r s o) (λ t s. grown_same zero s)
+    (λ r t s o e p. grown_passed r s o p)
+    (λ r t s d y. grown_same (suc r) s) (λ r t s m o d y p q. grown_new r t s m o y p q)
 
 -- what is listed for a table, each once
-pub listing-once : (n t : ℕ) → Distinct (listing n t [])
+pub listing_once : (n t : ℕ) → Distinct (listing n t [])
 unfolding Distinct
-listing-once n t = (listing-grown n t []).distinct tt
+listing_once n t = (listing_grown n t []).distinct tt
 
 -- no list counts for more than its nodes, so a table has no more cells than what is written of it has selectors
-pub weight-few : (ks : List Node) → weight price ks ≤ length ks
+pub weight_few : (ks : List Node) → weight price ks ≤ length ks
 unfolding weight price
-weight-few [] = omega arith
-weight-few (k ∷ ks) = omega (arith, selector-most (wiredTable k.after k.table), weight-few ks)
+weight_few [] = omega arith
+weight_few (k ∷ ks) = omega (arith, selector_most (wired_table k.after k.table), weight_few ks)
 
-pub nodes-listed : (n t : ℕ) → nodes n t ≤ length (listing n t [])
+pub nodes_listed : (n t : ℕ) → nodes n t ≤ length (listing n t [])
 unfolding nodes
-nodes-listed n t = weight-few (listing n t [])
+nodes_listed n t = weight_few (listing n t [])

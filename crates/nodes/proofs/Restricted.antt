@@ -9,11 +9,11 @@ use lib.Bits.{bit_and, bit_or, or_shr, or_mod, and_mod}
 use lib.Dec.{T, eqb, ltb, ltb→lt, eqb→eq}
 use Rattle.base.proofs.Tests.{and_left, and_right, eq_test}
 use Rattle.table.specs.Bits.{bit, all}
-use Rattle.table.specs.Inner.Pairs.{byteBits, pairBits}
+use Rattle.table.specs.Inner.Pairs.{byte_bits, pair_bits}
 use Rattle.table.specs.Inner.Blocks.{entries}
-use Rattle.table.proofs.Below.{all-at}
-use Rattle.table.proofs.Bits.{bit-mod, bit-div, bit-ext, bit-cases, test-and}
-use Rattle.nodes.specs.Inner.Ways.{together, quarterBytes, fromBelow, notOddZeros, noInverted}
+use Rattle.table.proofs.Below.{all_at}
+use Rattle.table.proofs.Bits.{bit_mod, bit_div, bit_ext, bit_cases, test_and}
+use Rattle.nodes.specs.Inner.Ways.{together, quarter_bytes, from_below, not_odd_zeros, no_inverted}
 use Rattle.nodes.proofs.Quarters.{below4}
 
 -- a bit is set
@@ -22,7 +22,7 @@ on x p = eqb (bit x p) 1
 
 on_or : (a b p : ℕ) → on (bit_or a b) p ≡ on a p || on b p
 unfolding bit
-on_or a b p = ap (λ x. eqb (x % 2) 1) (or_shr a b p) ∙ ap (λ x. eqb x 1) (or_mod (a / 2 ^ p) (b / 2 ^ p) 1) ∙ go (bit a p) (bit b p) (bit-cases a p) (bit-cases b p)
+on_or a b p = ap (λ x. eqb (x % 2) 1) (or_shr a b p) ∙ ap (λ x. eqb x 1) (or_mod (a / 2 ^ p) (b / 2 ^ p) 1) ∙ go (bit a p) (bit b p) (bit_cases a p) (bit_cases b p)
   where
     go : (x y : ℕ) → (x ≡ 0) ⊎ (x ≡ 1) → (y ≡ 0) ⊎ (y ≡ 1) → eqb (bit_or x y) 1 ≡ eqb x 1 || eqb y 1
     go x y (inl e) (inl d) = rw (e, d)
@@ -31,10 +31,10 @@ on_or a b p = ap (λ x. eqb (x % 2) 1) (or_shr a b p) ∙ ap (λ x. eqb x 1) (or
     go x y (inr e) (inr d) = rw (e, d)
 
 -- bytes are equal by which of their bits are set
-on-ext : (x y : ℕ) → ((p : ℕ) → p < byteBits → on x p ≡ on y p) → x % entries ≡ y % entries
-on-ext x y h =
-    bit-ext byteBits (x % entries) (y % entries) (omega arith) (omega arith)
-    (λ p l. bit-mod x {k = byteBits} l ∙ go (bit x p) (bit y p) (bit-cases x p) (bit-cases y p) (h p l) ∙ sym (bit-mod y {k = byteBits} l))
+on_ext : (x y : ℕ) → ((p : ℕ) → p < byte_bits → on x p ≡ on y p) → x % entries ≡ y % entries
+on_ext x y h =
+    bit_ext byte_bits (x % entries) (y % entries) (omega arith) (omega arith)
+    (λ p l. bit_mod x {k = byte_bits} l ∙ go (bit x p) (bit y p) (bit_cases x p) (bit_cases y p) (h p l) ∙ sym (bit_mod y {k = byte_bits} l))
   where
     go : (a b : ℕ) → (a ≡ 0) ⊎ (a ≡ 1) → (b ≡ 0) ⊎ (b ≡ 1) → eqb a 1 ≡ eqb b 1 → a ≡ b
     go a b (inl e) (inl d) g = e ∙ sym d
@@ -51,41 +51,41 @@ even : (x : ℕ) → bit (x * 2) 0 ≡ 0
 unfolding bit
 even x = omega arith
 
-on_below : (x p : ℕ) → p < pairBits → on (fromBelow x) p ≡ under x p
+on_below : (x p : ℕ) → p < pair_bits → on (from_below x) p ≡ under x p
 unfolding under
-on_below x zero l = ap (λ y. eqb y 1) (bit-mod (x * 2) {k = pairBits} l ∙ even x)
+on_below x zero l = ap (λ y. eqb y 1) (bit_mod (x * 2) {k = pair_bits} l ∙ even x)
 on_below x (suc p) l =
     let e : x * 2 / 2 ≡ x = omega arith in
     let d : suc p ≡ 1 + p = omega arith in
-    ap (λ y. eqb y 1) (bit-mod (x * 2) {k = pairBits} l ∙ ap (bit (x * 2)) d ∙ sym (bit-div (x * 2) 1 p) ∙ ap (λ y. bit y p) e)
+    ap (λ y. eqb y 1) (bit_mod (x * 2) {k = pair_bits} l ∙ ap (bit (x * 2)) d ∙ sym (bit_div (x * 2) 1 p) ∙ ap (λ y. bit y p) e)
 
-under-and : (x y p : ℕ) → under (bit_and x y) p ≡ under x p && under y p
+under_and : (x y p : ℕ) → under (bit_and x y) p ≡ under x p && under y p
 unfolding under
-under-and x y zero = refl
-under-and x y (suc p) = test-and x y p
+under_and x y zero = refl
+under_and x y (suc p) = test_and x y p
 
 -- byte j of a number
-bytes_on : (w j p : ℕ) → j < 4 → on (quarterBytes w j) p ≡ on w (byteBits * j + p)
+bytes_on : (w j p : ℕ) → j < 4 → on (quarter_bytes w j) p ≡ on w (byte_bits * j + p)
 bytes_on w j p l =
     ap (λ y. eqb y 1)
-    (below4 (λ j. bit (quarterBytes w j) p ≡ bit w (byteBits * j + p)) (ap (bit w) (omega arith)) (bit-div w 8 p) (bit-div w 16 p) (bit-div w 24 p) j l)
+    (below4 (λ j. bit (quarter_bytes w j) p ≡ bit w (byte_bits * j + p)) (ap (bit w) (omega arith)) (bit_div w 8 p) (bit_div w 16 p) (bit_div w 24 p) j l)
 
-in-byte : (w j p : ℕ) → j < 4 → p < byteBits → on (quarterBytes w j % entries) p ≡ on w (byteBits * j + p)
-in-byte w j p lj l = ap (λ y. eqb y 1) (bit-mod (quarterBytes w j) {k = byteBits} l) ∙ bytes_on w j p lj
+in_byte : (w j p : ℕ) → j < 4 → p < byte_bits → on (quarter_bytes w j % entries) p ≡ on w (byte_bits * j + p)
+in_byte w j p lj l = ap (λ y. eqb y 1) (bit_mod (quarter_bytes w j) {k = byte_bits} l) ∙ bytes_on w j p lj
 
--- the bits of `notOddZeros` are the same in every byte, and the lowest is set: so a byte needs no bit of the byte below it
-free-alike : (j p : ℕ) → j < 4 → p < byteBits → on notOddZeros (byteBits * j + p) ≡ on notOddZeros p
+-- the bits of `not_odd_zeros` are the same in every byte, and the lowest is set: so a byte needs no bit of the byte below it
+free_alike : (j p : ℕ) → j < 4 → p < byte_bits → on not_odd_zeros (byte_bits * j + p) ≡ on not_odd_zeros p
 unfolding all bit
-free-alike j p lj l =
+free_alike j p lj l =
     ap (λ y. eqb y 1)
-    (eqb→eq (bit notOddZeros (byteBits * j + p)) (bit notOddZeros p)
-    (all-at byteBits (λ p. eqb (bit notOddZeros (byteBits * j + p)) (bit notOddZeros p))
-    (all-at 4 (λ j. all byteBits (λ p. eqb (bit notOddZeros (byteBits * j + p)) (bit notOddZeros p))) tt j lj) p l))
+    (eqb→eq (bit not_odd_zeros (byte_bits * j + p)) (bit not_odd_zeros p)
+    (all_at byte_bits (λ p. eqb (bit not_odd_zeros (byte_bits * j + p)) (bit not_odd_zeros p))
+    (all_at 4 (λ j. all byte_bits (λ p. eqb (bit not_odd_zeros (byte_bits * j + p)) (bit not_odd_zeros p))) tt j lj) p l))
 
 -- a list of quarters
-unfoldable pub inFour : List ℕ → Bool
-inFour [] = true
-inFour (j ∷ js) = ltb j 4 && inFour js
+unfoldable pub in_four : List ℕ → Bool
+in_four [] = true
+in_four (j ∷ js) = ltb j 4 && in_four js
 
 swapped : (a b c d : Bool) → (a && b) && (c && d) ≡ (a && c) && (b && d)
 swapped true true c d = refl
@@ -93,59 +93,59 @@ swapped true false true d = refl
 swapped true false false d = refl
 swapped false b c d = refl
 
-shared-or : (a b c : Bool) → (a && b) || c ≡ (a || c) && (b || c)
-shared-or true b c = refl
-shared-or false true true = refl
-shared-or false true false = refl
-shared-or false false true = refl
-shared-or false false false = refl
+shared_or : (a b c : Bool) → (a && b) || c ≡ (a || c) && (b || c)
+shared_or true b c = refl
+shared_or false true true = refl
+shared_or false true false = refl
+shared_or false false true = refl
+shared_or false false false = refl
 
-or-true : (a : Bool) → a || true ≡ true
-or-true true = refl
-or-true false = refl
+or_true : (a : Bool) → a || true ≡ true
+or_true true = refl
+or_true false = refl
 
 -- a bit is kept where the one below it is set, or where it is free
 abbrev keeps : ℕ → ℕ → Bool
-keeps x p = under x p || on notOddZeros p
+keeps x p = under x p || on not_odd_zeros p
 
-cut_on : (x p : ℕ) → p < pairBits → on (noInverted x) p ≡ on x p && keeps x p
+cut_on : (x p : ℕ) → p < pair_bits → on (no_inverted x) p ≡ on x p && keeps x p
 cut_on x p l =
-    test-and x (bit_or (fromBelow x) notOddZeros) p
-    ∙ ap (λ b. on x p && b) (on_or (fromBelow x) notOddZeros p ∙ ap (λ b. b || on notOddZeros p) (on_below x p l))
+    test_and x (bit_or (from_below x) not_odd_zeros) p
+    ∙ ap (λ b. on x p && b) (on_or (from_below x) not_odd_zeros p ∙ ap (λ b. b || on not_odd_zeros p) (on_below x p l))
 
-cut-and : (x y p : ℕ) → p < pairBits → on (noInverted (bit_and x y)) p ≡ on (noInverted x) p && on (noInverted y) p
-cut-and x y p l =
+cut_and : (x y p : ℕ) → p < pair_bits → on (no_inverted (bit_and x y)) p ≡ on (no_inverted x) p && on (no_inverted y) p
+cut_and x y p l =
     cut_on (bit_and x y) p l
-    ∙ ap₂ (λ a b. a && b) (test-and x y p) (ap (λ b. b || on notOddZeros p) (under-and x y p) ∙ shared-or (under x p) (under y p) (on notOddZeros p))
+    ∙ ap₂ (λ a b. a && b) (test_and x y p) (ap (λ b. b || on not_odd_zeros p) (under_and x y p) ∙ shared_or (under x p) (under y p) (on not_odd_zeros p))
     ∙ swapped (on x p) (on y p) (keeps x p) (keeps y p) ∙ sym (ap₂ (λ a b. a && b) (cut_on x p l) (cut_on y p l))
 
-keeps-byte : (w j p : ℕ) → j < 4 → p < byteBits → keeps w (byteBits * j + p) ≡ keeps (quarterBytes w j % entries) p
+keeps_byte : (w j p : ℕ) → j < 4 → p < byte_bits → keeps w (byte_bits * j + p) ≡ keeps (quarter_bytes w j % entries) p
 unfolding under bit
-keeps-byte w j zero lj l =
-    ap (λ b. under w (byteBits * j + 0) || b) (free-alike j 0 lj l) ∙ or-true (under w (byteBits * j + 0))
-keeps-byte w j (suc p) lj l =
-    let e : byteBits * j + suc p ≡ suc (byteBits * j + p) = omega arith in
-    ap₂ (λ a b. a || b) (ap (under w) e ∙ sym (in-byte w j p lj (omega arith))) (free-alike j (suc p) lj l)
+keeps_byte w j zero lj l =
+    ap (λ b. under w (byte_bits * j + 0) || b) (free_alike j 0 lj l) ∙ or_true (under w (byte_bits * j + 0))
+keeps_byte w j (suc p) lj l =
+    let e : byte_bits * j + suc p ≡ suc (byte_bits * j + p) = omega arith in
+    ap₂ (λ a b. a || b) (ap (under w) e ∙ sym (in_byte w j p lj (omega arith))) (free_alike j (suc p) lj l)
 
-byte_cut : (w j : ℕ) → j < 4 → quarterBytes (noInverted w) j % entries ≡ noInverted (quarterBytes w j % entries) % entries
+byte_cut : (w j : ℕ) → j < 4 → quarter_bytes (no_inverted w) j % entries ≡ no_inverted (quarter_bytes w j % entries) % entries
 byte_cut w j lj =
-    on-ext (quarterBytes (noInverted w) j) (noInverted (quarterBytes w j % entries))
+    on_ext (quarter_bytes (no_inverted w) j) (no_inverted (quarter_bytes w j % entries))
     (λ p l.
-    bytes_on (noInverted w) j p lj ∙ cut_on w (byteBits * j + p) (omega arith)
-    ∙ ap₂ (λ a b. a && b) (sym (in-byte w j p lj l)) (keeps-byte w j p lj l) ∙ sym (cut_on (quarterBytes w j % entries) p (omega arith)))
+    bytes_on (no_inverted w) j p lj ∙ cut_on w (byte_bits * j + p) (omega arith)
+    ∙ ap₂ (λ a b. a && b) (sym (in_byte w j p lj l)) (keeps_byte w j p lj l) ∙ sym (cut_on (quarter_bytes w j % entries) p (omega arith)))
 
 -- the bytes of a class
-pub together-cut : (w j : ℕ) (js : List ℕ) → T (inFour (j ∷ js))
-    → together (quarterBytes (noInverted w)) (j ∷ js) % entries ≡ noInverted (together (quarterBytes w) (j ∷ js) % entries) % entries
-unfolding inFour
-together-cut w j [] f = byte_cut w j (ltb→lt j 4 (and_left (ltb j 4) true f))
-together-cut w j (k ∷ js) f =
-    let a = together (quarterBytes w) (k ∷ js) in
-    let b = quarterBytes w j in
-    let x = noInverted (a % entries) in
-    let y = noInverted (b % entries) in
-    and_mod (together (quarterBytes (noInverted w)) (k ∷ js)) (quarterBytes (noInverted w) j) byteBits
-    ∙ ap₂ bit_and (together-cut w k js (and_right (ltb j 4) (inFour (k ∷ js)) f)) (byte_cut w j (ltb→lt j 4 (and_left (ltb j 4) (inFour (k ∷ js)) f)))
-    ∙ sym (and_mod x y byteBits)
-    ∙ on-ext (bit_and x y) (noInverted (bit_and (a % entries) (b % entries))) (λ p l. test-and x y p ∙ sym (cut-and (a % entries) (b % entries) p (omega arith)))
-    ∙ ap (λ z. noInverted z % entries) (sym (and_mod a b byteBits))
+pub together_cut : (w j : ℕ) (js : List ℕ) → T (in_four (j ∷ js))
+    → together (quarter_bytes (no_inverted w)) (j ∷ js) % entries ≡ no_inverted (together (quarter_bytes w) (j ∷ js) % entries) % entries
+unfolding in_four
+together_cut w j [] f = byte_cut w j (ltb→lt j 4 (and_left (ltb j 4) true f))
+together_cut w j (k ∷ js) f =
+    let a = together (quarter_bytes w) (k ∷ js) in
+    let b = quarter_bytes w j in
+    let x = no_inverted (a % entries) in
+    let y = no_inverted (b % entries) in
+    and_mod (together (quarter_bytes (no_inverted w)) (k ∷ js)) (quarter_bytes (no_inverted w) j) byte_bits
+    ∙ ap₂ bit_and (together_cut w k js (and_right (ltb j 4) (in_four (k ∷ js)) f)) (byte_cut w j (ltb→lt j 4 (and_left (ltb j 4) (in_four (k ∷ js)) f)))
+    ∙ sym (and_mod x y byte_bits)
+    ∙ on_ext (bit_and x y) (no_inverted (bit_and (a % entries) (b % entries))) (λ p l. test_and x y p ∙ sym (cut_and (a % entries) (b % entries) p (omega arith)))
+    ∙ ap (λ z. no_inverted z % entries) (sym (and_mod a b byte_bits))

@@ -2,7 +2,7 @@
 -- (no complement edges) but for the plain inputs among them (E4). A node stands for a subfunction: what is left of the table once its first inputs have
 -- their values.
 use Rattle.std.specs.Prelude.{ℕ, zero, suc, ◌+◌, Bool, false, cond, ◌&&◌, ◌||◌, List, [], ◌∷◌, eqb}
-use Rattle.table.specs.Cells.{low, high, wiredTable, selectorCells}
+use Rattle.table.specs.Cells.{low, high, wired_table, selector_cells}
 
 -- a subfunction whose halves differ, so that it needs a selector: how many inputs stand after the one that it tests, and its table, of one input more
 pub record Node : Type 0 where
@@ -25,14 +25,14 @@ has (x ∷ xs) k = same k x || has xs k
 unfoldable pub listing : ℕ → ℕ → List Node → List Node
 listing zero t seen = seen
 listing (suc r) t seen =
-    let low-listed = listing r (low r t) seen in
-    let both-listed = node r t ∷ listing r (high r t) low-listed in
-    let listed = cond (has seen (node r t)) seen both-listed in
-    cond (eqb (low r t) (high r t)) low-listed listed
+    let low_listed = listing r (low r t) seen in
+    let both_listed = node r t ∷ listing r (high r t) low_listed in
+    let listed = cond (has seen (node r t)) seen both_listed in
+    cond (eqb (low r t) (high r t)) low_listed listed
 
 -- what a node counts for: none where its table is the input that it tests, whose line is soldered through (document 02, E4)
 unfoldable pub price : Node → ℕ
-price k = selectorCells (wiredTable k.after k.table)
+price k = selector_cells (wired_table k.after k.table)
 
 unfoldable pub weight : (Node → ℕ) → List Node → ℕ
 weight cost [] = zero

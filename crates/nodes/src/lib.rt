@@ -1,7 +1,7 @@
 // Nodes of a table: those of the reduced ordered binary decision diagram of its function. They are its cells on a board that shares selectors, but for plain
 // inputs, which count for none.
 ghost use Rattle.std.specs.Prelude.{◌≡◌};
-ghost use Rattle.nodes.specs.Counts.{mostInputs};
+ghost use Rattle.nodes.specs.Counts.{most_inputs};
 
 use sheet::Sheet;
 
@@ -16,7 +16,7 @@ pub enum BoardKind {
 
 // The most inputs of a board (document 02, E5).
 pub fn most_inputs(kind: BoardKind) -> u8
-    ensures { result ≡ mostInputs kind }
+    ensures { result ≡ most_inputs kind }
 {
     match kind {
         BoardKind::Tree => Sheet::MAX_INPUTS,

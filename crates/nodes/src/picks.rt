@@ -6,13 +6,13 @@
 // they are, with that selector, and without it restricted so that no best quarter has the inverse. The least of all is the pick.
 // Inner functions: the parts of a search meet what they require.
 ghost use Rattle.std.specs.Prelude.{◌≡◌, ◌<◌, ◌≤◌, ◌+◌, ◌*◌, ◌^◌};
-ghost use Rattle.sheet.specs.Limits.{maxSharedInputs};
+ghost use Rattle.sheet.specs.Limits.{max_shared_inputs};
 ghost use Rattle.table.specs.Inner.Ranks.{pick_of, rank};
 ghost use Rattle.table.specs.Inner.Blocks.{Covered};
-ghost use Rattle.table.specs.Inner.Pairs.{zerosIn, ones_in};
+ghost use Rattle.table.specs.Inner.Pairs.{zeros_in, ones_in};
 ghost use Rattle.nodes.specs.Nodes.{nodes};
 ghost use Rattle.nodes.specs.Inner.Tops.{Tops};
-ghost use Rattle.nodes.specs.Inner.Ways.{quarterEntryAt, class_at, line_at, mostClass, noLine, allPlaces, apartAt, halfAt, classIn, lineIn, four, halvesAlike, treeLike, threeAlike, crossedAlike, besideAlike, acrossAlike, way_of, noInverted};
+ghost use Rattle.nodes.specs.Inner.Ways.{quarter_entry_at, class_at, line_at, most_class, no_line, all_places, apart_at, half_at, class_in, line_in, four, halves_alike, tree_like, three_alike, crossed_alike, beside_alike, across_alike, way_of, no_inverted};
 
 use table::picks::{
     BLOCK_SPACE, FOURTH_BYTE, LENT, NARROW_SPACE, NO_TABLE, ONE_SPACE, PLACES, THIRD_BYTE,
@@ -100,23 +100,23 @@ pub fn tops() -> [u32; LENT]
 // The best quarter between the masks in the lowest byte of `at`: an entry of the table.
 fn quarter_entry(e: &[u32; LENT], at: u32) -> u32
     requires { Tops e.now }
-    ensures { (result ≡ quarterEntryAt at) × (result ≤ mostClass) }
+    ensures { (result ≡ quarter_entry_at at) × (result ≤ most_class) }
 {
     e[(at % PLACES) as usize]
 }
 
 // The same for the quarters of a class, at their places: these are cut out of the entry.
 fn class(e: &[u32; LENT], at: u32, places: u32) -> u32
-    requires { Tops e.now × (places ≤ allPlaces) }
-    ensures { (result ≡ class_at at places) × (result ≤ mostClass) }
+    requires { Tops e.now × (places ≤ all_places) }
+    ensures { (result ≡ class_at at places) × (result ≤ most_class) }
 {
     quarter_entry(e, at) & (NODES + places * DIGIT)
 }
 
 // Two classes, of masks x and y at the places i and j.
 fn apart(e: &[u32; LENT], x: u32, y: u32, i: u32, j: u32) -> u32
-    requires { Tops e.now × (i ≤ allPlaces) × (j ≤ allPlaces) }
-    ensures { (result ≡ apartAt x y i j) × (result ≤ 2 * mostClass) }
+    requires { Tops e.now × (i ≤ all_places) × (j ≤ all_places) }
+    ensures { (result ≡ apart_at x y i j) × (result ≤ 2 * most_class) }
 {
     class(e, x, i) + class(e, y, j)
 }
@@ -124,8 +124,8 @@ fn apart(e: &[u32; LENT], x: u32, y: u32, i: u32, j: u32) -> u32
 // The line of an input, soldered through: constant 0 for the class of masks x, and constant 1 for that of masks y at the places j. The patterns that can be
 // 0 stand in the upper half of the one byte, those that can be 1 in the lower half of the other, and all four are asked for in both.
 fn line_rank(x: u32, y: u32, j: u32) -> u32
-    requires { j ≤ allPlaces }
-    ensures { (result ≡ line_at x y j) × (result ≤ noLine) }
+    requires { j ≤ all_places }
+    ensures { (result ≡ line_at x y j) × (result ≤ no_line) }
 {
     if (x / BLOCK_SPACE & y) % BLOCK_SPACE == DIGIT {
         j * DIGIT
@@ -136,8 +136,8 @@ fn line_rank(x: u32, y: u32, j: u32) -> u32
 
 // The two quarters of a half, of masks x and y at the places i and j: one class, a line, or two classes and a selector.
 fn half(e: &[u32; LENT], x: u32, y: u32, i: u32, j: u32) -> u32
-    requires { Tops e.now × (i + j ≤ allPlaces) }
-    ensures { (result ≡ halfAt x y i j) × (result ≤ mostClass) }
+    requires { Tops e.now × (i + j ≤ all_places) }
+    ensures { (result ≡ half_at x y i j) × (result ≤ most_class) }
 {
     lesser(
         lesser(class(e, x & y, i + j), line_rank(x, y, j)),
@@ -148,7 +148,7 @@ fn half(e: &[u32; LENT], x: u32, y: u32, i: u32, j: u32) -> u32
 // Equal halves: one class, a line, or two classes and a selector for both halves.
 fn halves_alike(e: &[u32; LENT], a: u32, b: u32, c: u32, d: u32) -> u32
     requires { Tops e.now }
-    ensures { (result ≡ halvesAlike (classIn (four a b c d)) (lineIn (four a b c d))) × (result ≤ mostClass) }
+    ensures { (result ≡ halves_alike (class_in (four a b c d)) (line_in (four a b c d))) × (result ≤ most_class) }
 {
     lesser(
         lesser(
@@ -162,7 +162,7 @@ fn halves_alike(e: &[u32; LENT], a: u32, b: u32, c: u32, d: u32) -> u32
 // Halves that share no quarter.
 fn tree_like(e: &[u32; LENT], a: u32, b: u32, c: u32, d: u32) -> u32
     requires { Tops e.now }
-    ensures { result ≡ treeLike (classIn (four a b c d)) (lineIn (four a b c d)) }
+    ensures { result ≡ tree_like (class_in (four a b c d)) (line_in (four a b c d)) }
 {
     NODE + half(e, a, b, A, B) + half(e, c, d, C, D)
 }
@@ -170,7 +170,7 @@ fn tree_like(e: &[u32; LENT], a: u32, b: u32, c: u32, d: u32) -> u32
 // Three quarters alike: a selector for the half that has the fourth.
 fn three_alike(e: &[u32; LENT], a: u32, b: u32, c: u32, d: u32) -> u32
     requires { Tops e.now }
-    ensures { result ≡ threeAlike (classIn (four a b c d)) }
+    ensures { result ≡ three_alike (class_in (four a b c d)) }
 {
     let x = lesser(
         apart(e, a & b & c, d, A + B + C, D),
@@ -186,7 +186,7 @@ fn three_alike(e: &[u32; LENT], a: u32, b: u32, c: u32, d: u32) -> u32
 // The first quarter of one half is the second of the other.
 fn crossed(e: &[u32; LENT], a: u32, b: u32, c: u32, d: u32) -> u32
     requires { Tops e.now }
-    ensures { (result ≡ crossedAlike (classIn (four a b c d))) × (result ≤ 3 * mostClass) }
+    ensures { (result ≡ crossed_alike (class_in (four a b c d))) × (result ≤ 3 * most_class) }
 {
     let ad = class(e, a & d, A + D);
     let bc = class(e, b & c, B + C);
@@ -199,7 +199,7 @@ fn crossed(e: &[u32; LENT], a: u32, b: u32, c: u32, d: u32) -> u32
 // The halves have their first quarter in common, or their second.
 fn beside(e: &[u32; LENT], a: u32, b: u32, c: u32, d: u32) -> u32
     requires { Tops e.now }
-    ensures { (result ≡ besideAlike (classIn (four a b c d))) × (result ≤ 3 * mostClass) }
+    ensures { (result ≡ beside_alike (class_in (four a b c d))) × (result ≤ 3 * most_class) }
 {
     lesser(
         class(e, a & c, A + C) + apart(e, b, d, B, D),
@@ -210,7 +210,7 @@ fn beside(e: &[u32; LENT], a: u32, b: u32, c: u32, d: u32) -> u32
 // A quarter of one half is a quarter of the other, and both halves need a selector.
 fn across_alike(e: &[u32; LENT], a: u32, b: u32, c: u32, d: u32) -> u32
     requires { Tops e.now }
-    ensures { result ≡ acrossAlike (classIn (four a b c d)) }
+    ensures { result ≡ across_alike (class_in (four a b c d)) }
 {
     3 * NODE + lesser(crossed(e, a, b, c, d), beside(e, a, b, c, d))
 }
@@ -219,7 +219,7 @@ fn across_alike(e: &[u32; LENT], a: u32, b: u32, c: u32, d: u32) -> u32
 // the same masks, equal halves are the best: so it is with every pair of fewer than four inputs, repeated.
 fn way(e: &[u32; LENT], pair: u32) -> u32
     requires { Tops e.now }
-    ensures { (result ≡ way_of pair) × (result ≤ mostClass) }
+    ensures { (result ≡ way_of pair) × (result ≤ most_class) }
 {
     let a = pair;
     let b = pair / PLACES;
@@ -239,7 +239,7 @@ fn way(e: &[u32; LENT], pair: u32) -> u32
 // The masks under which no best quarter has the inverse of input 4 as a half. That is 1 on the even pattern and 0 on the odd one: 0 on an odd pattern now asks
 // for 0 on the even one beside it, and where that may stand, constant 0 is the better half.
 fn no_inverted(pair: u32) -> u32
-    ensures { result ≡ noInverted pair }
+    ensures { result ≡ no_inverted pair }
 {
     pair & ((pair << 1) | NOT_ODD_ZEROS)
 }
@@ -247,8 +247,8 @@ fn no_inverted(pair: u32) -> u32
 // Four inputs: the least without the inverse of input 4 and with it, which is a selector. What counts for none is less than anything with that selector, so the
 // second turn is for others alone. The two turns stand in a loop, so that the compiled pick stays a function of its own.
 fn pick4(e: &[u32; LENT], pair: u32) -> u32
-    requires { Tops e.now × Covered 4 (zerosIn pair) (ones_in pair) }
-    ensures { result ≡ rank (nodes 4) (pick_of (nodes 4) 4 (zerosIn pair) (ones_in pair)) }
+    requires { Tops e.now × Covered 4 (zeros_in pair) (ones_in pair) }
+    ensures { result ≡ rank (nodes 4) (pick_of (nodes 4) 4 (zeros_in pair) (ones_in pair)) }
 {
     let mut masks = no_inverted(pair);
     let mut best = NO_PICK;
@@ -266,9 +266,9 @@ fn pick4(e: &[u32; LENT], pair: u32) -> u32
 // The rank of the pick between the two masks of a pair, among the tables of n inputs. Fewer than four inputs are looked up as four: the masks of a pair
 // repeated have the pick repeated.
 pub fn pick_shared(e: &[u32; LENT], n: u8, pair: u32) -> u32
-    requires { Tops e.now × (1 ≤ n) × (n ≤ maxSharedInputs) × (zerosIn pair < 2 ^ (2 ^ n)) × (ones_in pair < 2 ^ (2 ^ n))
+    requires { Tops e.now × (1 ≤ n) × (n ≤ max_shared_inputs) × (zeros_in pair < 2 ^ (2 ^ n)) × (ones_in pair < 2 ^ (2 ^ n))
         × Covered n (zerosIn pair) (ones_in pair) }
-    ensures { result ≡ rank (nodes n) (pick_of (nodes n) n (zerosIn pair) (ones_in pair)) }
+    ensures { result ≡ rank (nodes n) (pick_of (nodes n) n (zeros_in pair) (ones_in pair)) }
 {
     match n {
         1 => {

@@ -5,31 +5,31 @@ use mathlib.Core.List.{List}
 use native.Mathlib.Omega.{arith}
 use native.Mathlib.Nat.{le_trans}
 use lib.ListN.{get_or}
-use Rattle.sheet.specs.Limits.{maxInputs, maxWires}
+use Rattle.sheet.specs.Limits.{max_inputs, max_wires}
 use Rattle.sheet.specs.Inner.Sized.{Sized}
 use Rattle.table.specs.Inner.Blocks.{entries}
-use Rattle.nodes.specs.Counts.{mostInputs}
-use Rattle.nodes.proofs.Counts.{most-inputs}
-use Rattle.parts.specs.Inner.Boards.{boardIn, boardInputs, lentKind, lentInputs, lentWires, Lent}
+use Rattle.nodes.specs.Counts.{most_inputs}
+use Rattle.nodes.proofs.Counts.{most_inputs_lem}
+use Rattle.parts.specs.Inner.Boards.{board_in, board_inputs, lent_kind, lent_inputs, lent_wires, Lent}
 use Rattle.parts.proofs.BoardNumbers.{number_small}
 
 -- both numbers behind the entries are bytes
-pub board-small : {e : List ℕ} → Lent e → get_or e entries 0 < 256
-unfolding boardIn
-board-small {e} l = omega (arith, l.number, number_small (lentKind e) (lentInputs e) l.most)
+pub board_small : {e : List ℕ} → Lent e → get_or e entries 0 < 256
+unfolding board_in
+board_small {e} l = omega (arith, l.number, number_small (lent_kind e) (lent_inputs e) l.most)
 
-pub wires-small : (e : List ℕ) → Sized (mostInputs (lentKind e)) (lentInputs e) (lentWires e) → get_or e (entries + 1) 0 ≤ maxWires
-unfolding lentWires
-wires-small e z = z.m-most
+pub wires_small : (e : List ℕ) → Sized (most_inputs (lent_kind e)) (lent_inputs e) (lent_wires e) → get_or e (entries + 1) 0 ≤ max_wires
+unfolding lent_wires
+wires_small e z = z.m_most
 
 -- the inputs and wires as the code reads them
-pub inputs-told : (e : List ℕ) {n : ℕ} → n ≡ boardInputs (get_or e entries 0) → n ≡ lentInputs e
-unfolding boardIn
-inputs-told e h = h
+pub inputs_told : (e : List ℕ) {n : ℕ} → n ≡ board_inputs (get_or e entries 0) → n ≡ lent_inputs e
+unfolding board_in
+inputs_told e h = h
 
-pub wires-told : (e : List ℕ) → get_or e (entries + 1) 0 ≡ lentWires e
-unfolding lentWires
-wires-told e = refl
+pub wires_told : (e : List ℕ) → get_or e (entries + 1) 0 ≡ lent_wires e
+unfolding lent_wires
+wires_told e = refl
 
-pub inputs-few : {e : List ℕ} → Lent e → lentInputs e ≤ maxInputs
-inputs-few {e} l = le_trans l.most (most-inputs (lentKind e))
+pub inputs_few : {e : List ℕ} → Lent e → lent_inputs e ≤ max_inputs
+inputs_few {e} l = le_trans l.most (most_inputs_lem (lent_kind e))

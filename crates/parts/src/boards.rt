@@ -2,8 +2,8 @@
 // made from.
 // Inner functions: the entry of the search has tested the sizes before it calls `board_of`, which requires them.
 ghost use Rattle.std.specs.Prelude.{◌≡◌, ◌≤◌, leb};
-ghost use Rattle.nodes.specs.Counts.{mostInputs};
-ghost use Rattle.parts.specs.Inner.Boards.{wideMark, boardNumber, boardInputs};
+ghost use Rattle.nodes.specs.Counts.{most_inputs};
+ghost use Rattle.parts.specs.Inner.Boards.{wide_mark, board_number, board_inputs};
 
 use nodes::BoardKind;
 use table::picks::{ENTRIES, NARROW_INPUTS};
@@ -22,8 +22,8 @@ pub const SHARING: u8 = 8;
 pub const WIDE: u8 = 16;
 
 pub fn board_of(kind: BoardKind, n: u8) -> u8
-    requires { n ≤ mostInputs kind }
-    ensures { result ≡ boardNumber kind n }
+    requires { n ≤ most_inputs kind }
+    ensures { result ≡ board_number kind n }
 {
     match kind {
         BoardKind::Tree => { if n <= NARROW_INPUTS { n } else { WIDE + n } }
@@ -32,13 +32,13 @@ pub fn board_of(kind: BoardKind, n: u8) -> u8
 }
 
 pub fn inputs_of(board: u8) -> u8
-    ensures { result ≡ boardInputs board }
+    ensures { result ≡ board_inputs board }
 {
     board % SHARING
 }
 
 pub fn is_wide(board: u8) -> bool
-    ensures { result ≡ leb wideMark board }
+    ensures { result ≡ leb wide_mark board }
 {
     WIDE <= board
 }

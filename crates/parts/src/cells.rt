@@ -1,8 +1,8 @@
 // The cells of all wires in one number: a byte for each wire.
 // Inner functions: the picks and the search meet what they require.
 ghost use Rattle.std.specs.Prelude.{◌≡◌, ◌<◌, ◌^◌};
-ghost use Rattle.sheet.specs.Limits.{maxWires};
-ghost use Rattle.parts.specs.Inner.Cells.{cellSpace, byteIn, putCells, cellsSum};
+ghost use Rattle.sheet.specs.Limits.{max_wires};
+ghost use Rattle.parts.specs.Inner.Cells.{cell_space, byte_in, put_cells, cells_sum};
 
 // The bits of a byte, and above the cells of any board's wires together: a byte has room for them.
 const BYTE: u8 = 8;
@@ -24,8 +24,8 @@ const EACH: u64 = 1 + CELLS_1 + CELLS_2 + CELLS_3;
 
 // The cells once wire j has k.
 pub fn put_cells(cells: u64, j: u8, k: u32) -> u64
-    requires { (j < maxWires) × (k < cellSpace) }
-    ensures { result ≡ putCells cells j k }
+    requires { (j < max_wires) × (k < cell_space) }
+    ensures { result ≡ put_cells cells j k }
 {
     let at = BYTE * j;
     cells - (cells & (FULL << at)) + ((k as u64) << at)
@@ -33,15 +33,15 @@ pub fn put_cells(cells: u64, j: u8, k: u32) -> u64
 
 // All wires' cells together: the product has their sum in the byte of the last wire, and no byte below it runs over.
 pub fn sum_of(cells: u64) -> u32
-    requires { (cells < cellSpace ^ maxWires) × (cellsSum cells < cellSpace) }
-    ensures { (result ≡ cellsSum cells) × (result < cellSpace) }
+    requires { (cells < cell_space ^ max_wires) × (cells_sum cells < cell_space) }
+    ensures { (result ≡ cells_sum cells) × (result < cell_space) }
 {
     (cells * EACH / CELLS_3 % CELL_SPACE) as u32
 }
 
 // The first wire's cells.
 pub fn first_of(cells: u64) -> u32
-    ensures { result ≡ byteIn cells 0 }
+    ensures { result ≡ byte_in cells 0 }
 {
     (cells % CELL_SPACE) as u32
 }

@@ -3,16 +3,16 @@
 // pick is handed stands in registers.
 // Inner functions: the search and the first answer meet what they require.
 ghost use Rattle.std.specs.Prelude.{◌≡◌, true, ◌/◌, ◌%◌, ◌<◌, ◌≤◌, ◌^◌, length};
-ghost use Rattle.sheet.specs.Limits.{maxWires};
+ghost use Rattle.sheet.specs.Limits.{max_wires};
 ghost use Rattle.nodes.specs.Counts.{count_of};
-ghost use Rattle.table.specs.Inner.Ranks.{narrowSpace, pick_of, rank};
+ghost use Rattle.table.specs.Inner.Ranks.{narrow_space, pick_of, rank};
 ghost use Rattle.table.specs.Inner.Blocks.{Covered};
-ghost use Rattle.table.specs.Inner.Pairs.{zerosIn, ones_in};
-ghost use Rattle.parts.specs.Inner.Boards.{wideMark, boardIn, lentKind, lentInputs, lentWide, Lent};
+ghost use Rattle.table.specs.Inner.Pairs.{zeros_in, ones_in};
+ghost use Rattle.parts.specs.Inner.Boards.{wide_mark, board_in, lent_kind, lent_inputs, lent_wide, Lent};
 ghost use Rattle.parts.specs.Inner.Words.{Covers};
 ghost use Rattle.parts.specs.Inner.Masks.{words_of};
-ghost use Rattle.parts.specs.Inner.Picks.{pickOn, sideRank};
-ghost use Rattle.parts.specs.Inner.States.{stateLength, PutRest};
+ghost use Rattle.parts.specs.Inner.Picks.{pick_on, side_rank};
+ghost use Rattle.parts.specs.Inner.States.{state_length, PutRest};
 
 use crate::boards::{BOARD_PLACE, SHARING, WIDE, is_wide};
 use crate::masks::{MASKS, pair_at};
@@ -23,13 +23,13 @@ use table::wide::{SECTION_SPACE, wide_pick};
 
 // What the number of a pick tells: its cells, and its table on the first section.
 pub fn cells_in(found: u32) -> u32
-    ensures { result ≡ found / narrowSpace }
+    ensures { result ≡ found / narrow_space }
 {
     found / NARROW_SPACE
 }
 
 pub fn side_in(found: u32) -> u64
-    ensures { (result ≡ found % narrowSpace) × (result < narrowSpace) }
+    ensures { (result ≡ found % narrow_space) × (result < narrow_space) }
 {
     (found % NARROW_SPACE) as u64
 }
@@ -42,8 +42,8 @@ fn pick_wide(
     j: u8,
     state: &mut [u64; STATE],
 ) -> u32
-    requires { Lent e.now × (board ≡ boardIn e.now) × (wideMark ≤ board) × (j < maxWires) × Covers (lentInputs e.now) (words_of masks.now) j × (length state.old ≡ stateLength) }
-    ensures { (result ≡ sideRank e.now (words_of masks.now) j)
+    requires { Lent e.now × (board ≡ board_in e.now) × (wide_mark ≤ board) × (j < max_wires) × Covers (lent_inputs e.now) (words_of masks.now) j × (length state.old ≡ state_length) }
+    ensures { (result ≡ side_rank e.now (words_of masks.now) j)
         × PutRest true j (pickOn e.now (words_of masks.now) j) state.old state.new }
 {
     let found = wide_pick(
@@ -60,9 +60,9 @@ fn pick_wide(
 
 // The rank of the pick on any other board, whose masks stand in one word.
 fn pick_narrow(e: &[u32; LENT], board: u8, x: u32) -> u32
-    requires { Lent e.now × (board ≡ boardIn e.now) × (board < wideMark) × (zerosIn x < 2 ^ (2 ^ lentInputs e.now)) × (ones_in x < 2 ^ (2 ^ lentInputs e.now))
+    requires { Lent e.now × (board ≡ board_in e.now) × (board < wide_mark) × (zeros_in x < 2 ^ (2 ^ lent_inputs e.now)) × (ones_in x < 2 ^ (2 ^ lent_inputs e.now))
         × Covered (lentInputs e.now) (zerosIn x) (ones_in x) }
-    ensures { result ≡ rank (count_of (lentKind e.now) (lentInputs e.now))
+    ensures { result ≡ rank (count_of (lent_kind e.now) (lent_inputs e.now))
         (pick_of (count_of (lentKind e.now) (lentInputs e.now)) (lentInputs e.now) (zerosIn x) (ones_in x)) }
 {
     if board < SHARING {
@@ -74,8 +74,8 @@ fn pick_narrow(e: &[u32; LENT], board: u8, x: u32) -> u32
 
 // The pick of wire j. The board of trees with as many inputs as one word has is asked for first: it is the commonest, and its pick then needs no register saved.
 pub fn pick_at(e: &[u32; LENT], masks: &[u16; MASKS], j: u8, state: &mut [u64; STATE]) -> u32
-    requires { Lent e.now × (j < maxWires) × Covers (lentInputs e.now) (words_of masks.now) j × (length state.old ≡ stateLength) }
-    ensures { (result ≡ sideRank e.now (words_of masks.now) j)
+    requires { Lent e.now × (j < max_wires) × Covers (lent_inputs e.now) (words_of masks.now) j × (length state.old ≡ state_length) }
+    ensures { (result ≡ side_rank e.now (words_of masks.now) j)
         × PutRest (lentWide e.now) j (pickOn e.now (words_of masks.now) j) state.old state.new }
 {
     let board = e[BOARD_PLACE] as u8;

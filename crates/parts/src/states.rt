@@ -1,8 +1,8 @@
 // The state that the search lends down is one list of numbers; this is what stands where. What the search makes of it is the crate `visits`.
 // Inner function: the picks meet what it requires.
 ghost use Rattle.std.specs.Prelude.{◌≡◌, true, ◌<◌, length};
-ghost use Rattle.sheet.specs.Limits.{maxWires};
-ghost use Rattle.parts.specs.Inner.States.{stateLength, PutRest};
+ghost use Rattle.sheet.specs.Limits.{max_wires};
+ghost use Rattle.parts.specs.Inner.States.{state_length, PutRest};
 
 use lanes::put_lane;
 use relation::patterns::section_of;
@@ -28,7 +28,7 @@ pub const STATE: usize = WHOLE + by_value::VALUE_WORDS;
 
 // Wire j has this table on the sections past the first.
 pub fn put_rest(state: &mut [u64; STATE], j: u8, table: u64)
-    requires { (j < maxWires) × (length state.old ≡ stateLength) }
+    requires { (j < max_wires) × (length state.old ≡ state_length) }
     ensures { PutRest true j table state.old state.new }
 {
     state[REST + 1] = put_lane(state[REST + 1], j, section_of(table, 1));

@@ -9,115 +9,115 @@ use borrow.Author.Tests.{lt-ltb, le-ltb}
 use lib.ListN.{length, take}
 use lib.Dec.{ltb, ltb→lt, nltb→le}
 use lib.Seq.{take_all, length-take-le}
-use Rattle.base.specs.Cases.{Case, refusing, refusedOutcome, refusedCase}
-use Rattle.base.specs.Refusals.{refusalAt, tooLong}
+use Rattle.base.specs.Cases.{Case, refusing, refused_outcome, refused_case}
+use Rattle.base.specs.Refusals.{refusal_at, too_long}
 use Rattle.base.proofs.Tests.{decide}
 use Rattle.nodes.specs.declared.BoardKind.{BoardKind}
-use Rattle.diagram.proofs.DiagramForm.{longestDiagrams}
-use Rattle.diagram.proofs.Forms.{form-front}
+use Rattle.diagram.proofs.DiagramForm.{longest_diagrams}
+use Rattle.diagram.proofs.Forms.{form_front}
 use Rattle.quote.specs.Cases.{QuoteReply}
-use Rattle.quote.specs.Inner.Refused.{refusedQuote}
+use Rattle.quote.specs.Inner.Refused.{refused_quote}
 use Rattle.sheet.specs.Judged.{Reading, holds, refused}
 use Rattle.reader.specs.Reading.{reading_of}
-use Rattle.quote.specs.Quote.{noQuote, bufferQuoted}
-use Rattle.joined.specs.Joint.{jointQuoted, jointBuffer}
-use Rattle.quote.specs.Audit.{auditedFrom, auditedOf}
-use Rattle.clean.specs.Cleaned.{cleanedOf, bufferCleaned}
-use Rattle.report.specs.Lines.{sheetText, firstText, lines_of, jointLines, auditLine, copyLine}
-use Rattle.printed.specs.Printed.{longestSheet, budget, lentStage, lentCopy, isTooLong, tooLongLine, quoted, printedOf, auditPrintedOf, cleanPrintedOf, beforeTooLong, jointPrintedOf}
+use Rattle.quote.specs.Quote.{no_quote, buffer_quoted}
+use Rattle.joined.specs.Joint.{joint_quoted, joint_buffer}
+use Rattle.quote.specs.Audit.{audited_from, audited_of}
+use Rattle.clean.specs.Cleaned.{cleaned_of, buffer_cleaned}
+use Rattle.report.specs.Lines.{sheet_text, first_text, lines_of, joint_lines, audit_line, copy_line}
+use Rattle.printed.specs.Printed.{longest_sheet, budget, lent_stage, lent_copy, is_too_long, too_long_line, quoted, printed_of, audit_printed_of, clean_printed_of, before_too_long, joint_printed_of}
 
 module _ (kind : BoardKind) (sheet : List ℕ) where
-  pub quote-too-long : (q : QuoteReply) (stage : List ℕ) → q ≡ refusedQuote (refusalAt tooLong longestSheet) → longestSheet < length sheet
-      → lines_of q stage ≡ printedOf kind sheet
-  unfolding lines_of printedOf
-  quote-too-long q stage e l = rw (e, lt-ltb longestSheet (length sheet) l)
+  pub quote_too_long : (q : QuoteReply) (stage : List ℕ) → q ≡ refused_quote (refusal_at too_long longest_sheet) → longest_sheet < length sheet
+      → lines_of q stage ≡ printed_of kind sheet
+  unfolding lines_of printed_of
+  quote_too_long q stage e l = rw (e, lt-ltb longest_sheet (length sheet) l)
 
-  pub quote-lines : (q : QuoteReply) (stage : List ℕ) → q ≡ quoted kind sheet → stage ≡ bufferQuoted kind sheet budget lentStage → length sheet ≤ longestSheet
-      → lines_of q stage ≡ printedOf kind sheet
-  unfolding printedOf
-  quote-lines q stage eq es l = ap₂ lines_of eq es ∙ sym (rw (le-ltb longestSheet (length sheet) l))
+  pub quote_lines : (q : QuoteReply) (stage : List ℕ) → q ≡ quoted kind sheet → stage ≡ buffer_quoted kind sheet budget lent_stage → length sheet ≤ longest_sheet
+      → lines_of q stage ≡ printed_of kind sheet
+  unfolding printed_of
+  quote_lines q stage eq es l = ap₂ lines_of eq es ∙ sym (rw (le-ltb longest_sheet (length sheet) l))
 
-  pub audit-too-long : (c : Case) (stage : List ℕ) → c ≡ refusing refusedOutcome (refusalAt tooLong longestSheet) → longestSheet < length sheet
-      → auditLine c ≡ auditPrintedOf kind sheet stage
-  unfolding auditPrintedOf
-  audit-too-long c stage e l = rw (e, lt-ltb longestSheet (length sheet) l)
+  pub audit_too_long : (c : Case) (stage : List ℕ) → c ≡ refusing refused_outcome (refusal_at too_long longest_sheet) → longest_sheet < length sheet
+      → audit_line c ≡ audit_printed_of kind sheet stage
+  unfolding audit_printed_of
+  audit_too_long c stage e l = rw (e, lt-ltb longest_sheet (length sheet) l)
 
-  pub audit-line : (c : Case) (stage : List ℕ) → c ≡ auditedOf kind sheet stage → length sheet ≤ longestSheet → auditLine c ≡ auditPrintedOf kind sheet stage
-  unfolding auditPrintedOf
-  audit-line c stage e l = ap auditLine e ∙ sym (rw (le-ltb longestSheet (length sheet) l))
+  pub audit_line_lem : (c : Case) (stage : List ℕ) → c ≡ audited_of kind sheet stage → length sheet ≤ longest_sheet → audit_line c ≡ audit_printed_of kind sheet stage
+  unfolding audit_printed_of
+  audit_line_lem c stage e l = ap audit_line e ∙ sym (rw (le-ltb longest_sheet (length sheet) l))
 
   -- what the program reads of a file is enough: of a stage, one byte more than the longest of either board has
-  pub stage-front : (stage : List ℕ) → auditPrintedOf kind sheet (take (longestDiagrams + 1) stage) ≡ auditPrintedOf kind sheet stage
-  unfolding auditPrintedOf auditedOf auditedFrom
-  stage-front stage = rw (form-front kind stage (longestDiagrams + 1) (omega arith))
+  pub stage_front : (stage : List ℕ) → audit_printed_of kind sheet (take (longest_diagrams + 1) stage) ≡ audit_printed_of kind sheet stage
+  unfolding audit_printed_of audited_of audited_from
+  stage_front stage = rw (form_front kind stage (longest_diagrams + 1) (omega arith))
 
 -- two sheets: the first is too long, or the second, or neither
 module _ (first second : List ℕ) where
-  pub joined-first-long : (q : QuoteReply) (stage : List ℕ) → q ≡ noQuote (refusing refusedOutcome (refusalAt tooLong longestSheet)) → longestSheet < length first
-      → jointLines q stage ≡ jointPrintedOf first second
-  unfolding jointLines jointPrintedOf
-  joined-first-long q stage e l = rw (e, lt-ltb longestSheet (length first) l)
+  pub joined_first_long : (q : QuoteReply) (stage : List ℕ) → q ≡ no_quote (refusing refused_outcome (refusal_at too_long longest_sheet)) → longest_sheet < length first
+      → joint_lines q stage ≡ joint_printed_of first second
+  unfolding joint_lines joint_printed_of
+  joined_first_long q stage e l = rw (e, lt-ltb longest_sheet (length first) l)
 
   -- a refusal shows no stage
-  any-stage : (x : Reading) (a b : List ℕ) → jointLines (noQuote (beforeTooLong x)) a ≡ jointLines (noQuote (beforeTooLong x)) b
-  unfolding jointLines beforeTooLong
-  any-stage (refused f) a b = refl
-  any-stage (holds cs) a b = refl
+  any_stage : (x : Reading) (a b : List ℕ) → joint_lines (no_quote (before_too_long x)) a ≡ joint_lines (no_quote (before_too_long x)) b
+  unfolding joint_lines before_too_long
+  any_stage (refused f) a b = refl
+  any_stage (holds cs) a b = refl
 
-  module _ (short : length first ≤ longestSheet) where
-    pub joined-second-long : (q : QuoteReply) (stage : List ℕ) → q ≡ noQuote (beforeTooLong (reading_of first)) → longestSheet < length second
-        → jointLines q stage ≡ jointPrintedOf first second
-    unfolding jointPrintedOf
-    joined-second-long q stage e l =
-        ap (λ x. jointLines x stage) e ∙ any-stage (reading_of first) stage lentStage
-        ∙ sym (rw (le-ltb longestSheet (length first) short, lt-ltb longestSheet (length second) l))
+  module _ (short : length first ≤ longest_sheet) where
+    pub joined_second_long : (q : QuoteReply) (stage : List ℕ) → q ≡ no_quote (before_too_long (reading_of first)) → longest_sheet < length second
+        → joint_lines q stage ≡ joint_printed_of first second
+    unfolding joint_printed_of
+    joined_second_long q stage e l =
+        ap (λ x. joint_lines x stage) e ∙ any_stage (reading_of first) stage lent_stage
+        ∙ sym (rw (le-ltb longest_sheet (length first) short, lt-ltb longest_sheet (length second) l))
 
-    pub joined-lines : (q : QuoteReply) (stage : List ℕ) → q ≡ jointQuoted first second budget (length lentStage) → stage ≡ jointBuffer first second budget lentStage
-        → length second ≤ longestSheet → jointLines q stage ≡ jointPrintedOf first second
-    unfolding jointPrintedOf
-    joined-lines q stage eq es l = ap₂ jointLines eq es ∙ sym (rw (le-ltb longestSheet (length first) short, le-ltb longestSheet (length second) l))
+    pub joined_lines : (q : QuoteReply) (stage : List ℕ) → q ≡ joint_quoted first second budget (length lent_stage) → stage ≡ joint_buffer first second budget lent_stage
+        → length second ≤ longest_sheet → joint_lines q stage ≡ joint_printed_of first second
+    unfolding joint_printed_of
+    joined_lines q stage eq es l = ap₂ joint_lines eq es ∙ sym (rw (le-ltb longest_sheet (length first) short, le-ltb longest_sheet (length second) l))
 
 module _ (sheet : List ℕ) where
-  pub clean-too-long : (c : Case) (copy : List ℕ) → c ≡ refusedCase (refusalAt tooLong longestSheet) → longestSheet < length sheet
-      → copyLine c copy ≡ cleanPrintedOf sheet
-  unfolding copyLine cleanPrintedOf
-  clean-too-long c copy e l = rw (e, lt-ltb longestSheet (length sheet) l)
+  pub clean_too_long : (c : Case) (copy : List ℕ) → c ≡ refused_case (refusal_at too_long longest_sheet) → longest_sheet < length sheet
+      → copy_line c copy ≡ clean_printed_of sheet
+  unfolding copy_line clean_printed_of
+  clean_too_long c copy e l = rw (e, lt-ltb longest_sheet (length sheet) l)
 
-  pub clean_line : (c : Case) (copy : List ℕ) → c ≡ cleanedOf sheet (length lentCopy) → copy ≡ bufferCleaned sheet lentCopy → length sheet ≤ longestSheet
-      → copyLine c copy ≡ cleanPrintedOf sheet
-  unfolding cleanPrintedOf
-  clean_line c copy ec eb l = ap₂ copyLine ec eb ∙ sym (rw (le-ltb longestSheet (length sheet) l))
+  pub clean_line : (c : Case) (copy : List ℕ) → c ≡ cleaned_of sheet (length lent_copy) → copy ≡ buffer_cleaned sheet lent_copy → length sheet ≤ longest_sheet
+      → copy_line c copy ≡ clean_printed_of sheet
+  unfolding clean_printed_of
+  clean_line c copy ec eb l = ap₂ copy_line ec eb ∙ sym (rw (le-ltb longest_sheet (length sheet) l))
 
   -- of a sheet, one byte more than the longest that is taken: it is whole, or too long either way
-  module _ {A : Type 0} (P : List ℕ → A) (refusal : A) (long : (s : List ℕ) → longestSheet < length s → P s ≡ refusal) where
-    sheet-front : P (take (longestSheet + 1) sheet) ≡ P sheet
-    sheet-front =
+  module _ {A : Type 0} (P : List ℕ → A) (refusal : A) (long : (s : List ℕ) → longest_sheet < length s → P s ≡ refusal) where
+    sheet_front : P (take (longest_sheet + 1) sheet) ≡ P sheet
+    sheet_front =
         ⊎_elim
         (λ t.
-        let l = ltb→lt longestSheet (length sheet) t in
-        let k : length (take (longestSheet + 1) sheet) ≡ longestSheet + 1 = length-take-le (longestSheet + 1) sheet (omega arith) in
-        long (take (longestSheet + 1) sheet) (omega arith) ∙ sym (long sheet l))
-        (λ t. let l = nltb→le longestSheet (length sheet) t in ap P (take_all (longestSheet + 1) sheet (omega arith)))
-        (decide (ltb longestSheet (length sheet)))
+        let l = ltb→lt longest_sheet (length sheet) t in
+        let k : length (take (longest_sheet + 1) sheet) ≡ longest_sheet + 1 = length-take-le (longest_sheet + 1) sheet (omega arith) in
+        long (take (longest_sheet + 1) sheet) (omega arith) ∙ sym (long sheet l))
+        (λ t. let l = nltb→le longest_sheet (length sheet) t in ap P (take_all (longest_sheet + 1) sheet (omega arith)))
+        (decide (ltb longest_sheet (length sheet)))
 
 -- so of every reply that refuses a longer sheet
-pub quote-front : (kind : BoardKind) (sheet : List ℕ) → printedOf kind (take (longestSheet + 1) sheet) ≡ printedOf kind sheet
-unfolding printedOf
-quote-front kind sheet = sheet-front sheet (printedOf kind) (tooLongLine []) (λ s l. rw (lt-ltb longestSheet (length s) l))
+pub quote_front : (kind : BoardKind) (sheet : List ℕ) → printed_of kind (take (longest_sheet + 1) sheet) ≡ printed_of kind sheet
+unfolding printed_of
+quote_front kind sheet = sheet_front sheet (printed_of kind) (too_long_line []) (λ s l. rw (lt-ltb longest_sheet (length s) l))
 
-pub audit-front : (kind : BoardKind) (sheet stage : List ℕ) → auditPrintedOf kind (take (longestSheet + 1) sheet) stage ≡ auditPrintedOf kind sheet stage
-unfolding auditPrintedOf
-audit-front kind sheet stage = sheet-front sheet (λ s. auditPrintedOf kind s stage) (tooLongLine sheetText) (λ s l. rw (lt-ltb longestSheet (length s) l))
+pub audit_front : (kind : BoardKind) (sheet stage : List ℕ) → audit_printed_of kind (take (longest_sheet + 1) sheet) stage ≡ audit_printed_of kind sheet stage
+unfolding audit_printed_of
+audit_front kind sheet stage = sheet_front sheet (λ s. audit_printed_of kind s stage) (too_long_line sheet_text) (λ s l. rw (lt-ltb longest_sheet (length s) l))
 
-pub clean-front : (sheet : List ℕ) → cleanPrintedOf (take (longestSheet + 1) sheet) ≡ cleanPrintedOf sheet
-unfolding cleanPrintedOf
-clean-front sheet = sheet-front sheet cleanPrintedOf (tooLongLine []) (λ s l. rw (lt-ltb longestSheet (length s) l))
+pub clean_front : (sheet : List ℕ) → clean_printed_of (take (longest_sheet + 1) sheet) ≡ clean_printed_of sheet
+unfolding clean_printed_of
+clean_front sheet = sheet_front sheet clean_printed_of (too_long_line []) (λ s l. rw (lt-ltb longest_sheet (length s) l))
 
 -- and of two sheets, each on its own
-pub joined-front : (first second : List ℕ) → jointPrintedOf (take (longestSheet + 1) first) (take (longestSheet + 1) second) ≡ jointPrintedOf first second
-unfolding jointPrintedOf
-joined-front first second =
-    let cut = take (longestSheet + 1) second in
-    sheet-front first (λ s. jointPrintedOf s cut) (tooLongLine firstText) (λ s l. rw (lt-ltb longestSheet (length s) l))
-    ∙ sheet-front second (jointPrintedOf first)
-    (cond (isTooLong first) (tooLongLine firstText) (jointLines (noQuote (beforeTooLong (reading_of first))) lentStage)) (λ s l. rw (lt-ltb longestSheet (length s) l))
+pub joined_front : (first second : List ℕ) → joint_printed_of (take (longest_sheet + 1) first) (take (longest_sheet + 1) second) ≡ joint_printed_of first second
+unfolding joint_printed_of
+joined_front first second =
+    let cut = take (longest_sheet + 1) second in
+    sheet_front first (λ s. joint_printed_of s cut) (too_long_line first_text) (λ s l. rw (lt-ltb longest_sheet (length s) l))
+    ∙ sheet_front second (joint_printed_of first)
+    (cond (is_too_long first) (too_long_line first_text) (joint_lines (no_quote (before_too_long (reading_of first))) lent_stage)) (λ s l. rw (lt-ltb longest_sheet (length s) l))

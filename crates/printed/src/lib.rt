@@ -1,12 +1,12 @@
 // What the program prints, as bytes at the start of a lent buffer: a function for each word, each with the length of what it put.
 ghost use Rattle.std.specs.Prelude.{◌≡◌};
-ghost use Rattle.base.specs.Refusals.{refusalAt, tooLong};
-ghost use Rattle.quote.specs.Cases.{quoteReply};
-ghost use Rattle.quote.specs.Inner.Refused.{refusedQuote};
-ghost use Rattle.report.specs.Lines.{Printed, longestReport, longestCopyLine};
+ghost use Rattle.base.specs.Refusals.{refusal_at, too_long};
+ghost use Rattle.quote.specs.Cases.{quote_reply};
+ghost use Rattle.quote.specs.Inner.Refused.{refused_quote};
+ghost use Rattle.report.specs.Lines.{Printed, longest_report, longest_copy_line};
 ghost use Rattle.reader.specs.Reading.{reading_of};
-ghost use Rattle.joined.specs.Cases.{jointCase};
-ghost use Rattle.printed.specs.Printed.{longestSheet, printedOf, auditPrintedOf, cleanPrintedOf, beforeTooLong, jointPrintedOf};
+ghost use Rattle.joined.specs.Cases.{joint_case};
+ghost use Rattle.printed.specs.Printed.{longest_sheet, printed_of, audit_printed_of, clean_printed_of, before_too_long, joint_printed_of};
 
 use base::{Refusal, Verdict, Written};
 use clean::LONGEST_COPY;
@@ -23,14 +23,14 @@ const BUDGET: u32 = 10000;
 
 // The refusal of a sheet that is too long: nothing of such a sheet is read, and no stage beside it.
 fn too_long() -> Refusal
-    ensures { result ≡ refusalAt tooLong longestSheet }
+    ensures { result ≡ refusal_at too_long longest_sheet }
 {
     Refusal::at(Refusal::TOO_LONG, LONGEST_SHEET)
 }
 
 // The same as a quote's reply.
 fn too_long_quote() -> Quoted
-    ensures { quoteReply result ≡ refusedQuote (refusalAt tooLong longestSheet) }
+    ensures { quote_reply result ≡ refused_quote (refusal_at too_long longest_sheet) }
 {
     Quoted {
         cells: 0,
@@ -43,7 +43,7 @@ fn too_long_quote() -> Quoted
 
 // The lines for a sheet, on either board.
 pub fn quote_reply(kind: BoardKind, sheet: &[u8], out: &mut [u8]) -> usize
-    ensures { Printed longestReport (printedOf kind sheet.now) out.old out.new result }
+    ensures { Printed longest_report (printed_of kind sheet.now) out.old out.new result }
 {
     let mut stage = [0u8; LONGEST_WRITTEN];
     if LONGEST_SHEET < sheet.len() {
@@ -55,7 +55,7 @@ pub fn quote_reply(kind: BoardKind, sheet: &[u8], out: &mut [u8]) -> usize
 
 // The line for a sheet and a stage, on either board.
 pub fn audit_reply(kind: BoardKind, sheet: &[u8], stage: &[u8], out: &mut [u8]) -> usize
-    ensures { Printed longestReport (auditPrintedOf kind sheet.now stage.now) out.old out.new result }
+    ensures { Printed longest_report (audit_printed_of kind sheet.now stage.now) out.old out.new result }
 {
     if LONGEST_SHEET < sheet.len() {
         return report::report_audit(Audited::SheetRefused(too_long()), out);
@@ -66,7 +66,7 @@ pub fn audit_reply(kind: BoardKind, sheet: &[u8], stage: &[u8], out: &mut [u8]) 
 
 // The line for a sheet that is to be cleaned (document 02, E1).
 pub fn clean_reply(sheet: &[u8], out: &mut [u8]) -> usize
-    ensures { Printed longestCopyLine (cleanPrintedOf sheet.now) out.old out.new result }
+    ensures { Printed longest_copy_line (clean_printed_of sheet.now) out.old out.new result }
 {
     let mut copy = [0u8; LONGEST_COPY];
     if LONGEST_SHEET < sheet.len() {
@@ -78,7 +78,7 @@ pub fn clean_reply(sheet: &[u8], out: &mut [u8]) -> usize
 
 // What is refused of two sheets where the second is too long: what reading refuses of the first comes before.
 fn second_too_long(first: &[u8]) -> JointMark
-    ensures { jointCase result ≡ beforeTooLong (reading_of first.now) }
+    ensures { joint_case result ≡ before_too_long (reading_of first.now) }
 {
     let related = unit::relate(first);
     let answer = related.answer;
@@ -90,7 +90,7 @@ fn second_too_long(first: &[u8]) -> JointMark
 
 // The lines for two sheets that are to have one stage (document 02, E6).
 pub fn joined_reply(first: &[u8], second: &[u8], out: &mut [u8]) -> usize
-    ensures { Printed longestReport (jointPrintedOf first.now second.now) out.old out.new result }
+    ensures { Printed longest_report (joint_printed_of first.now second.now) out.old out.new result }
 {
     let mut written = [0u8; LONGEST_WRITTEN];
     if LONGEST_SHEET < first.len() {

@@ -9,113 +9,113 @@ use lib.Dec.{eqb, ltb}
 use lib.ListN.{length, get_or, length-map, get_or-eq_default}
 use lib.Seq.{get_or-take}
 use Rattle.base.specs.declared.Refusal.{Refusal}
-use Rattle.base.specs.Cases.{accepting, refusing, refusedOutcome, secondRefusedOutcome}
-use Rattle.sheet.specs.Limits.{maxInputs, maxWires}
-use Rattle.base.proofs.Tabulate.{tabulate-at, tabulate-entry}
+use Rattle.base.specs.Cases.{accepting, refusing, refused_outcome, second_refused_outcome}
+use Rattle.sheet.specs.Limits.{max_inputs, max_wires}
+use Rattle.base.proofs.Tabulate.{tabulate_at, tabulate_entry}
 use Rattle.table.specs.Bits.{bit, all, tabulate}
 use Rattle.nodes.specs.declared.BoardKind.{BoardKind}
-use Rattle.table.proofs.Bits.{all-cong}
+use Rattle.table.proofs.Bits.{all_cong}
 use Rattle.relation.specs.declared.Relation.{Relation}
 use Rattle.relation.specs.Source.{value}
-use Rattle.relation.specs.Tests.{ofSets}
+use Rattle.relation.specs.Tests.{of_sets}
 use Rattle.table.specs.Cells.{wires}
-use Rattle.relation.specs.Handed.{relationOf}
-use Rattle.relation.proofs.AllWires.{value-all-wires}
+use Rattle.relation.specs.Handed.{relation_of}
+use Rattle.relation.proofs.AllWires.{value_all_wires}
 use Rattle.stage_reader.specs.declared.StageRead.{StageRead}
-use Rattle.stage_reader.specs.Cases.{stageReply}
+use Rattle.stage_reader.specs.Cases.{stage_reply}
 use Rattle.base.specs.Each.{Each}
-use Rattle.stage.specs.Read.{readSheet}
+use Rattle.stage.specs.Read.{read_sheet}
 use Rattle.nodes.specs.Counts.{count_of}
-use Rattle.diagram.specs.Forms.{form_of, drawingOf}
-use Rattle.nodes.proofs.Counts.{most-inputs}
-use Rattle.diagram.proofs.Forms.{form-laws, form-most, form-fair}
-use Rattle.table.proofs.Drawings.{value-tables}
-use Rattle.relation.proofs.Decide.{value-cong}
-use Rattle.table.specs.Drawing.{got, drawnTable, drawnValue}
-use Rattle.stage.specs.Reply.{stageTables, replyToStage}
-use Rattle.stage_reader.proofs.Replies.{told-refused, Got, told-got}
+use Rattle.diagram.specs.Forms.{form_of, drawing_of}
+use Rattle.nodes.proofs.Counts.{most_inputs_lem}
+use Rattle.diagram.proofs.Forms.{form_laws, form_most, form_fair}
+use Rattle.table.proofs.Drawings.{value_tables}
+use Rattle.relation.proofs.Decide.{value_cong}
+use Rattle.table.specs.Drawing.{got, drawn_table, drawn_value}
+use Rattle.stage.specs.Reply.{stage_tables, reply_to_stage}
+use Rattle.stage_reader.proofs.Replies.{told_refused, Got, told_got}
 use Rattle.stage.proofs.Sheets.{accepted}
 use Rattle.base.specs.declared.Verdict.TheVariants.{Accepted, Refused}
 use Rattle.unit.specs.declared.Formed.{Formed}
-use Rattle.unit.specs.Cases.{formedReply}
-use Rattle.unit.specs.Formed.{formedOf}
-use Rattle.quote.specs.Cases.{fitsOutcome, differsOutcome}
-use Rattle.quote.specs.Audit.{keepsTo, sizesApart, auditedStage, auditedFrom, auditedOf}
+use Rattle.unit.specs.Cases.{formed_reply}
+use Rattle.unit.specs.Formed.{formed_of}
+use Rattle.quote.specs.Cases.{fits_outcome, differs_outcome}
+use Rattle.quote.specs.Audit.{keeps_to, sizes_apart, audited_stage, audited_from, audited_of}
 
-map-past : {A : Type 0} (f : A → ℕ) (xs : List A) (j : ℕ) → length xs ≤ j → get_or (map f xs) j 0 ≡ 0
-map-past f xs j l = get_or-eq_default (map f xs) 0 (omega (arith, length-map xs f))
+map_past : {A : Type 0} (f : A → ℕ) (xs : List A) (j : ℕ) → length xs ≤ j → get_or (map f xs) j 0 ≡ 0
+map_past f xs j l = get_or-eq_default (map f xs) 0 (omega (arith, length-map xs f))
 
 -- a stage has no more inputs than a sheet can have, whatever its board
-few-lines : (kind : BoardKind) (n : ℕ) → n ≤ (form_of kind).most → n ≤ maxInputs
-few-lines kind n h = omega (arith, h, form-most kind, most-inputs kind)
+few_lines : (kind : BoardKind) (n : ℕ) → n ≤ (form_of kind).most → n ≤ max_inputs
+few_lines kind n h = omega (arith, h, form_most kind, most_inputs_lem kind)
 
 module _ (kind : BoardKind) where
   -- the value that the tables drive is the value that the drawings do
-  value-drawn : (n : ℕ) (stage : List (drawingOf kind).Shape) → n ≤ maxInputs → length stage ≤ maxWires → Each ((drawingOf kind).WellFormed n) stage
-      → (p : ℕ) → p < 2 ^ n → value maxWires (wires (stageTables (drawingOf kind) n stage)) p ≡ drawnValue (drawingOf kind) n stage p
-  unfolding stageTables value
-  value-drawn n stage small few o p lp =
-      let table = drawnTable (drawingOf kind) n in
+  value_drawn : (n : ℕ) (stage : List (drawing_of kind).Shape) → n ≤ max_inputs → length stage ≤ max_wires → Each ((drawing_of kind).WellFormed n) stage
+      → (p : ℕ) → p < 2 ^ n → value max_wires (wires (stage_tables (drawing_of kind) n stage)) p ≡ drawn_value (drawing_of kind) n stage p
+  unfolding stage_tables value
+  value_drawn n stage small few o p lp =
+      let table = drawn_table (drawing_of kind) n in
       let f : ℕ → ℕ = λ j. get_or (map table stage) j 0 in
-      value-all-wires (length stage) (tabulate maxWires f) p few
-      (λ j l. tabulate-entry maxWires f j ∙ past (get_or (map table stage) j 0) (ltb j maxWires) (map-past table stage j l))
-      ∙ value-cong (length stage) (wires (tabulate maxWires f)) (wires (map table stage)) p (λ j l. tabulate-at maxWires f j (omega arith))
-      ∙ value-tables (drawingOf kind) n (count_of kind n) (form-fair kind n small) stage o p lp
+      value_all_wires (length stage) (tabulate max_wires f) p few
+      (λ j l. tabulate_entry max_wires f j ∙ past (get_or (map table stage) j 0) (ltb j max_wires) (map_past table stage j l))
+      ∙ value_cong (length stage) (wires (tabulate max_wires f)) (wires (map table stage)) p (λ j l. tabulate_at max_wires f j (omega arith))
+      ∙ value_tables (drawing_of kind) n (count_of kind n) (form_fair kind n small) stage o p lp
     where
       past : (x : ℕ) (b : Bool) → x ≡ 0 → cond b x 0 ≡ 0
       past x true e = e
       past x false e = refl
 
   -- the code's test is document 01's
-  keeps-is : (r : Relation) (bytes : List ℕ) (m : ℕ) (stage : List (drawingOf kind).Shape) → readSheet (form_of kind) bytes ≡ got r.n m stage
-      → all (2 ^ r.n) (λ p. ofSets r.sets p (value maxWires (wires (stageTables (drawingOf kind) r.n stage)) p)) ≡ keepsTo (drawingOf kind) r stage
-  unfolding keepsTo relationOf ofSets
-  keeps-is r bytes m stage e =
-      let st = accepted (form_of kind) (form-laws kind) bytes r.n m stage e in
-      all-cong (2 ^ r.n) (λ p. ofSets r.sets p (value maxWires (wires (stageTables (drawingOf kind) r.n stage)) p))
-      (λ p. relationOf r p (drawnValue (drawingOf kind) r.n stage p))
+  keeps_is : (r : Relation) (bytes : List ℕ) (m : ℕ) (stage : List (drawing_of kind).Shape) → read_sheet (form_of kind) bytes ≡ got r.n m stage
+      → all (2 ^ r.n) (λ p. of_sets r.sets p (value max_wires (wires (stage_tables (drawing_of kind) r.n stage)) p)) ≡ keeps_to (drawing_of kind) r stage
+  unfolding keeps_to relation_of of_sets
+  keeps_is r bytes m stage e =
+      let st = accepted (form_of kind) (form_laws kind) bytes r.n m stage e in
+      all_cong (2 ^ r.n) (λ p. of_sets r.sets p (value max_wires (wires (stage_tables (drawing_of kind) r.n stage)) p))
+      (λ p. relation_of r p (drawn_value (drawing_of kind) r.n stage p))
       (λ p l.
       ap₂ (λ w v. eqb (bit w v) 1) (sym (get_or-take (2 ^ r.n) r.sets p 0 l))
-      (value-drawn r.n stage (few-lines kind r.n st.sizes.n-most) (omega (arith, st.one_each, st.sizes.m-most)) st.formed p l))
+      (value_drawn r.n stage (few_lines kind r.n st.sizes.n_most) (omega (arith, st.one_each, st.sizes.m_most)) st.formed p l))
 
 module _ (kind : BoardKind) (r : Relation) (bytes : List ℕ) (rd : StageRead)
-    (e : stageReply rd ≡ replyToStage (drawingOf kind) (readSheet (form_of kind) bytes)) where
-  pub stage-refused : (f : Refusal) → rd.answer ≡ Refused f → refusing secondRefusedOutcome f ≡ auditedStage (drawingOf kind) r (readSheet (form_of kind) bytes)
-  unfolding auditedStage
-  stage-refused f h = rw (told-refused (drawingOf kind) (readSheet (form_of kind) bytes) rd e f h)
+    (e : stage_reply rd ≡ reply_to_stage (drawing_of kind) (read_sheet (form_of kind) bytes)) where
+  pub stage_refused : (f : Refusal) → rd.answer ≡ Refused f → refusing second_refused_outcome f ≡ audited_stage (drawing_of kind) r (read_sheet (form_of kind) bytes)
+  unfolding audited_stage
+  stage_refused f h = rw (told_refused (drawing_of kind) (read_sheet (form_of kind) bytes) rd e f h)
 
   module _ (h : rd.answer ≡ Accepted) where
-    g : Got (drawingOf kind) (readSheet (form_of kind) bytes) rd e
-    g = told-got (drawingOf kind) (readSheet (form_of kind) bytes) rd e h
+    g : Got (drawing_of kind) (read_sheet (form_of kind) bytes) rd e
+    g = told_got (drawing_of kind) (read_sheet (form_of kind) bytes) rd e h
 
-    pub inputs-differ : (rd.n ≡ r.n → ⊥) → sizesApart ≡ auditedStage (drawingOf kind) r (readSheet (form_of kind) bytes)
-    unfolding auditedStage
-    inputs-differ ne = rw (g.is, ne_eqb rd.n r.n ne)
+    pub inputs_differ : (rd.n ≡ r.n → ⊥) → sizes_apart ≡ audited_stage (drawing_of kind) r (read_sheet (form_of kind) bytes)
+    unfolding audited_stage
+    inputs_differ ne = rw (g.is, ne_eqb rd.n r.n ne)
 
-    pub wires-differ : rd.n ≡ r.n → (rd.m ≡ r.m → ⊥) → sizesApart ≡ auditedStage (drawingOf kind) r (readSheet (form_of kind) bytes)
-    unfolding auditedStage
-    wires-differ en ne = rw (g.is, eq-eqb rd.n r.n en, ne_eqb rd.m r.m ne)
+    pub wires_differ : rd.n ≡ r.n → (rd.m ≡ r.m → ⊥) → sizes_apart ≡ audited_stage (drawing_of kind) r (read_sheet (form_of kind) bytes)
+    unfolding audited_stage
+    wires_differ en ne = rw (g.is, eq-eqb rd.n r.n en, ne_eqb rd.m r.m ne)
 
     -- the inputs of a stage sheet are in range
-    pub few-inputs : rd.n ≤ maxInputs
-    few-inputs = few-lines kind rd.n (accepted (form_of kind) (form-laws kind) bytes rd.n rd.m g.stage g.is).sizes.n-most
+    pub few_inputs : rd.n ≤ max_inputs
+    few_inputs = few_lines kind rd.n (accepted (form_of kind) (form_laws kind) bytes rd.n rd.m g.stage g.is).sizes.n_most
 
-    pub tested : rd.n ≡ r.n → rd.m ≡ r.m → (b : Bool) → b ≡ all (2 ^ rd.n) (λ p. ofSets r.sets p (value maxWires (wires rd.tables) p))
-        → cond b (accepting fitsOutcome rd.cells) (accepting differsOutcome rd.cells) ≡ auditedStage (drawingOf kind) r (readSheet (form_of kind) bytes)
-    unfolding auditedStage
+    pub tested : rd.n ≡ r.n → rd.m ≡ r.m → (b : Bool) → b ≡ all (2 ^ rd.n) (λ p. of_sets r.sets p (value max_wires (wires rd.tables) p))
+        → cond b (accepting fits_outcome rd.cells) (accepting differs_outcome rd.cells) ≡ audited_stage (drawing_of kind) r (read_sheet (form_of kind) bytes)
+    unfolding audited_stage
     tested en em b eb =
-        let is : readSheet (form_of kind) bytes ≡ got r.n rd.m g.stage = g.is ∙ ap (λ n. got n rd.m g.stage) en in
-        let et : rd.tables ≡ stageTables (drawingOf kind) r.n g.stage = g.tables ∙ ap (λ n. stageTables (drawingOf kind) n g.stage) en in
-        let k : b ≡ keepsTo (drawingOf kind) r g.stage =
-        eb ∙ ap₂ (λ n ts. all (2 ^ n) (λ p. ofSets r.sets p (value maxWires (wires ts) p))) en et ∙ keeps-is kind r bytes rd.m g.stage is in
-        ap (λ c. cond b (accepting fitsOutcome c) (accepting differsOutcome c)) g.cells ∙ rw (is, eq-eqb r.n r.n refl, eq-eqb rd.m r.m em, ← k)
+        let is : read_sheet (form_of kind) bytes ≡ got r.n rd.m g.stage = g.is ∙ ap (λ n. got n rd.m g.stage) en in
+        let et : rd.tables ≡ stage_tables (drawing_of kind) r.n g.stage = g.tables ∙ ap (λ n. stage_tables (drawing_of kind) n g.stage) en in
+        let k : b ≡ keeps_to (drawing_of kind) r g.stage =
+        eb ∙ ap₂ (λ n ts. all (2 ^ n) (λ p. of_sets r.sets p (value max_wires (wires ts) p))) en et ∙ keeps_is kind r bytes rd.m g.stage is in
+        ap (λ c. cond b (accepting fits_outcome c) (accepting differs_outcome c)) g.cells ∙ rw (is, eq-eqb r.n r.n refl, eq-eqb rd.m r.m em, ← k)
 
 -- the whole audit, from what forming the relation gave
-module _ (kind : BoardKind) (sheet stage : List ℕ) (f : Formed) (ef : formedReply f ≡ formedOf sheet) where
-  pub formed-audit : f.answer ≡ Accepted → auditedStage (drawingOf kind) f.relation (readSheet (form_of kind) stage) ≡ auditedOf kind sheet stage
-  unfolding auditedOf auditedFrom
-  formed-audit h = rw (← ef, h)
+module _ (kind : BoardKind) (sheet stage : List ℕ) (f : Formed) (ef : formed_reply f ≡ formed_of sheet) where
+  pub formed_audit : f.answer ≡ Accepted → audited_stage (drawing_of kind) f.relation (read_sheet (form_of kind) stage) ≡ audited_of kind sheet stage
+  unfolding audited_of audited_from
+  formed_audit h = rw (← ef, h)
 
-  pub turned-audit : (x : Refusal) → f.answer ≡ Refused x → refusing refusedOutcome x ≡ auditedOf kind sheet stage
-  unfolding auditedOf auditedFrom
-  turned-audit x h = rw (← ef, h)
+  pub turned_audit : (x : Refusal) → f.answer ≡ Refused x → refusing refused_outcome x ≡ audited_of kind sheet stage
+  unfolding audited_of audited_from
+  turned_audit x h = rw (← ef, h)

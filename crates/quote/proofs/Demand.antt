@@ -7,106 +7,106 @@ use native.Mathlib.Omega.{arith}
 use lib.Dec.{ltb, ltb→lt, nltb→le}
 use lib.ListN.{length}
 use Rattle.base.specs.declared.Refusal.{Refusal}
-use Rattle.base.specs.Cases.{refusedOutcome}
-use Rattle.base.specs.Refusals.{refusalAt, empty, tooWide}
+use Rattle.base.specs.Cases.{refused_outcome}
+use Rattle.base.specs.Refusals.{refusal_at, empty, too_wide}
 use Rattle.base.proofs.Tests.{decide}
-use Rattle.base.proofs.Tabulate.{tabulate-length}
+use Rattle.base.proofs.Tabulate.{tabulate_length}
 use Rattle.nodes.specs.declared.BoardKind.{BoardKind}
-use Rattle.nodes.specs.Counts.{count_of, mostInputs}
+use Rattle.nodes.specs.Counts.{count_of, most_inputs}
 use Rattle.sheet.specs.declared.Command.{Command}
-use Rattle.sheet.specs.Commands.{inputsOf, wiresOf}
-use Rattle.sheet.specs.Limits.{maxInputs, maxPatterns}
+use Rattle.sheet.specs.Commands.{inputs_of, wires_of}
+use Rattle.sheet.specs.Limits.{max_inputs, max_patterns}
 use Rattle.sheet.specs.Judged.{Reading, holds, refused}
 use Rattle.reader.specs.Reading.{reading_of}
 use Rattle.reader.proofs.Sound.{sound}
-use Rattle.diagram.specs.Forms.{drawingOf}
-use Rattle.diagram.proofs.Forms.{form-fair}
-use Rattle.unit.specs.Formed.{relationIn, turnedAway, formedOf}
-use Rattle.unit.proofs.Forming.{formed-refused, formed-empty, formed-whole}
-use Rattle.unit.proofs.Told.{emptyIn, passes-whole}
+use Rattle.diagram.specs.Forms.{drawing_of}
+use Rattle.diagram.proofs.Forms.{form_fair}
+use Rattle.unit.specs.Formed.{relation_in, turned_away, formed_of}
+use Rattle.unit.proofs.Forming.{formed_refused, formed_empty, formed_whole}
+use Rattle.unit.proofs.Told.{empty_in, passes_whole}
 use Rattle.unit.specs.Rival.{Rival}
-use Rattle.unit.proofs.Rivals.{rival-told}
-use Rattle.quote.specs.Quote.{searched, quotedOf, bufferSearched, bufferQuoted}
+use Rattle.unit.proofs.Rivals.{rival_told}
+use Rattle.quote.specs.Quote.{searched, quoted_of, buffer_searched, buffer_quoted}
 use Rattle.quote.specs.Cases.{QuoteReply}
-use Rattle.quote.specs.Inner.Refused.{refusedQuote}
+use Rattle.quote.specs.Inner.Refused.{refused_quote}
 use Rattle.quote.specs.AnyQuote.{PromisedOf}
-use Rattle.quote.specs.Promised.{commandsRead, inputsIn, wiresIn, NoRival, Promised}
-use Rattle.quote.proofs.Told.{is_wide, NumberTold, unread-told, empty-told, wide-told, other-told}
-use Rattle.quote.proofs.Searched.{refused-promise, Tells, searched-promise, searched-number}
+use Rattle.quote.specs.Promised.{commands_read, inputs_in, wires_in, NoRival, Promised}
+use Rattle.quote.proofs.Told.{is_wide, NumberTold, unread_told, empty_told, wide_told, other_told}
+use Rattle.quote.proofs.Searched.{refused_promise, Tells, searched_promise, searched_number}
 
 -- the commands of a sheet that was read
-pub read_is : (sheet : List ℕ) (cs : List Command) → reading_of sheet ≡ holds cs → commandsRead (reading_of sheet) ≡ cs
-unfolding commandsRead
-read_is sheet cs e = ap commandsRead e
+pub read_is : (sheet : List ℕ) (cs : List Command) → reading_of sheet ≡ holds cs → commands_read (reading_of sheet) ≡ cs
+unfolding commands_read
+read_is sheet cs e = ap commands_read e
 
 module _ (kind : BoardKind) (sheet : List ℕ) (budget : ℕ) (buffer : List ℕ) where
   abbrev PromiseKept : Type 0
-  PromiseKept = Promised (drawingOf kind) (mostInputs kind) sheet budget (quotedOf kind sheet budget (length buffer)) (bufferQuoted kind sheet budget buffer)
+  PromiseKept = Promised (drawing_of kind) (most_inputs kind) sheet budget (quoted_of kind sheet budget (length buffer)) (buffer_quoted kind sheet budget buffer)
 
   -- what every quote promises, with what the number tells
-  with_number : {r : QuoteReply} {b : List ℕ} → PromisedOf (drawingOf kind) (inputsIn sheet) (wiresIn sheet) (Rival (drawingOf kind) sheet) (NoRival (drawingOf kind) sheet) budget r b
-      → NumberTold kind sheet r.mark.number → Promised (drawingOf kind) (mostInputs kind) sheet budget r b
-  with_number p told = record { kept = p; by-trees = told.by-trees; wide = told.wide }
+  with_number : {r : QuoteReply} {b : List ℕ} → PromisedOf (drawing_of kind) (inputs_in sheet) (wires_in sheet) (Rival (drawing_of kind) sheet) (NoRival (drawing_of kind) sheet) budget r b
+      → NumberTold kind sheet r.mark.number → Promised (drawing_of kind) (most_inputs kind) sheet budget r b
+  with_number p told = record { kept = p; by_trees = told.by_trees; wide = told.wide }
 
-  refusal : (f : Refusal) → NumberTold kind sheet f.number → Promised (drawingOf kind) (mostInputs kind) sheet budget (refusedQuote f) buffer
+  refusal : (f : Refusal) → NumberTold kind sheet f.number → Promised (drawing_of kind) (most_inputs kind) sheet budget (refused_quote f) buffer
   refusal f told =
       with_number
-      (refused-promise (drawingOf kind) (inputsIn sheet) (wiresIn sheet) (Rival (drawingOf kind) sheet) (NoRival (drawingOf kind) sheet) budget buffer refusedOutcome f (omega arith) told.ten)
+      (refused_promise (drawing_of kind) (inputs_in sheet) (wires_in sheet) (Rival (drawing_of kind) sheet) (NoRival (drawing_of kind) sheet) budget buffer refused_outcome f (omega arith) told.ten)
       told
 
   -- a sheet that is turned away
-  turned : (f : Refusal) → formedOf sheet ≡ turnedAway f → NumberTold kind sheet f.number → PromiseKept
-  unfolding quotedOf bufferQuoted
+  turned : (f : Refusal) → formed_of sheet ≡ turned_away f → NumberTold kind sheet f.number → PromiseKept
+  unfolding quoted_of buffer_quoted
   turned f e told = rw e (refusal f told)
 
   module _ (cs : List Command) (e : reading_of sheet ≡ holds cs) where
-    small : inputsOf cs ≤ maxInputs
-    small = (sound sheet cs e).sizes.n-most
+    small : inputs_of cs ≤ max_inputs
+    small = (sound sheet cs e).sizes.n_most
 
     -- no pattern is empty
-    module _ (l : 2 ^ inputsOf cs ≤ emptyIn cs) where
+    module _ (l : 2 ^ inputs_of cs ≤ empty_in cs) where
       -- more inputs than the board has lines: 15
-      wide : mostInputs kind < inputsOf cs → PromiseKept
-      unfolding quotedOf bufferQuoted searched bufferSearched relationIn
+      wide : most_inputs kind < inputs_of cs → PromiseKept
+      unfolding quoted_of buffer_quoted searched buffer_searched relation_in
       wide many =
-          rw (formed-whole sheet cs e l, is_wide kind (relationIn cs) many) (refusal (refusalAt tooWide 0) (wide-told kind sheet cs e l many))
+          rw (formed_whole sheet cs e l, is_wide kind (relation_in cs) many) (refusal (refusal_at too_wide 0) (wide_told kind sheet cs e l many))
 
       -- no more: what the search promises
-      tells : inputsOf cs ≤ mostInputs kind → Tells kind (inputsIn sheet) (wiresIn sheet) (Rival (drawingOf kind) sheet) (relationIn cs)
-      unfolding relationIn
+      tells : inputs_of cs ≤ most_inputs kind → Tells kind (inputs_in sheet) (wires_in sheet) (Rival (drawing_of kind) sheet) (relation_in cs)
+      unfolding relation_in
       tells few =
           record {
-            inputs = sym (ap inputsOf (read_is sheet cs e));
-            wires = sym (ap wiresOf (read_is sheet cs e));
-            long = tabulate-length maxPatterns _;
-            passes = passes-whole cs (sound sheet cs e) (mostInputs kind) few l;
-            families = rival-told (drawingOf kind) sheet cs e (count_of kind (inputsOf cs)) (form-fair kind (inputsOf cs) small);
+            inputs = sym (ap inputs_of (read_is sheet cs e));
+            wires = sym (ap wires_of (read_is sheet cs e));
+            long = tabulate_length max_patterns _;
+            passes = passes_whole cs (sound sheet cs e) (most_inputs kind) few l;
+            families = rival_told (drawing_of kind) sheet cs e (count_of kind (inputs_of cs)) (form_fair kind (inputs_of cs) small);
           }
 
-      whole : inputsOf cs ≤ mostInputs kind → PromiseKept
-      unfolding quotedOf bufferQuoted
+      whole : inputs_of cs ≤ most_inputs kind → PromiseKept
+      unfolding quoted_of buffer_quoted
       whole few =
-          let k = searched-number kind (inputsIn sheet) (wiresIn sheet) (Rival (drawingOf kind) sheet) (NoRival (drawingOf kind) sheet) (relationIn cs) (tells few) (λ h. h.none) budget (length buffer) in
-          rw (formed-whole sheet cs e l)
+          let k = searched_number kind (inputs_in sheet) (wires_in sheet) (Rival (drawing_of kind) sheet) (NoRival (drawing_of kind) sheet) (relation_in cs) (tells few) (λ h. h.none) budget (length buffer) in
+          rw (formed_whole sheet cs e l)
           (with_number
-          (searched-promise kind (inputsIn sheet) (wiresIn sheet) (Rival (drawingOf kind) sheet) (NoRival (drawingOf kind) sheet) (relationIn cs) (tells few) (λ h. h.none) budget buffer)
-          (other-told kind sheet cs e l few (searched kind (relationIn cs) budget (length buffer)).mark.number k.0 k.1))
+          (searched_promise kind (inputs_in sheet) (wires_in sheet) (Rival (drawing_of kind) sheet) (NoRival (drawing_of kind) sheet) (relation_in cs) (tells few) (λ h. h.none) budget buffer)
+          (other_told kind sheet cs e l few (searched kind (relation_in cs) budget (length buffer)).mark.number k.0 k.1))
 
-      on-board : PromiseKept
-      on-board =
-          ⊎_elim (λ t. wide (ltb→lt (mostInputs kind) (inputsOf cs) t)) (λ t. whole (nltb→le (mostInputs kind) (inputsOf cs) t))
-          (decide (ltb (mostInputs kind) (inputsOf cs)))
+      on_board : PromiseKept
+      on_board =
+          ⊎_elim (λ t. wide (ltb→lt (most_inputs kind) (inputs_of cs) t)) (λ t. whole (nltb→le (most_inputs kind) (inputs_of cs) t))
+          (decide (ltb (most_inputs kind) (inputs_of cs)))
 
     held : PromiseKept
     held =
         ⊎_elim
-        (λ t. let l = ltb→lt (emptyIn cs) (2 ^ inputsOf cs) t in turned (refusalAt empty (emptyIn cs)) (formed-empty sheet cs e l) (empty-told kind sheet cs e l))
-        (λ t. on-board (nltb→le (emptyIn cs) (2 ^ inputsOf cs) t))
-        (decide (ltb (emptyIn cs) (2 ^ inputsOf cs)))
+        (λ t. let l = ltb→lt (empty_in cs) (2 ^ inputs_of cs) t in turned (refusal_at empty (empty_in cs)) (formed_empty sheet cs e l) (empty_told kind sheet cs e l))
+        (λ t. on_board (nltb→le (empty_in cs) (2 ^ inputs_of cs) t))
+        (decide (ltb (empty_in cs) (2 ^ inputs_of cs)))
 
-  pub promised : Promised (drawingOf kind) (mostInputs kind) sheet budget (quotedOf kind sheet budget (length buffer)) (bufferQuoted kind sheet budget buffer)
+  pub promised : Promised (drawing_of kind) (most_inputs kind) sheet budget (quoted_of kind sheet budget (length buffer)) (buffer_quoted kind sheet budget buffer)
   promised = go (reading_of sheet) refl
     where
       go : (x : Reading) → reading_of sheet ≡ x → PromiseKept
-      go (refused f) e = turned f (formed-refused sheet f e) (unread-told kind sheet f e)
+      go (refused f) e = turned f (formed_refused sheet f e) (unread_told kind sheet f e)
       go (holds cs) e = held cs e

@@ -1,17 +1,17 @@
 // The audit: whether a stage keeps to a sheet.
 ghost use Rattle.std.specs.Prelude.{◌≡◌, ◌≤◌, ◌^◌};
-ghost use Rattle.sheet.specs.Limits.{maxInputs, maxWires};
+ghost use Rattle.sheet.specs.Limits.{max_inputs, max_wires};
 ghost use Rattle.table.specs.Bits.{all};
 ghost use Rattle.relation.specs.Source.{value};
-ghost use Rattle.relation.specs.Tests.{ofSets};
+ghost use Rattle.relation.specs.Tests.{of_sets};
 ghost use Rattle.table.specs.Cells.{wires};
-ghost use Rattle.stage.specs.Read.{readSheet};
-ghost use Rattle.diagram.specs.Forms.{form_of, drawingOf};
+ghost use Rattle.stage.specs.Read.{read_sheet};
+ghost use Rattle.diagram.specs.Forms.{form_of, drawing_of};
 ghost use Rattle.base.specs.declared.Refusal.{Refusal};
 ghost use Rattle.base.specs.declared.Verdict.TheVariants.{Refused as NotTaken};
 ghost use Rattle.quote.specs.declared.Audited.TheVariants.{StageRefused};
-ghost use Rattle.quote.specs.Cases.{auditedCase};
-ghost use Rattle.quote.specs.Audit.{auditedStage};
+ghost use Rattle.quote.specs.Cases.{audited_case};
+ghost use Rattle.quote.specs.Audit.{audited_stage};
 
 use crate::Audited;
 use base::{Refusal, Verdict};
@@ -25,8 +25,8 @@ use stage_reader::read_on;
 
 // Whether the value that the tables drive lies in the set of every pattern.
 fn allowed_everywhere(n: u8, sets: [u16; Sheet::MAX_PATTERNS], tables: [u64; Sheet::WIRES]) -> bool
-    requires { n ≤ maxInputs }
-    ensures { result ≡ all (2 ^ n) (λ p. ofSets sets p (value maxWires (wires tables) p)) }
+    requires { n ≤ max_inputs }
+    ensures { result ≡ all (2 ^ n) (λ p. of_sets sets p (value max_wires (wires tables) p)) }
 {
     let count = patterns_of(n);
     for p in 0..count {
@@ -50,7 +50,7 @@ fn refused_stage(answer: Verdict) -> Audited
 
 // The audit of a stage sheet against a relation. Sizes and values are looked at only where the stage sheet can be read.
 pub fn audit_stage(kind: BoardKind, relation: Relation, s: &[u8]) -> Audited
-    ensures { auditedCase result ≡ auditedStage (drawingOf kind) relation (readSheet (form_of kind) s.now) }
+    ensures { audited_case result ≡ audited_stage (drawing_of kind) relation (read_sheet (form_of kind) s.now) }
 {
     let read = read_on(kind, s);
     let answer = read.answer;

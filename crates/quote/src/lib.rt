@@ -1,15 +1,15 @@
 // The quote, from a unit sheet to the smallest stage, and the audit of a stage; each for either board.
 ghost use Rattle.std.specs.Prelude.{◌≡◌, length};
-ghost use Rattle.sheet.specs.Limits.{maxInputs, maxSharedInputs};
+ghost use Rattle.sheet.specs.Limits.{max_inputs, max_shared_inputs};
 ghost use Rattle.nodes.specs.declared.BoardKind.TheVariants.{Tree, Sharing};
-ghost use Rattle.nodes.specs.Counts.{mostInputs};
-ghost use Rattle.stage.specs.Trees.{treeDrawing};
-ghost use Rattle.diagram.specs.Diagrams.{diagramDrawing};
-ghost use Rattle.diagram.specs.Forms.{drawingOf};
-ghost use Rattle.quote.specs.Cases.{quoteReply, auditedCase};
-ghost use Rattle.quote.specs.Quote.{quotedOf, bufferQuoted};
+ghost use Rattle.nodes.specs.Counts.{most_inputs};
+ghost use Rattle.stage.specs.Trees.{tree_drawing};
+ghost use Rattle.diagram.specs.Diagrams.{diagram_drawing};
+ghost use Rattle.diagram.specs.Forms.{drawing_of};
+ghost use Rattle.quote.specs.Cases.{quote_reply, audited_case};
+ghost use Rattle.quote.specs.Quote.{quoted_of, buffer_quoted};
 ghost use Rattle.quote.specs.Promised.{Promised};
-ghost use Rattle.quote.specs.Audit.{auditedOf};
+ghost use Rattle.quote.specs.Audit.{audited_of};
 
 use base::{Refusal, Verdict};
 use nodes::BoardKind;
@@ -40,9 +40,9 @@ pub enum Audited {
 
 // The quote on either board.
 pub fn quote_on(kind: BoardKind, sheet: &[u8], budget: u32, buffer: &mut [u8]) -> Quoted
-    ensures reply { quoteReply result ≡ quotedOf kind sheet.now budget (length buffer.old) }
-    ensures bytes { buffer.new ≡ bufferQuoted kind sheet.now budget buffer.old }
-    ensures promise { Promised (drawingOf kind) (mostInputs kind) sheet.now budget (quoteReply result) buffer.new }
+    ensures reply { quote_reply result ≡ quoted_of kind sheet.now budget (length buffer.old) }
+    ensures bytes { buffer.new ≡ buffer_quoted kind sheet.now budget buffer.old }
+    ensures promise { Promised (drawing_of kind) (most_inputs kind) sheet.now budget (quote_reply result) buffer.new }
 {
     let formed = unit::form(sheet);
     let answer = formed.answer;
@@ -55,9 +55,9 @@ pub fn quote_on(kind: BoardKind, sheet: &[u8], budget: u32, buffer: &mut [u8]) -
 
 // The smallest stage for a unit sheet, written at the start of the lent buffer, or the best found under the budget; or the refusal, which writes nothing.
 pub fn quote(sheet: &[u8], budget: u32, buffer: &mut [u8]) -> Quoted
-    ensures reply { quoteReply result ≡ quotedOf Tree sheet.now budget (length buffer.old) }
-    ensures bytes { buffer.new ≡ bufferQuoted Tree sheet.now budget buffer.old }
-    ensures promise { Promised treeDrawing maxInputs sheet.now budget (quoteReply result) buffer.new }
+    ensures reply { quote_reply result ≡ quoted_of Tree sheet.now budget (length buffer.old) }
+    ensures bytes { buffer.new ≡ buffer_quoted Tree sheet.now budget buffer.old }
+    ensures promise { Promised tree_drawing max_inputs sheet.now budget (quote_reply result) buffer.new }
 {
     quote_on(BoardKind::Tree, sheet, budget, buffer)
 }
@@ -65,16 +65,16 @@ pub fn quote(sheet: &[u8], budget: u32, buffer: &mut [u8]) -> Quoted
 // The same on the board that shares selectors (document 02, E2): a rival is any well-formed diagrams that keep to the sheet, one for each wire. It has
 // four lines: a sheet with more inputs is refused, 15 (E5).
 pub fn quote_shared(sheet: &[u8], budget: u32, buffer: &mut [u8]) -> Quoted
-    ensures reply { quoteReply result ≡ quotedOf Sharing sheet.now budget (length buffer.old) }
-    ensures bytes { buffer.new ≡ bufferQuoted Sharing sheet.now budget buffer.old }
-    ensures promise { Promised diagramDrawing maxSharedInputs sheet.now budget (quoteReply result) buffer.new }
+    ensures reply { quote_reply result ≡ quoted_of Sharing sheet.now budget (length buffer.old) }
+    ensures bytes { buffer.new ≡ buffer_quoted Sharing sheet.now budget buffer.old }
+    ensures promise { Promised diagram_drawing max_shared_inputs sheet.now budget (quote_reply result) buffer.new }
 {
     quote_on(BoardKind::Sharing, sheet, budget, buffer)
 }
 
 // The audit on either board.
 pub fn audit_on(kind: BoardKind, sheet: &[u8], stage: &[u8]) -> Audited
-    ensures { auditedCase result ≡ auditedOf kind sheet.now stage.now }
+    ensures { audited_case result ≡ audited_of kind sheet.now stage.now }
 {
     let formed = unit::form(sheet);
     let answer = formed.answer;
@@ -87,14 +87,14 @@ pub fn audit_on(kind: BoardKind, sheet: &[u8], stage: &[u8]) -> Audited
 
 // Whether a stage keeps to a unit sheet, and its cells. Where both sheets are at fault, the unit sheet's refusal is told.
 pub fn audit(sheet: &[u8], stage: &[u8]) -> Audited
-    ensures { auditedCase result ≡ auditedOf Tree sheet.now stage.now }
+    ensures { audited_case result ≡ audited_of Tree sheet.now stage.now }
 {
     audit_on(BoardKind::Tree, sheet, stage)
 }
 
 // The same of a stage for the board that shares selectors.
 pub fn audit_shared(sheet: &[u8], stage: &[u8]) -> Audited
-    ensures { auditedCase result ≡ auditedOf Sharing sheet.now stage.now }
+    ensures { audited_case result ≡ audited_of Sharing sheet.now stage.now }
 {
     audit_on(BoardKind::Sharing, sheet, stage)
 }

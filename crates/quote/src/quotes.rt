@@ -1,11 +1,11 @@
 // The quote of a relation: it is searched, and the stage written at the start of the lent buffer.
 ghost use Rattle.std.specs.Prelude.{◌≡◌, length};
 ghost use Rattle.diagram.specs.Forms.{form_of};
-ghost use Rattle.stage.specs.Written.{written_of, bufferAfter};
-ghost use Rattle.search.specs.Cases.{searchReply};
-ghost use Rattle.quote.specs.Cases.{quoteReply};
-ghost use Rattle.quote.specs.Inner.Refused.{refusedQuote};
-ghost use Rattle.quote.specs.Quote.{withStage, searched, bufferSearched};
+ghost use Rattle.stage.specs.Written.{written_of, buffer_after};
+ghost use Rattle.search.specs.Cases.{search_reply};
+ghost use Rattle.quote.specs.Cases.{quote_reply};
+ghost use Rattle.quote.specs.Inner.Refused.{refused_quote};
+ghost use Rattle.quote.specs.Quote.{with_stage, searched, buffer_searched};
 
 use crate::Quoted;
 use base::{Refusal, Written};
@@ -15,7 +15,7 @@ use search::{Answer, Mark, search_on};
 use stage_writer::write_on;
 
 pub fn refused_quote(refusal: Refusal) -> Quoted
-    ensures { quoteReply result ≡ refusedQuote refusal }
+    ensures { quote_reply result ≡ refused_quote refusal }
 {
     Quoted {
         cells: 0,
@@ -28,7 +28,7 @@ pub fn refused_quote(refusal: Refusal) -> Quoted
 
 // The stage of an answer's tables, written.
 fn quote_answer(kind: BoardKind, n: u8, m: u8, answer: Answer, buffer: &mut [u8]) -> Quoted
-    ensures { (quoteReply result ≡ withStage (searchReply answer) (written_of (form_of kind) n m answer.tables (length buffer.old)))
+    ensures { (quote_reply result ≡ with_stage (search_reply answer) (written_of (form_of kind) n m answer.tables (length buffer.old)))
         × (buffer.new ≡ bufferAfter (form_of kind) n m answer.tables buffer.old) }
 {
     let tables = answer.tables;
@@ -49,8 +49,8 @@ fn quote_answer(kind: BoardKind, n: u8, m: u8, answer: Answer, buffer: &mut [u8]
 // The relation searched, and the stage found written. A relation of more inputs than the board has lines is not searched.
 // Every quote comes to this, whatever its relation was formed of; what the reply promises is said where that is known.
 pub fn quote_relation(kind: BoardKind, relation: Relation, budget: u32, buffer: &mut [u8]) -> Quoted
-    ensures reply { quoteReply result ≡ searched kind relation budget (length buffer.old) }
-    ensures bytes { buffer.new ≡ bufferSearched kind relation budget buffer.old }
+    ensures reply { quote_reply result ≡ searched kind relation budget (length buffer.old) }
+    ensures bytes { buffer.new ≡ buffer_searched kind relation budget buffer.old }
 {
     let n = relation.n;
     let m = relation.m;

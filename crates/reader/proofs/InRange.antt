@@ -5,33 +5,33 @@ use mathlib.Core.Bool.{false}
 use native.Mathlib.Omega.{arith}
 use borrow.Author.Tests.{leb-false}
 use Rattle.base.proofs.Tests.{neither}
-use Rattle.sheet.specs.Limits.{maxInputs, maxPatterns, isBeyond}
+use Rattle.sheet.specs.Limits.{max_inputs, max_patterns, is_beyond}
 use Rattle.sheet.specs.declared.Command.{Command}
 use Rattle.sheet.specs.declared.Command.TheVariants.{End, Sizes, Row, DontCare, Gate, Output, Limit}
-use Rattle.sheet.specs.Inner.Gathering.{patternOf}
-use Rattle.sheet.proofs.Sizes.{sizes-in, pattern-place}
+use Rattle.sheet.specs.Inner.Gathering.{pattern_of}
+use Rattle.sheet.proofs.Sizes.{sizes_in, pattern_place}
 use Rattle.reader.specs.declared.Reader.{Reader}
-use Rattle.reader.specs.Reader.{isOutOfRange, movedPast}
+use Rattle.reader.specs.Reader.{is_out_of_range, moved_past}
 
-below : (n p : ℕ) → n ≤ maxInputs → isBeyond n p ≡ false → p < maxPatterns
-below n p h e = pattern-place n p h (leb-false (2 ^ n) p e)
+below : (n p : ℕ) → n ≤ max_inputs → is_beyond n p ≡ false → p < max_patterns
+below n p h e = pattern_place n p h (leb-false (2 ^ n) p e)
 
 -- a command in range names a pattern that a sheet has room for
-pub pattern-fits : (n m : ℕ) (c : Command) → n ≤ maxInputs → isOutOfRange n m c ≡ false → patternOf c < maxPatterns
-pattern-fits n m End h e = omega arith
-pattern-fits n m (Sizes n' m') h e = omega arith
-pattern-fits n m (Row p v) h e = below n p h (neither (isBeyond n p) (isBeyond m v) e).0
-pattern-fits n m (DontCare p) h e = below n p h e
-pattern-fits n m (Gate k a b) h e = omega arith
-pattern-fits n m (Output s) h e = omega arith
-pattern-fits n m (Limit p w) h e = below n p h (neither (isBeyond n p) (isBeyond (2 ^ m) w) e).0
+pub pattern_fits : (n m : ℕ) (c : Command) → n ≤ max_inputs → is_out_of_range n m c ≡ false → pattern_of c < max_patterns
+pattern_fits n m End h e = omega arith
+pattern_fits n m (Sizes n' m') h e = omega arith
+pattern_fits n m (Row p v) h e = below n p h (neither (is_beyond n p) (is_beyond m v) e).0
+pattern_fits n m (DontCare p) h e = below n p h e
+pattern_fits n m (Gate k a b) h e = omega arith
+pattern_fits n m (Output s) h e = omega arith
+pattern_fits n m (Limit p w) h e = below n p h (neither (is_beyond n p) (is_beyond (2 ^ m) w) e).0
 
 -- the inputs stay in range
-pub inputs-fit : (r : Reader) (c : Command) (to : ℕ) → r.n ≤ maxInputs → isOutOfRange r.n r.m c ≡ false → (movedPast r c to).n ≤ maxInputs
-inputs-fit r End to h e = h
-inputs-fit r (Sizes n m) to h e = (sizes-in maxInputs n m e).n-most
-inputs-fit r (Row p v) to h e = h
-inputs-fit r (DontCare p) to h e = h
-inputs-fit r (Gate k a b) to h e = h
-inputs-fit r (Output s) to h e = h
-inputs-fit r (Limit p w) to h e = h
+pub inputs_fit : (r : Reader) (c : Command) (to : ℕ) → r.n ≤ max_inputs → is_out_of_range r.n r.m c ≡ false → (moved_past r c to).n ≤ max_inputs
+inputs_fit r End to h e = h
+inputs_fit r (Sizes n m) to h e = (sizes_in max_inputs n m e).n_most
+inputs_fit r (Row p v) to h e = h
+inputs_fit r (DontCare p) to h e = h
+inputs_fit r (Gate k a b) to h e = h
+inputs_fit r (Output s) to h e = h
+inputs_fit r (Limit p w) to h e = h

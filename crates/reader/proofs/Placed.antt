@@ -4,61 +4,61 @@ use mathlib.Core.Path.{◌≡◌, sym, subst}
 use mathlib.Core.List.{List}
 use native.Mathlib.Nat.{lt_of_lt_of_le}
 use lib.ListN.{length, get_or}
-use Rattle.base.proofs.Each.{each-getD}
-use Rattle.sheet.specs.Limits.{maxInputs, maxWires, maxGates, maxOutputs}
+use Rattle.base.proofs.Each.{each_get_d}
+use Rattle.sheet.specs.Limits.{max_inputs, max_wires, max_gates, max_outputs}
 use Rattle.sheet.specs.declared.Command.{Command}
 use Rattle.sheet.specs.declared.Sheet.{Sheet}
-use Rattle.sheet.specs.Commands.{LogicGate, gatesOf, outputsOf, signalsMade}
-use Rattle.sheet.specs.Gathered.{gathered, gateAt}
-use Rattle.sheet.proofs.Fields.{inputs-field, wires-field, gates-field, outputs-field, kind-field, left-field, right-field, output-field}
+use Rattle.sheet.specs.Commands.{LogicGate, gates_of, outputs_of, signals_made}
+use Rattle.sheet.specs.Gathered.{gathered, gate_at}
+use Rattle.sheet.proofs.Fields.{inputs_field, wires_field, gates_field, outputs_field, kind_field, left_field, right_field, output_field}
 use Rattle.reader.specs.Inner.WasRead.{WasRead}
 use Rattle.reader.proofs.Sound.{Sound, sound}
 use Rattle.reader.proofs.Wiring.{Wired}
 
 -- the gate in place i
-abbrev pub gateHeld : List ℕ → List ℕ → List ℕ → ℕ → LogicGate
-gateHeld kinds lefts rights i = record { kind = get_or kinds i 0; left = get_or lefts i 0; right = get_or rights i 0 }
+abbrev pub gate_held : List ℕ → List ℕ → List ℕ → ℕ → LogicGate
+gate_held kinds lefts rights i = record { kind = get_or kinds i 0; left = get_or lefts i 0; right = get_or rights i 0 }
 
-abbrev pub gateOf : Sheet → ℕ → LogicGate
-gateOf sheet = gateHeld sheet.kinds sheet.lefts sheet.rights
+abbrev pub gate_of : Sheet → ℕ → LogicGate
+gate_of sheet = gate_held sheet.kinds sheet.lefts sheet.rights
 
 pub record Placed (sheet : Sheet) : Type 0 where
-  pub few-inputs : sheet.n ≤ maxInputs
-  pub few-wires : sheet.m ≤ maxWires
-  pub few-gates : sheet.gate_count ≤ maxGates
-  pub wired : (i : ℕ) → i < sheet.gate_count → Wired sheet.m i (gateOf sheet i)
-  pub few-outputs : sheet.output_count ≤ maxOutputs
+  pub few_inputs : sheet.n ≤ max_inputs
+  pub few_wires : sheet.m ≤ max_wires
+  pub few_gates : sheet.gate_count ≤ max_gates
+  pub wired : (i : ℕ) → i < sheet.gate_count → Wired sheet.m i (gate_of sheet i)
+  pub few_outputs : sheet.output_count ≤ max_outputs
   pub made : (i : ℕ) → i < sheet.output_count → get_or sheet.signals i 0 < sheet.m + sheet.gate_count
 
-same-gate : (k a b : ℕ) (g : LogicGate) → k ≡ g.kind → a ≡ g.left → b ≡ g.right
+same_gate : (k a b : ℕ) (g : LogicGate) → k ≡ g.kind → a ≡ g.left → b ≡ g.right
     → ◌≡◌ {A = LogicGate} (record { kind = k; left = a; right = b }) g
-same-gate k a b g e l r = rw (e, l, r)
+same_gate k a b g e l r = rw (e, l, r)
 
 module _ (cs : List Command) (s : Sound cs) where
-  pub gate-held : (i : ℕ) → i < length (gatesOf cs) → gateOf (gathered cs) i ≡ gateAt i cs
-  gate-held i h =
-      let b : i < maxGates = lt_of_lt_of_le h s.gates.few in
-      same-gate _ _ _ (gateAt i cs) (kind-field cs i b) (left-field cs i b) (right-field cs i b)
+  pub gate_held_lem : (i : ℕ) → i < length (gates_of cs) → gate_of (gathered cs) i ≡ gate_at i cs
+  gate_held_lem i h =
+      let b : i < max_gates = lt_of_lt_of_le h s.gates.few in
+      same_gate _ _ _ (gate_at i cs) (kind_field cs i b) (left_field cs i b) (right_field cs i b)
 
-  pub placed-all : Placed (gathered cs)
-  placed-all =
+  pub placed_all : Placed (gathered cs)
+  placed_all =
       record {
-        few-inputs = rw (inputs-field cs) s.sizes.n-most;
-        few-wires = rw (wires-field cs) s.sizes.m-most;
-        few-gates = rw (gates-field cs) s.gates.few;
+        few_inputs = rw (inputs_field cs) s.sizes.n_most;
+        few_wires = rw (wires_field cs) s.sizes.m_most;
+        few_gates = rw (gates_field cs) s.gates.few;
         wired = λ i h.
-            let l : i < length (gatesOf cs) = rw (gates-field cs) at h in
-            rw (wires-field cs, gate-held i l) (s.gates.wired i l);
-        few-outputs = rw (outputs-field cs) s.outputs.few;
+            let l : i < length (gates_of cs) = rw (gates_field cs) at h in
+            rw (wires_field cs, gate_held_lem i l) (s.gates.wired i l);
+        few_outputs = rw (outputs_field cs) s.outputs.few;
         made = λ i h.
-            let l : i < length (outputsOf cs) = rw (outputs-field cs) at h in
-            rw (wires-field cs, gates-field cs, output-field cs i (lt_of_lt_of_le l s.outputs.few))
-            (each-getD (λ x. x < signalsMade cs) (outputsOf cs) 0 s.outputs.made-before i l);
+            let l : i < length (outputs_of cs) = rw (outputs_field cs) at h in
+            rw (wires_field cs, gates_field cs, output_field cs i (lt_of_lt_of_le l s.outputs.few))
+            (each_get_d (λ x. x < signals_made cs) (outputs_of cs) 0 s.outputs.made_before i l);
       }
 
 module _ {sheet : Sheet} (h : WasRead sheet) where
-  abbrev pub held-sound : Sound h.commands
-  held-sound = sound h.bytes h.commands h.held
+  abbrev pub held_sound : Sound h.commands
+  held_sound = sound h.bytes h.commands h.held
 
   pub placed : Placed sheet
-  placed = subst Placed (sym h.gathers) (placed-all h.commands held-sound)
+  placed = subst Placed (sym h.gathers) (placed_all h.commands held_sound)

@@ -1,13 +1,13 @@
 -- One command at a place: what can be told from the bytes and the sizes.
 use Rattle.std.specs.Prelude.{ℕ, ◌+◌, ◌-◌, ◌*◌, ◌^◌, List, Bool, false, cond, not, ◌||◌, length, get_or, ltb, leb, eqb}
-use Rattle.base.specs.Refusals.{refusalAt, cutShort, unknown, outOfTurn, outOfRange}
+use Rattle.base.specs.Refusals.{refusal_at, cut_short, unknown, out_of_turn, out_of_range}
 use Rattle.sheet.specs.declared.Command.{Command}
 use Rattle.sheet.specs.declared.Command.TheVariants.{End, Sizes, Row, DontCare, Gate, Output, Limit}
 use Rattle.reader.specs.declared.Reader.{Reader}
 use Rattle.reader.specs.declared.Step.{Step}
 use Rattle.reader.specs.declared.Step.TheVariants.{Read, Refused}
-use Rattle.sheet.specs.Limits.{maxInputs, sizesOut, isBeyond}
-use Rattle.sheet.specs.Commands.{is_empty, isSizes, inputsIn, wiresIn, inputsOf, wiresOf}
+use Rattle.sheet.specs.Limits.{max_inputs, sizes_out, is_beyond}
+use Rattle.sheet.specs.Commands.{is_empty, is_sizes, inputs_in, wires_in, inputs_of, wires_of}
 
 -- how many bytes a command has, by its first, which counts too; 0 where there is no such command
 abbrev pub width_of : ℕ → ℕ
@@ -21,8 +21,8 @@ width_of b =
     (cond (eqb b 6) 4 0))))))
 
 -- the command that starts with b, a known byte, and has the operand bytes x y z, as many as it needs; the set of 06 takes two, the lower first
-abbrev pub commandOf : ℕ → ℕ → ℕ → ℕ → Command
-commandOf b x y z =
+abbrev pub command_of : ℕ → ℕ → ℕ → ℕ → Command
+command_of b x y z =
     cond (eqb b 0) End
     (cond (eqb b 1) (Sizes x y)
     (cond (eqb b 2) (Row x y)
@@ -32,33 +32,33 @@ commandOf b x y z =
     (Limit x (y + 256 * z)))))))
 
 -- 01 anywhere but at the start, or another command there
-abbrev pub isOutOfTurn : Bool → ℕ → Bool
-isOutOfTurn started b = cond (eqb b 1) started (not started)
+abbrev pub is_out_of_turn : Bool → ℕ → Bool
+is_out_of_turn started b = cond (eqb b 1) started (not started)
 
 -- the kinds of gates are 0 to this one
-abbrev pub lastKind : ℕ
-lastKind = 5
+abbrev pub last_kind : ℕ
+last_kind = 5
 
 -- some operand is too small or too large: refusal 3
-abbrev pub isOutOfRange : ℕ → ℕ → Command → Bool
-isOutOfRange n m End = false
-isOutOfRange n m (Sizes n' m') = sizesOut maxInputs n' m'
-isOutOfRange n m (Row p v) = isBeyond n p || isBeyond m v
-isOutOfRange n m (DontCare p) = isBeyond n p
-isOutOfRange n m (Gate k a b) = ltb lastKind k
-isOutOfRange n m (Output s) = false
-isOutOfRange n m (Limit p w) = isBeyond n p || isBeyond (2 ^ m) w
+abbrev pub is_out_of_range : ℕ → ℕ → Command → Bool
+is_out_of_range n m End = false
+is_out_of_range n m (Sizes n' m') = sizes_out max_inputs n' m'
+is_out_of_range n m (Row p v) = is_beyond n p || is_beyond m v
+is_out_of_range n m (DontCare p) = is_beyond n p
+is_out_of_range n m (Gate k a b) = ltb last_kind k
+is_out_of_range n m (Output s) = false
+is_out_of_range n m (Limit p w) = is_beyond n p || is_beyond (2 ^ m) w
 
 -- the reader at a place, past the commands of a list
-abbrev pub readerAt : ℕ → List Command → Reader
-readerAt at cs = record { at = at; started = not (is_empty cs); n = inputsOf cs; m = wiresOf cs }
+abbrev pub reader_at : ℕ → List Command → Reader
+reader_at at cs = record { at = at; started = not (is_empty cs); n = inputs_of cs; m = wires_of cs }
 
 -- the reader at the place after a command, with the sizes that it names
-abbrev pub movedPast : Reader → Command → ℕ → Reader
-movedPast r c to = record { at = to; started = isSizes c || r.started; n = get_or (inputsIn c) 0 r.n; m = get_or (wiresIn c) 0 r.m }
+abbrev pub moved_past : Reader → Command → ℕ → Reader
+moved_past r c to = record { at = to; started = is_sizes c || r.started; n = get_or (inputs_in c) 0 r.n; m = get_or (wires_in c) 0 r.m }
 
-abbrev pub stepRefused : ℕ → ℕ → Step
-stepRefused number at = Refused (refusalAt number at)
+abbrev pub step_refused : ℕ → ℕ → Step
+step_refused number at = Refused (refusal_at number at)
 
 -- One command (document 01, "Refusals"): what can be refused without the commands before, in the document's order, at the command's own place; else the
 -- command and the reader after it. What the commands before refuse comes after (`judged`).
@@ -66,10 +66,10 @@ unfoldable pub next_of : List ℕ → Reader → Step
 next_of s r =
     let at = r.at in
     let b = get_or s at 0 in
-    let c = commandOf b (get_or s (at + 1) 0) (get_or s (at + 2) 0) (get_or s (at + 3) 0) in
-    cond (leb (length s) at) (stepRefused cutShort at)
-    (cond (eqb (width_of b) 0) (stepRefused unknown at)
-    (cond (isOutOfTurn r.started b) (stepRefused outOfTurn at)
-    (cond (ltb (length s - at) (width_of b)) (stepRefused cutShort at)
-    (cond (isOutOfRange r.n r.m c) (stepRefused outOfRange at)
-    (Read c (movedPast r c (at + width_of b)))))))
+    let c = command_of b (get_or s (at + 1) 0) (get_or s (at + 2) 0) (get_or s (at + 3) 0) in
+    cond (leb (length s) at) (step_refused cut_short at)
+    (cond (eqb (width_of b) 0) (step_refused unknown at)
+    (cond (is_out_of_turn r.started b) (step_refused out_of_turn at)
+    (cond (ltb (length s - at) (width_of b)) (step_refused cut_short at)
+    (cond (is_out_of_range r.n r.m c) (step_refused out_of_range at)
+    (Read c (moved_past r c (at + width_of b)))))))

@@ -1,7 +1,7 @@
 // The reader of a unit sheet, by value: one call reads one command and gives the reader that stands behind it.
 ghost use Rattle.std.specs.Prelude.{◌≡◌, ◌+◌, ◌*◌, ◌^◌, [], ◌||◌};
-ghost use Rattle.reader.specs.Reader.{width_of, commandOf, isOutOfTurn, isOutOfRange, readerAt, movedPast, stepRefused, next_of};
-ghost use Rattle.sheet.specs.Limits.{isBeyond};
+ghost use Rattle.reader.specs.Reader.{width_of, command_of, is_out_of_turn, is_out_of_range, reader_at, moved_past, step_refused, next_of};
+ghost use Rattle.sheet.specs.Limits.{is_beyond};
 
 use crate::{Reader, Step};
 use base::Refusal;
@@ -33,7 +33,7 @@ fn word(low: u8, high: u8) -> u16
 
 // The command with a known first byte b and operands x, y, z, as many as it has.
 fn command(b: u8, x: u8, y: u8, z: u8) -> Command
-    ensures { result ≡ commandOf b x y z }
+    ensures { result ≡ command_of b x y z }
 {
     match b {
         0x00 => Command::End,
@@ -55,7 +55,7 @@ fn command(b: u8, x: u8, y: u8, z: u8) -> Command
 
 // A pattern or a value outside its range.
 fn row_out(n: u8, m: u8, p: u8, v: u8) -> bool
-    ensures { result ≡ isBeyond n p || isBeyond m v }
+    ensures { result ≡ is_beyond n p || is_beyond m v }
 {
     if beyond(n, p as u16) {
         true
@@ -66,7 +66,7 @@ fn row_out(n: u8, m: u8, p: u8, v: u8) -> bool
 
 // A pattern or a set outside its range.
 fn limit_out(n: u8, m: u8, p: u8, set: u16) -> bool
-    ensures { result ≡ isBeyond n p || isBeyond (2 ^ m) set }
+    ensures { result ≡ is_beyond n p || is_beyond (2 ^ m) set }
 {
     if beyond(n, p as u16) {
         true
@@ -76,7 +76,7 @@ fn limit_out(n: u8, m: u8, p: u8, set: u16) -> bool
 }
 
 fn refused(number: u8, place: usize) -> Step
-    ensures { result ≡ stepRefused number place }
+    ensures { result ≡ step_refused number place }
 {
     Step::Refused(Refusal::at(number, place))
 }
@@ -85,7 +85,7 @@ impl Reader {
     pub const LAST_KIND: u8 = 5;
 
     pub fn new() -> Self
-        ensures { result ≡ readerAt 0 [] }
+        ensures { result ≡ reader_at 0 [] }
     {
         Reader {
             at: 0,
@@ -97,7 +97,7 @@ impl Reader {
 
     // 01 anywhere but at the start, or another command there.
     fn out_of_turn(self, b: u8) -> bool
-        ensures { result ≡ isOutOfTurn self.started b }
+        ensures { result ≡ is_out_of_turn self.started b }
     {
         if b == 0x01 {
             self.started
@@ -108,7 +108,7 @@ impl Reader {
 
     // Some operand too small or too large.
     fn out_of_range(self, c: Command) -> bool
-        ensures { result ≡ isOutOfRange self.n self.m c }
+        ensures { result ≡ is_out_of_range self.n self.m c }
     {
         match c {
             Command::End => false,
@@ -123,7 +123,7 @@ impl Reader {
 
     // Past a command, with the sizes that it names.
     fn moved_past(mut self, c: Command, to: usize) -> Reader
-        ensures { result ≡ movedPast self c to }
+        ensures { result ≡ moved_past self c to }
     {
         self.at = to;
         if let Command::Sizes { n, m } = c {

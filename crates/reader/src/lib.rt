@@ -1,9 +1,9 @@
 // Reading unit sheets: from any bytes to the sheet that they hold, or one refusal with its place.
 ghost use Rattle.std.specs.Prelude.{◌≡◌, ◌≤◌};
-ghost use Rattle.sheet.specs.Limits.{maxInputs};
-ghost use Rattle.sheet.specs.Cases.{sheetReply};
-ghost use Rattle.reader.specs.Reading.{reading_of, replyTold, isEnd};
-ghost use Rattle.reader.specs.Inner.Turns.{doneWith, Follows, Turns};
+ghost use Rattle.sheet.specs.Limits.{max_inputs};
+ghost use Rattle.sheet.specs.Cases.{sheet_reply};
+ghost use Rattle.reader.specs.Reading.{reading_of, reply_told, is_end};
+ghost use Rattle.reader.specs.Inner.Turns.{done_with, Follows, Turns};
 
 use base::{Refusal, Verdict};
 use sheet::{Command, Reply, Sheet};
@@ -40,7 +40,7 @@ struct Turn {
 }
 
 fn is_end(c: Command) -> bool
-    ensures { result ≡ isEnd c }
+    ensures { result ≡ is_end c }
 {
     match c {
         Command::End => true,
@@ -59,7 +59,7 @@ fn is_end(c: Command) -> bool
 
 // The reading is over with this reply.
 fn done(reply: Reply) -> Turn
-    ensures { result ≡ doneWith reply }
+    ensures { result ≡ done_with reply }
 {
     let sheet = reply.sheet;
     let answer = reply.answer;
@@ -95,7 +95,7 @@ fn lead_on(reply: Reply, c: Command, next: Reader, len: usize) -> Turn
 
 // One command, read and judged.
 fn take_turn(sheet: Sheet, reader: Reader, s: &[u8]) -> Turn
-    requires { reader.n ≤ maxInputs }
+    requires { reader.n ≤ max_inputs }
     ensures { Turns s.now sheet reader result }
 {
     let at = reader.at;
@@ -108,7 +108,7 @@ fn take_turn(sheet: Sheet, reader: Reader, s: &[u8]) -> Turn
 
 // Reads a whole sheet. Each command has a byte of its own, so there are at most as many turns as bytes.
 pub fn read_sheet(s: &[u8]) -> Reply
-    ensures { sheetReply result ≡ replyTold (reading_of s.now) }
+    ensures { sheet_reply result ≡ reply_told (reading_of s.now) }
 {
     let mut sheet = Sheet::fresh(0, 0);
     let mut reader = Reader::new();

@@ -1,7 +1,7 @@
 -- Document 02, E6: two relations joined. A value is allowed on a pattern where both allow it there.
 use Rattle.std.specs.Prelude.{◌&&◌, get_or}
 use Rattle.std.specs.Int.Bits.{bit_and}
-use Rattle.sheet.specs.Limits.{maxPatterns}
+use Rattle.sheet.specs.Limits.{max_patterns}
 use Rattle.table.specs.Bits.{tabulate}
 use Rattle.relation.specs.declared.Relation.{Relation}
 use Rattle.relation.specs.Source.{Rel}
@@ -16,5 +16,5 @@ join_of r q =
     record {
       n = r.n;
       m = r.m;
-      sets = tabulate maxPatterns (λ p. bit_and (get_or r.sets p 0) (get_or q.sets p 0));
+      sets = tabulate max_patterns (λ p. bit_and (get_or r.sets p 0) (get_or q.sets p 0));
     }

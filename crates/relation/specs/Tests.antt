@@ -1,13 +1,13 @@
 -- The tests and operations on relations that document 01's "Search" names. Each decides or makes what source 001 defines (proofs/).
 use Rattle.std.specs.Prelude.{ℕ, ◌^◌, Bool, not, ◌&&◌, ◌||◌, List, eqb, get_or}
 use Rattle.base.specs.Lowest.{lowest}
-use Rattle.table.specs.Bits.{bit, all, any, sum, isOne}
+use Rattle.table.specs.Bits.{bit, all, any, sum, is_one}
 use Rattle.table.specs.Pick.{Proj}
 use Rattle.relation.specs.Source.{Rel, Tables, value}
 
 -- the relation of a list of sets, one number for each pattern, whose bit v says whether value v is allowed
-unfoldable pub ofSets : List ℕ → Rel
-ofSets sets p v = eqb (bit (get_or sets p 0) v) 1
+unfoldable pub of_sets : List ℕ → Rel
+of_sets sets p v = eqb (bit (get_or sets p 0) v) 1
 
 -- one part of a split: wire j is b on pattern p, and nothing else changes
 unfoldable pub keep : Rel → ℕ → ℕ → ℕ → Rel
@@ -26,12 +26,12 @@ abbrev pub projection : ℕ → Rel → ℕ → Proj
 projection m R j p b = occurs m (R p) j b
 
 -- wire j is open in S: both bits occur
-unfoldable pub isOpen : ℕ → (ℕ → Bool) → ℕ → Bool
-isOpen m S j = occurs m S j 0 && occurs m S j 1
+unfoldable pub is_open : ℕ → (ℕ → Bool) → ℕ → Bool
+is_open m S j = occurs m S j 0 && occurs m S j 1
 
 -- the first wire that is open in S; m where there is none
-unfoldable pub openWire : ℕ → (ℕ → Bool) → ℕ
-openWire m S = lowest m (isOpen m S)
+unfoldable pub open_wire : ℕ → (ℕ → Bool) → ℕ
+open_wire m S = lowest m (is_open m S)
 
 -- the tables' value is allowed on every pattern
 unfoldable pub compatible : ℕ → ℕ → Rel → Tables → Bool
@@ -42,9 +42,9 @@ unfoldable pub conflict : ℕ → ℕ → Rel → Tables → ℕ
 conflict n m R X = lowest (2 ^ n) (λ p. not (R p (value m X p)))
 
 -- the first pattern with no value; 2 ^ n where there is none
-unfoldable pub emptyPattern : ℕ → ℕ → Rel → ℕ
-emptyPattern n m R = lowest (2 ^ n) (λ p. not (any (2 ^ m) (R p)))
+unfoldable pub empty_pattern : ℕ → ℕ → Rel → ℕ
+empty_pattern n m R = lowest (2 ^ n) (λ p. not (any (2 ^ m) (R p)))
 
 -- how many pairs of pattern and wire are open
-unfoldable pub openPairs : ℕ → ℕ → Rel → ℕ
-openPairs n m R = sum (2 ^ n) (λ p. sum m (λ j. isOne (isOpen m (R p) j)))
+unfoldable pub open_pairs : ℕ → ℕ → Rel → ℕ
+open_pairs n m R = sum (2 ^ n) (λ p. sum m (λ j. is_one (is_open m (R p) j)))

@@ -1,8 +1,8 @@
 // Boolean relations: which wire values are allowed on each input pattern.
 ghost use Rattle.std.specs.Prelude.{◌≡◌, ◌≤◌};
-ghost use Rattle.base.specs.Cases.{verdictCase};
-ghost use Rattle.sheet.specs.Limits.{maxInputs};
-ghost use Rattle.relation.specs.Handed.{checkOf};
+ghost use Rattle.base.specs.Cases.{verdict_case};
+ghost use Rattle.sheet.specs.Limits.{max_inputs};
+ghost use Rattle.relation.specs.Handed.{check_of};
 ghost use Rattle.relation.specs.Joined.{join_of};
 
 use crate::handed::{empty_pattern, wide_pattern};
@@ -27,8 +27,8 @@ impl Relation {
     // The test of a relation that is handed over as numbers, with at most so many inputs (document 02, E5): sizes, then bits past the last value, then empty sets.
     // Inner: a search asks with the lines of its board, and forming the relation of a sheet with those of a sheet; neither is above the limit required.
     pub fn check(self, most: u8) -> Verdict
-        requires { most ≤ maxInputs }
-        ensures { verdictCase result ≡ checkOf most self }
+        requires { most ≤ max_inputs }
+        ensures { verdict_case result ≡ check_of most self }
     {
         let n = self.n;
         let m = self.m;

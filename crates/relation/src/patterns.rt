@@ -2,14 +2,14 @@
 // Inner functions: the search and the audit meet what they require, wires, bits and patterns that there are.
 ghost use Rattle.std.specs.Prelude.{◌≡◌, cond, get_or, ◌*◌, ◌<◌, ◌≤◌, eqb};
 ghost use Rattle.std.specs.Int.Bits.{bit_and};
-ghost use Rattle.sheet.specs.Limits.{maxInputs, maxWires, maxPatterns, maxValues};
+ghost use Rattle.sheet.specs.Limits.{max_inputs, max_wires, max_patterns, max_values};
 ghost use Rattle.table.specs.Bits.{bit, tabulate};
-ghost use Rattle.table.specs.Inner.Pairs.{narrowPatterns};
-ghost use Rattle.table.specs.Inner.Ranks.{narrowSpace};
+ghost use Rattle.table.specs.Inner.Pairs.{narrow_patterns};
+ghost use Rattle.table.specs.Inner.Ranks.{narrow_space};
 ghost use Rattle.table.specs.Inner.Wide.{sections};
 ghost use Rattle.relation.specs.Source.{value};
 ghost use Rattle.table.specs.Cells.{wires};
-ghost use Rattle.relation.specs.Inner.Side.{section, side_by_side, valueIn};
+ghost use Rattle.relation.specs.Inner.Side.{section, side_by_side, value_in};
 ghost use Rattle.relation.specs.Inner.Narrowed.{NonePast, agreed, cleared};
 
 use sheet::Sheet;
@@ -37,7 +37,7 @@ const VALUES: u64 = Sheet::MAX_VALUES as u64;
 
 // Bit p of a table.
 pub fn bit_of(table: u64, p: u8) -> u64
-    requires { p < maxPatterns }
+    requires { p < max_patterns }
     ensures { (result ≡ bit table p) × (result < 2) }
 {
     (table >> p) % 2
@@ -45,8 +45,8 @@ pub fn bit_of(table: u64, p: u8) -> u64
 
 // The value that the tables of all wires drive on pattern p.
 pub fn value_of(tables: [u64; Sheet::WIRES], p: u8) -> u8
-    requires { p < maxPatterns }
-    ensures { (result ≡ value maxWires (wires tables) p) × (result < maxValues) }
+    requires { p < max_patterns }
+    ensures { (result ≡ value max_wires (wires tables) p) × (result < max_values) }
 {
     (bit_of(tables[0], p)
         + 2 * bit_of(tables[1], p)
@@ -56,8 +56,8 @@ pub fn value_of(tables: [u64; Sheet::WIRES], p: u8) -> u8
 
 // Section q of a table.
 pub fn section_of(table: u64, q: u8) -> u64
-    requires { narrowPatterns * q < maxPatterns }
-    ensures { (result ≡ section table q) × (result < narrowSpace) }
+    requires { narrow_patterns * q < max_patterns }
+    ensures { (result ≡ section table q) × (result < narrow_space) }
 {
     (table >> (SECTION * q)) % SECTION_SPACE
 }
@@ -75,8 +75,8 @@ pub fn side_by_side(tables: &[u64; Sheet::WIRES], q: u8) -> u64
 
 // The value that tables side by side drive on the p-th pattern of their section: their bits there are moved together.
 pub fn value_in(side: u64, p: u8) -> u8
-    requires { p < narrowPatterns }
-    ensures { (result ≡ valueIn side p) × (result < maxValues) }
+    requires { p < narrow_patterns }
+    ensures { (result ≡ value_in side p) × (result < max_values) }
 {
     let bits = (side >> p) & LOWEST;
     let pairs = bits + (bits >> TOGETHER);
@@ -97,7 +97,7 @@ pub fn agreeing(
     j: u8,
     t: u64,
 ) -> [u16; Sheet::MAX_PATTERNS]
-    requires { (n ≤ maxInputs) × (j < maxWires) × NonePast n sets }
+    requires { (n ≤ max_inputs) × (j < max_wires) × NonePast n sets }
     ensures { result ≡ agreed sets j t }
 {
     let zero = column(j, 0);
@@ -113,7 +113,7 @@ pub fn agreeing(
 
 // The sets with those past the last pattern of n inputs emptied.
 pub fn clear_past(n: u8, sets: [u16; Sheet::MAX_PATTERNS]) -> [u16; Sheet::MAX_PATTERNS]
-    requires { n ≤ maxInputs }
+    requires { n ≤ max_inputs }
     ensures { result ≡ cleared n sets }
 {
     let mut next = [0; Sheet::MAX_PATTERNS];
@@ -129,7 +129,7 @@ pub fn in_both(
     first: [u16; Sheet::MAX_PATTERNS],
     second: [u16; Sheet::MAX_PATTERNS],
 ) -> [u16; Sheet::MAX_PATTERNS]
-    ensures { result ≡ tabulate maxPatterns (λ p. bit_and (get_or first p 0) (get_or second p 0)) }
+    ensures { result ≡ tabulate max_patterns (λ p. bit_and (get_or first p 0) (get_or second p 0)) }
 {
     let mut both = first;
     for at in 0..Sheet::MAX_PATTERNS {

@@ -1,10 +1,10 @@
 // What the program prints for a reply of the quote, of the joint quote, of the audit and of the clean copy, as bytes in a lent buffer. Each call puts its lines at the start of
 // the buffer and hands back the length of them. Bytes that find no room are dropped, and a length above the buffer's says so; what stands behind the lines is
 // left as it was.
-ghost use Rattle.base.specs.Cases.{writtenCase};
-ghost use Rattle.quote.specs.Cases.{quoteReply, auditedCase};
-ghost use Rattle.joined.specs.Cases.{jointReply};
-ghost use Rattle.report.specs.Lines.{Printed, longestReport, longestCopyLine, lines_of, jointLines, auditLine, copyLine};
+ghost use Rattle.base.specs.Cases.{written_case};
+ghost use Rattle.quote.specs.Cases.{quote_reply, audited_case};
+ghost use Rattle.joined.specs.Cases.{joint_reply};
+ghost use Rattle.report.specs.Lines.{Printed, longest_report, longest_copy_line, lines_of, joint_lines, audit_line, copy_line};
 
 use base::Written;
 use clean::LONGEST_COPY;
@@ -39,7 +39,7 @@ pub const LONGEST_COPY_LINE: usize = PAIR * LONGEST_COPY + 1;
 
 // The lines for a reply of the quote and the bytes that it wrote its stage to.
 pub fn report(q: Quoted, stage: &[u8], out: &mut [u8]) -> usize
-    ensures { Printed longestReport (lines_of (quoteReply q) stage.now) out.old out.new result }
+    ensures { Printed longest_report (lines_of (quote_reply q) stage.now) out.old out.new result }
 {
     let mark = q.mark;
     match mark {
@@ -51,7 +51,7 @@ pub fn report(q: Quoted, stage: &[u8], out: &mut [u8]) -> usize
 
 // The lines for a reply of the joint quote, as those of a quote; a refusal names the sheet (document 02, E6).
 pub fn report_joint(q: JointQuoted, stage: &[u8], out: &mut [u8]) -> usize
-    ensures { Printed longestReport (jointLines (jointReply q) stage.now) out.old out.new result }
+    ensures { Printed longest_report (joint_lines (joint_reply q) stage.now) out.old out.new result }
 {
     let mark = q.mark;
     match mark {
@@ -64,7 +64,7 @@ pub fn report_joint(q: JointQuoted, stage: &[u8], out: &mut [u8]) -> usize
 
 // The line for a reply of the audit.
 pub fn report_audit(audited: Audited, out: &mut [u8]) -> usize
-    ensures { Printed longestReport (auditLine (auditedCase audited)) out.old out.new result }
+    ensures { Printed longest_report (audit_line (audited_case audited)) out.old out.new result }
 {
     match audited {
         Audited::Fits(cells) => put_judged(out, b"fits ", cells),
@@ -76,7 +76,7 @@ pub fn report_audit(audited: Audited, out: &mut [u8]) -> usize
 
 // The line for a reply of the clean copy's call and the bytes that it wrote the copy to (document 02, E1).
 pub fn report_copy(written: Written, copy: &[u8], out: &mut [u8]) -> usize
-    ensures { Printed longestCopyLine (copyLine (writtenCase written) copy.now) out.old out.new result }
+    ensures { Printed longest_copy_line (copy_line (written_case written) copy.now) out.old out.new result }
 {
     match written {
         Written::Length(k) => put_shown_line(out, 0, copy, k, LONGEST_COPY),

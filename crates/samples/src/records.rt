@@ -2,10 +2,10 @@
 // Proved: each number, part and length is the one that the bytes say.
 // Inner functions: the main loop and the replies meet the bounds on places, which are there for the sums alone.
 ghost use Rattle.std.specs.Prelude.{◌≡◌, ◌+◌, ◌*◌, ◌≤◌};
-ghost use Rattle.sheet.specs.Limits.{maxPatterns, maxWires};
-ghost use Rattle.base.specs.Inner.Put.{lastPlace};
-ghost use Rattle.samples.specs.Inner.Records.{call_of, eightAt, fourAt, part_of, recordLength, setsAt, tablesAt, twoAt};
-ghost use Rattle.samples.specs.Inner.Lengths.{longestPart, longestRecord};
+ghost use Rattle.sheet.specs.Limits.{max_patterns, max_wires};
+ghost use Rattle.base.specs.Inner.Put.{last_place};
+ghost use Rattle.samples.specs.Inner.Records.{call_of, eight_at, four_at, part_of, record_length, sets_at, tables_at, two_at};
+ghost use Rattle.samples.specs.Inner.Lengths.{longest_part, longest_record};
 
 use base::byte_at;
 use sheet::Sheet;
@@ -17,8 +17,8 @@ const WRITE_RECORD: usize = 5 + 8 * Sheet::WIRES;
 
 // The number of two bytes at a place; bytes past the end count as 0.
 pub fn u16_at(s: &[u8], at: usize) -> u16
-    requires { at + 2 ≤ lastPlace }
-    ensures { result ≡ twoAt s.now at }
+    requires { at + 2 ≤ last_place }
+    ensures { result ≡ two_at s.now at }
 {
     let low = byte_at(s, at) as u16;
     let high = byte_at(s, at + 1) as u16;
@@ -27,32 +27,32 @@ pub fn u16_at(s: &[u8], at: usize) -> u16
 
 // The number of four bytes at a place.
 pub fn u32_at(s: &[u8], at: usize) -> u32
-    requires { at + 4 ≤ lastPlace }
-    ensures { result ≡ fourAt s.now at }
+    requires { at + 4 ≤ last_place }
+    ensures { result ≡ four_at s.now at }
 {
     (u16_at(s, at) as u32) + 65536 * (u16_at(s, at + 2) as u32)
 }
 
 // The number of eight bytes at a place.
 pub fn u64_at(s: &[u8], at: usize) -> u64
-    requires { at + 8 ≤ lastPlace }
-    ensures { result ≡ eightAt s.now at }
+    requires { at + 8 ≤ last_place }
+    ensures { result ≡ eight_at s.now at }
 {
     (u32_at(s, at) as u64) + 4294967296 * (u32_at(s, at + 4) as u64)
 }
 
 // A length of two bytes at a place.
 pub fn length_at(s: &[u8], at: usize) -> usize
-    requires { at + 2 ≤ lastPlace }
-    ensures { (result ≡ twoAt s.now at) × (result ≤ longestPart) }
+    requires { at + 2 ≤ last_place }
+    ensures { (result ≡ two_at s.now at) × (result ≤ longest_part) }
 {
     u16_at(s, at) as usize
 }
 
 // The sets of a relation from a place on.
 pub fn sets_at(s: &[u8], from: usize) -> [u16; Sheet::MAX_PATTERNS]
-    requires { from + 2 * maxPatterns ≤ lastPlace }
-    ensures { result ≡ setsAt s.now from }
+    requires { from + 2 * max_patterns ≤ last_place }
+    ensures { result ≡ sets_at s.now from }
 {
     let mut sets = [0u16; Sheet::MAX_PATTERNS];
     let mut i: usize = 0;
@@ -65,8 +65,8 @@ pub fn sets_at(s: &[u8], from: usize) -> [u16; Sheet::MAX_PATTERNS]
 
 // The tables of a stage from a place on.
 pub fn tables_at(s: &[u8], from: usize) -> [u64; Sheet::WIRES]
-    requires { from + 8 * maxWires ≤ lastPlace }
-    ensures { result ≡ tablesAt s.now from }
+    requires { from + 8 * max_wires ≤ last_place }
+    ensures { result ≡ tables_at s.now from }
 {
     [
         u64_at(s, from),
@@ -78,7 +78,7 @@ pub fn tables_at(s: &[u8], from: usize) -> [u64; Sheet::WIRES]
 
 // `count` bytes from a place on, or none where the bytes end before.
 pub fn part(s: &[u8], from: usize, count: usize) -> &[u8]
-    requires { from + count ≤ lastPlace }
+    requires { from + count ≤ last_place }
     ensures { result.now ≡ part_of s.now from count }
 {
     let end = from + count;
@@ -104,8 +104,8 @@ pub fn call_of(letter: u8) -> u8
 
 // The bytes of the record at a place. An unknown letter is a record by itself.
 pub fn record_length(s: &[u8], at: usize) -> usize
-    requires { at + longestRecord ≤ lastPlace }
-    ensures { (result ≡ recordLength s.now at) × (1 ≤ result) × (result ≤ longestRecord) }
+    requires { at + longest_record ≤ last_place }
+    ensures { (result ≡ record_length s.now at) × (1 ≤ result) × (result ≤ longest_record) }
 {
     let call = call_of(byte_at(s, at));
     match call {

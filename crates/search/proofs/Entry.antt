@@ -6,35 +6,35 @@ use mathlib.Core.List.{List}
 use native.Mathlib.Nat.{le_trans}
 use lib.Dec.{le→leb}
 use lib.ListN.{length, get_or}
-use Rattle.sheet.specs.Limits.{maxInputs, maxPatterns}
+use Rattle.sheet.specs.Limits.{max_inputs, max_patterns}
 use Rattle.base.specs.declared.Refusal.{Refusal}
 use Rattle.base.specs.declared.Verdict.{Verdict}
-use Rattle.base.specs.Cases.{accepting, acceptedCase, refusedCase, verdictCase}
+use Rattle.base.specs.Cases.{accepting, accepted_case, refused_case, verdict_case}
 use Rattle.relation.specs.declared.Relation.{Relation}
 use Rattle.relation.specs.Source.{Rel}
-use Rattle.relation.specs.Tests.{ofSets}
+use Rattle.relation.specs.Tests.{of_sets}
 use Rattle.relation.specs.Inner.Narrowed.{cleared}
-use Rattle.relation.specs.Handed.{relationOf, checkOf}
-use Rattle.relation.proofs.Fits.{Fit, check-well-formed}
-use Rattle.relation.proofs.Narrowing.{cleared-takes, cleared-narrow}
+use Rattle.relation.specs.Handed.{relation_of, check_of}
+use Rattle.relation.proofs.Fits.{Fit, check_well_formed}
+use Rattle.relation.proofs.Narrowing.{cleared_takes, cleared_narrow}
 use Rattle.branch_bound.specs.declared.State.{State}
-use Rattle.branch_bound.specs.Reply.{bestOutcome, stoppedOutcome, SearchReply, mark_of, answer_of, refusedWith, searchTested, searchOf}
-use Rattle.branch_bound.specs.Search.{Board, floor, start, searchPart, run}
+use Rattle.branch_bound.specs.Reply.{best_outcome, stopped_outcome, SearchReply, mark_of, answer_of, refused_with, search_tested, search_of}
+use Rattle.branch_bound.specs.Search.{Board, floor, start, search_part, run}
 use Rattle.nodes.specs.declared.BoardKind.{BoardKind}
-use Rattle.nodes.specs.Counts.{mostInputs}
-use Rattle.nodes.proofs.Counts.{most-inputs}
-use Rattle.branch_bound.specs.Boards.{boardOf}
+use Rattle.nodes.specs.Counts.{most_inputs}
+use Rattle.nodes.proofs.Counts.{most_inputs_lem}
+use Rattle.branch_bound.specs.Boards.{board_of}
 use Rattle.sheet.specs.Inner.Sized.{Sized}
-use Rattle.parts.specs.Inner.Boards.{lentKind, lentInputs, lentWires}
-use Rattle.parts.specs.Inner.Cells.{cellsSum}
+use Rattle.parts.specs.Inner.Boards.{lent_kind, lent_inputs, lent_wires}
+use Rattle.parts.specs.Inner.Cells.{cells_sum}
 use Rattle.parts.specs.Inner.Parts.{PartSets, Carried}
 use Rattle.parts.specs.Inner.Picks.{tables_of}
-use Rattle.parts.specs.Inner.States.{cellsPlace}
+use Rattle.parts.specs.Inner.States.{cells_place}
 use Rattle.visits.specs.Inner.Conflicts.{Settled, Seen, AllowedBelow}
-use Rattle.visits.specs.Inner.States.{state_of, budgetIn, Held, Ran}
+use Rattle.visits.specs.Inner.States.{state_of, budget_in, Held, Ran}
 use Rattle.halves.specs.Inner.Whole.{Whole}
-use Rattle.halves.proofs.Agreeing.{agrees-whole, settled-below}
-use Rattle.branches.proofs.Carrying.{carried-floor}
+use Rattle.halves.proofs.Agreeing.{agrees_whole, settled_below}
+use Rattle.branches.proofs.Carrying.{carried_floor}
 use Rattle.branches.proofs.Steps.{discards}
 
 -- the state at the beginning is the start of the search
@@ -44,87 +44,87 @@ unfolding start
 started b R t e et ec = e ∙ rw (et, ec)
 
 -- what the parts of the run make together
-pub ran : (b : Board) (R : Rel) {budget : ℕ} {before after : List ℕ} → Ran (searchPart b (budgetIn before) R) before after → budgetIn before ≡ budget → state_of before ≡ start b R
+pub ran : (b : Board) (R : Rel) {budget : ℕ} {before after : List ℕ} → Ran (search_part b (budget_in before) R) before after → budget_in before ≡ budget → state_of before ≡ start b R
     → state_of after ≡ run b budget R
 unfolding run
-ran b R r eb es = r.state ∙ ap₂ (λ x s. searchPart b x R s) eb es
+ran b R r eb es = r.state ∙ ap₂ (λ x s. search_part b x R s) eb es
 
 -- the whole relation as the first part
 module _ {kind : BoardKind} {n m : ℕ} {S ws l : List ℕ} {low c : ℕ} (h : Carried kind n m S ws l low c) where
   -- where its cells reach the best it is discarded, and the state stays
-  pub not-visited : {f : ℕ} → Held l → f ≡ cellsSum c → get_or l cellsPlace 0 ≤ f → Ran (searchPart (boardOf kind n m) (budgetIn l) (ofSets S)) l l
+  pub not_visited : {f : ℕ} → Held l → f ≡ cells_sum c → get_or l cells_place 0 ≤ f → Ran (search_part (board_of kind n m) (budget_in l) (of_sets S)) l l
   unfolding state_of
-  not-visited {f} held ef le =
+  not_visited {f} held ef le =
       record {
         long = held.long;
-        state = discards kind h.sized h.sets (budgetIn l) (state_of l) (carried-floor h ef) (le→leb (get_or l cellsPlace 0) f le);
+        state = discards kind h.sized h.sets (budget_in l) (state_of l) (carried_floor h ef) (le→leb (get_or l cells_place 0) f le);
         budget = refl;
         whole = λ i _. refl;
       }
 
   -- where it is visited, its picks are allowed below the first conflict with the whole, which it is itself
   module _ (wide : Bool) (seen : Seen wide n S l) where
-    pub whole-itself : Whole wide n S l
-    whole-itself = record { sets = S; seen = seen; agrees = agrees-whole n S }
+    pub whole_itself : Whole wide n S l
+    whole_itself = record { sets = S; seen = seen; agrees = agrees_whole n S }
 
-    pub from-there : {from : ℕ} → AllowedBelow wide n low l from → from ≤ 2 ^ n
-    from-there allowed = (allowed S (tables_of kind n S) seen h.tables).0
+    pub from_there : {from : ℕ} → AllowedBelow wide n low l from → from ≤ 2 ^ n
+    from_there allowed = (allowed S (tables_of kind n S) seen h.tables).0
 
     pub from_settled : {from : ℕ} → AllowedBelow wide n low l from → Settled m S (tables_of kind n S) from
-    from_settled allowed = settled-below kind h.sized h.sets S (agrees-whole n S) (allowed S (tables_of kind n S) seen h.tables)
+    from_settled allowed = settled_below kind h.sized h.sets S (agrees_whole n S) (allowed S (tables_of kind n S) seen h.tables)
 
-pub stopped-answer : (b : Board) (R : Rel) (s t : State) (f : ℕ) → s ≡ t → s.stopped ≡ true → f ≡ floor b R
-    → ◌≡◌ {A = SearchReply} (record { tables = s.tables; cells = s.cells; floor = f; visits = s.visits; mark = accepting stoppedOutcome 0 })
+pub stopped_answer : (b : Board) (R : Rel) (s t : State) (f : ℕ) → s ≡ t → s.stopped ≡ true → f ≡ floor b R
+    → ◌≡◌ {A = SearchReply} (record { tables = s.tables; cells = s.cells; floor = f; visits = s.visits; mark = accepting stopped_outcome 0 })
     (answer_of b R t)
 unfolding answer_of mark_of
-stopped-answer b R s t f e h ef = rw (← e, h, ef)
+stopped_answer b R s t f e h ef = rw (← e, h, ef)
 
-pub best-answer : (b : Board) (R : Rel) (s t : State) → s ≡ t → s.stopped ≡ false
-    → ◌≡◌ {A = SearchReply} (record { tables = s.tables; cells = s.cells; floor = s.cells; visits = s.visits; mark = accepting bestOutcome 0 })
+pub best_answer : (b : Board) (R : Rel) (s t : State) → s ≡ t → s.stopped ≡ false
+    → ◌≡◌ {A = SearchReply} (record { tables = s.tables; cells = s.cells; floor = s.cells; visits = s.visits; mark = accepting best_outcome 0 })
     (answer_of b R t)
 unfolding answer_of mark_of
-best-answer b R s t e h = rw (← e, h)
+best_answer b R s t e h = rw (← e, h)
 
 -- what the code's test tells of a relation
-pub tested : (kind : BoardKind) (r : Relation) {most : ℕ} {v w : Verdict} → most ≡ mostInputs kind → verdictCase v ≡ checkOf most r → v ≡ w → checkOf (mostInputs kind) r ≡ verdictCase w
-tested kind r em ev ew = ap (λ x. checkOf x r) (sym em) ∙ sym ev ∙ ap verdictCase ew
+pub tested : (kind : BoardKind) (r : Relation) {most : ℕ} {v w : Verdict} → most ≡ most_inputs kind → verdict_case v ≡ check_of most r → v ≡ w → check_of (most_inputs kind) r ≡ verdict_case w
+tested kind r em ev ew = ap (λ x. check_of x r) (sym em) ∙ sym ev ∙ ap verdict_case ew
 
 -- a relation that passes its test, and its sets as the code holds them
-module _ (kind : BoardKind) (r : Relation) (long : length r.sets ≡ maxPatterns) (passes : checkOf (mostInputs kind) r ≡ acceptedCase) where
-  fit : Fit (mostInputs kind) r
-  fit = check-well-formed (mostInputs kind) r passes
+module _ (kind : BoardKind) (r : Relation) (long : length r.sets ≡ max_patterns) (passes : check_of (most_inputs kind) r ≡ accepted_case) where
+  fit : Fit (most_inputs kind) r
+  fit = check_well_formed (most_inputs kind) r passes
 
-  pub sizes-held : Sized (mostInputs kind) r.n r.m
-  sizes-held = fit.sizes
+  pub sizes_held : Sized (most_inputs kind) r.n r.m
+  sizes_held = fit.sizes
 
-  pub few-held : r.n ≤ maxInputs
-  few-held = le_trans sizes-held.n-most (most-inputs kind)
+  pub few_held : r.n ≤ max_inputs
+  few_held = le_trans sizes_held.n_most (most_inputs_lem kind)
 
-  pub as-held : ofSets (cleared r.n r.sets) ≡ relationOf r
-  unfolding relationOf
-  as-held = cleared-takes r.n r.sets few-held long
+  pub as_held : of_sets (cleared r.n r.sets) ≡ relation_of r
+  unfolding relation_of
+  as_held = cleared_takes r.n r.sets few_held long
 
-  pub sets-held : PartSets r.n r.m (cleared r.n r.sets)
-  sets-held =
-      let w = cleared-narrow r.n r.m r.sets long few-held fit.small in
-      record { long = w.long; small = w.small; past = w.past; defined = rw as-held fit.well-defined }
+  pub sets_held : PartSets r.n r.m (cleared r.n r.sets)
+  sets_held =
+      let w = cleared_narrow r.n r.m r.sets long few_held fit.small in
+      record { long = w.long; small = w.small; past = w.past; defined = rw as_held fit.well_defined }
 
   pub answered : (budget : ℕ)
-      → searchOf kind r budget ≡ answer_of (boardOf kind r.n r.m) (relationOf r) (run (boardOf kind r.n r.m) budget (relationOf r))
-  unfolding searchOf searchTested
+      → search_of kind r budget ≡ answer_of (board_of kind r.n r.m) (relation_of r) (run (board_of kind r.n r.m) budget (relation_of r))
+  unfolding search_of search_tested
   answered budget = rw passes
 
-pub turned-away : (kind : BoardKind) (r : Relation) (budget : ℕ) (f : Refusal) → checkOf (mostInputs kind) r ≡ refusedCase f → searchOf kind r budget ≡ refusedWith (refusedCase f)
-unfolding searchOf searchTested
-turned-away kind r budget f e = rw e
+pub turned_away_lem : (kind : BoardKind) (r : Relation) (budget : ℕ) (f : Refusal) → check_of (most_inputs kind) r ≡ refused_case f → search_of kind r budget ≡ refused_with (refused_case f)
+unfolding search_of search_tested
+turned_away_lem kind r budget f e = rw e
 
 -- the board and the sizes that the lent table tells, in place of these themselves
-module _ (e : List ℕ) {kind : BoardKind} {n m : ℕ} (ek : lentKind e ≡ kind) (en : lentInputs e ≡ n) (em : lentWires e ≡ m) where
-  pub entered : {sets : List ℕ} → Sized (mostInputs kind) n m → PartSets n m sets
-      → Sized (mostInputs (lentKind e)) (lentInputs e) (lentWires e) × PartSets (lentInputs e) (lentWires e) sets
+module _ (e : List ℕ) {kind : BoardKind} {n m : ℕ} (ek : lent_kind e ≡ kind) (en : lent_inputs e ≡ n) (em : lent_wires e ≡ m) where
+  pub entered : {sets : List ℕ} → Sized (most_inputs kind) n m → PartSets n m sets
+      → Sized (most_inputs (lent_kind e)) (lent_inputs e) (lent_wires e) × PartSets (lent_inputs e) (lent_wires e) sets
   entered z s = rw (ek, en, em) (z, s)
 
-  pub answer-on : (budget : ℕ) (R : Rel) {r : SearchReply}
-      → r ≡ answer_of (boardOf (lentKind e) (lentInputs e) (lentWires e)) R (run (boardOf (lentKind e) (lentInputs e) (lentWires e)) budget R)
-      → r ≡ answer_of (boardOf kind n m) R (run (boardOf kind n m) budget R)
-  answer-on budget R h = h ∙ ap (λ b. answer_of b R (run b budget R)) (ap₂ (λ k x. boardOf k x (lentWires e)) ek en ∙ ap (boardOf kind n) em)
+  pub answer_on : (budget : ℕ) (R : Rel) {r : SearchReply}
+      → r ≡ answer_of (board_of (lent_kind e) (lent_inputs e) (lent_wires e)) R (run (board_of (lent_kind e) (lent_inputs e) (lent_wires e)) budget R)
+      → r ≡ answer_of (board_of kind n m) R (run (board_of kind n m) budget R)
+  answer_on budget R h = h ∙ ap (λ b. answer_of b R (run b budget R)) (ap₂ (λ k x. board_of k x (lent_wires e)) ek en ∙ ap (board_of kind n) em)

@@ -9,140 +9,140 @@ use native.Mathlib.Nat.{lt_of_lt_of_le}
 use lib.Dec.{T, nleb→lt}
 use lib.ListN.{length, get_or}
 use lib.Pow.{pow_mono}
-use Rattle.base.proofs.Tests.{decide, test-yes, test-no, eqb-not}
-use Rattle.sheet.specs.Limits.{maxInputs, maxWires}
+use Rattle.base.proofs.Tests.{decide, test_yes, test_no, eqb_not}
+use Rattle.sheet.specs.Limits.{max_inputs, max_wires}
 use Rattle.sheet.specs.Inner.Sized.{Sized}
 use Rattle.table.specs.Bits.{sum}
-use Rattle.table.proofs.Bits.{sum-cong, sum_bound}
-use Rattle.table.specs.Inner.Ranks.{narrowSpace}
-use Rattle.table.specs.Inner.Pairs.{narrowInputs, narrowPatterns}
+use Rattle.table.proofs.Bits.{sum_cong, sum_bound}
+use Rattle.table.specs.Inner.Ranks.{narrow_space}
+use Rattle.table.specs.Inner.Pairs.{narrow_inputs, narrow_patterns}
 use Rattle.table.specs.Inner.Wide.{sections}
 use Rattle.nodes.specs.declared.BoardKind.{BoardKind}
-use Rattle.nodes.specs.Counts.{mostInputs, count_of}
+use Rattle.nodes.specs.Counts.{most_inputs, count_of}
 use Rattle.relation.specs.Inner.Side.{section, side_by_side}
-use Rattle.lanes.specs.Inner.Lanes.{eachLane, lane_of, lanes_of, LanesBelow}
-use Rattle.lanes.proofs.Lanes.{lanes-cong, side-lanes}
-use Rattle.lanes.proofs.Empty.{each_lane}
-use Rattle.parts.specs.Inner.Boards.{wideMark, boardIn, lentKind, lentInputs, lentWide, Lent}
-use Rattle.parts.specs.Inner.Words.{pairsOf, Covers}
-use Rattle.parts.specs.Inner.Masks.{maskCount, Halved, words_of}
-use Rattle.parts.specs.Inner.Cells.{cellSpace, byteIn, packed, cellsSum}
-use Rattle.parts.specs.Inner.Picks.{pickBetween, pickOn, cellsOn, table_of, tables_of, cells_of}
+use Rattle.lanes.specs.Inner.Lanes.{each_lane, lane_of, lanes_of, LanesBelow}
+use Rattle.lanes.proofs.Lanes.{lanes_cong, side_lanes}
+use Rattle.lanes.proofs.Empty.{each_lane_lem}
+use Rattle.parts.specs.Inner.Boards.{wide_mark, board_in, lent_kind, lent_inputs, lent_wide, Lent}
+use Rattle.parts.specs.Inner.Words.{pairs_of, Covers}
+use Rattle.parts.specs.Inner.Masks.{mask_count, Halved, words_of}
+use Rattle.parts.specs.Inner.Cells.{cell_space, byte_in, packed, cells_sum}
+use Rattle.parts.specs.Inner.Picks.{pick_between, pick_on, cells_on, table_of, tables_of, cells_of}
 use Rattle.parts.specs.Inner.Parts.{PartSets, Carried}
-use Rattle.parts.specs.Inner.States.{cellsPlace, restPlace, sideAt}
-use Rattle.parts.proofs.Keeping.{few, table_at, table-lt, table-few, pairs-cover}
-use Rattle.parts.proofs.LentPicks.{narrow-inputs}
-use Rattle.parts.proofs.WordMasks.{pick-told, pairs-tell}
+use Rattle.parts.specs.Inner.States.{cells_place, rest_place, side_at}
+use Rattle.parts.proofs.Keeping.{few, table_at, table_lt, table_few, pairs_cover}
+use Rattle.parts.proofs.LentPicks.{narrow_inputs_lem}
+use Rattle.parts.proofs.WordMasks.{pick_told, pairs_tell}
 use Rattle.halves.specs.declared.Picks.{Picks}
-use Rattle.halves.specs.Inner.Remade.{marked, FewCells, cellsAgain, sideAgain, Remade}
-use Rattle.halves.proofs.Making.{past-section}
+use Rattle.halves.specs.Inner.Remade.{marked, FewCells, cells_again, side_again, Remade}
+use Rattle.halves.proofs.Making.{past_section}
 
 -- every wire is marked
-pub all-below : LanesBelow 2 eachLane
-all-below j l = omega (arith, each_lane j l)
+pub all_below : LanesBelow 2 each_lane
+all_below j l = omega (arith, each_lane_lem j l)
 
 -- no wire has cells before
-no_cells : (j : ℕ) → j < maxWires → byteIn 0 j ≡ 0
-unfolding byteIn
+no_cells : (j : ℕ) → j < max_wires → byte_in 0 j ≡ 0
+unfolding byte_in
 no_cells zero l = refl
 no_cells (suc zero) l = refl
 no_cells (suc (suc zero)) l = refl
 no_cells (suc (suc (suc zero))) l = refl
 no_cells (suc (suc (suc (suc j)))) l = absurd (omega arith)
 
-pub none-few : FewCells 0
-none-few = (omega arith, λ j l. omega (arith, no_cells j l))
+pub none_few : FewCells 0
+none_few = (omega arith, λ j l. omega (arith, no_cells j l))
 
-pub none-sum : cellsSum 0 ≡ 0
-unfolding cellsSum byteIn sum
-none-sum = refl
+pub none_sum : cells_sum 0 ≡ 0
+unfolding cells_sum byte_in sum
+none_sum = refl
 
 -- the tables of a section past the first stand in the state
-pub side-past : (low : ℕ) (l : List ℕ) (q : ℕ) → 1 ≤ q → sideAt low l q ≡ get_or l (restPlace q) 0
-unfolding sideAt
-side-past low l q lq = eqb-not q 0 low (get_or l (restPlace q) 0) (λ d. omega arith)
+pub side_past : (low : ℕ) (l : List ℕ) (q : ℕ) → 1 ≤ q → side_at low l q ≡ get_or l (rest_place q) 0
+unfolding side_at
+side_past low l q lq = eqb_not q 0 low (get_or l (rest_place q) 0) (λ d. omega arith)
 
-module _ {e : List ℕ} (lent : Lent e) {m : ℕ} (sz : Sized (mostInputs (lentKind e)) (lentInputs e) m) {S : List ℕ} (ok : PartSets (lentInputs e) m S) (masks : List ℕ)
-    (ew : words_of masks ≡ pairsOf S) where
+module _ {e : List ℕ} (lent : Lent e) {m : ℕ} (sz : Sized (most_inputs (lent_kind e)) (lent_inputs e) m) {S : List ℕ} (ok : PartSets (lent_inputs e) m S) (masks : List ℕ)
+    (ew : words_of masks ≡ pairs_of S) where
   abbrev kind : BoardKind
-  kind = lentKind e
+  kind = lent_kind e
 
   abbrev n : ℕ
-  n = lentInputs e
+  n = lent_inputs e
 
   abbrev words : List ℕ
   words = words_of masks
 
-  pub whole-cover : (j : ℕ) → j < maxWires → Covers (lentInputs e) (words_of masks) j
-  whole-cover j l = rw ew (pairs-cover kind sz ok j l)
+  pub whole_cover : (j : ℕ) → j < max_wires → Covers (lent_inputs e) (words_of masks) j
+  whole_cover j l = rw ew (pairs_cover kind sz ok j l)
 
-  new-pick : (i : ℕ) → i < maxWires → pickOn e words i ≡ table_of kind n S i
-  new-pick i li = ap (λ x. pickBetween kind n x i) ew ∙ pick-told (pairsOf S) S i (pairs-tell S i li) kind n
+  new_pick : (i : ℕ) → i < max_wires → pick_on e words i ≡ table_of kind n S i
+  new_pick i li = ap (λ x. pick_between kind n x i) ew ∙ pick_told (pairs_of S) S i (pairs_tell S i li) kind n
 
-  chosen-first : (i : ℕ) → i < maxWires → (x y : ℕ) → cond (marked eachLane i) x y ≡ x
-  chosen-first i li x y = rw (each_lane i li)
+  chosen_first : (i : ℕ) → i < max_wires → (x y : ℕ) → cond (marked each_lane i) x y ≡ x
+  chosen_first i li x y = rw (each_lane_lem i li)
 
-  again-cells : (i : ℕ) → i < maxWires → cellsAgain e words eachLane 0 i ≡ count_of kind n (table_of kind n S i)
-  again-cells i li = chosen-first i li (cellsOn e words i) (byteIn 0 i) ∙ ap (count_of kind n) (new-pick i li)
+  again_cells : (i : ℕ) → i < max_wires → cells_again e words each_lane 0 i ≡ count_of kind n (table_of kind n S i)
+  again_cells i li = chosen_first i li (cells_on e words i) (byte_in 0 i) ∙ ap (count_of kind n) (new_pick i li)
 
-  again-side : (side q : ℕ) → lanes_of (sideAgain e words eachLane side q) ≡ side_by_side (tables_of kind n S) q
-  again-side side q =
-      lanes-cong (sideAgain e words eachLane side q) (λ i. section (get_or (tables_of kind n S) i 0) q)
+  again_side : (side q : ℕ) → lanes_of (side_again e words each_lane side q) ≡ side_by_side (tables_of kind n S) q
+  again_side side q =
+      lanes_cong (side_again e words each_lane side q) (λ i. section (get_or (tables_of kind n S) i 0) q)
       (λ i li.
-      chosen-first i li (section (pickOn e words i) q) (lane_of side i) ∙ ap (λ t. section t q) (new-pick i li ∙ sym (table_at kind n S i li)))
-      ∙ sym (side-lanes (tables_of kind n S) q)
+      chosen_first i li (section (pick_on e words i) q) (lane_of side i) ∙ ap (λ t. section t q) (new_pick i li ∙ sym (table_at kind n S i li)))
+      ∙ sym (side_lanes (tables_of kind n S) q)
 
-  all-cells : packed (cellsAgain e words eachLane 0) ≡ cells_of kind n S
+  all_cells : packed (cells_again e words each_lane 0) ≡ cells_of kind n S
   unfolding packed cells_of
-  all-cells =
-      sum-cong maxWires (λ i. cellsAgain e words eachLane 0 i * cellSpace ^ i) (λ i. count_of kind n (table_of kind n S i) * cellSpace ^ i)
-      (λ i li. ap (λ x. x * cellSpace ^ i) (again-cells i li))
+  all_cells =
+      sum_cong max_wires (λ i. cells_again e words each_lane 0 i * cell_space ^ i) (λ i. count_of kind n (table_of kind n S i) * cell_space ^ i)
+      (λ i li. ap (λ x. x * cell_space ^ i) (again_cells i li))
 
   -- on a board that is not wide no table reaches past the first section
-  narrow-side : T (not (lentWide e)) → (q : ℕ) → 1 ≤ q → side_by_side (tables_of kind n S) q ≡ 0
+  narrow_side : T (not (lent_wide e)) → (q : ℕ) → 1 ≤ q → side_by_side (tables_of kind n S) q ≡ 0
   unfolding lanes_of sum
-  narrow-side narrow q lq =
-      let f : n ≤ narrowInputs = narrow-inputs e lent (boardIn e) refl (nleb→lt wideMark (boardIn e) narrow) in
-      let small : (i : ℕ) → table_of kind n S i < narrowSpace =
-      λ i. lt_of_lt_of_le (table-lt kind sz ok i) (pow_mono {i = 2 ^ n} {j = narrowPatterns} (pow_mono {i = n} {j = narrowInputs} f)) in
-      side-lanes (tables_of kind n S) q
-      ∙ lanes-cong (λ i. section (get_or (tables_of kind n S) i 0) q) (λ _. 0)
-      (λ i li. ap (λ t. section t q) (table_at kind n S i li) ∙ past-section (table_of kind n S i) q (small i) lq)
+  narrow_side narrow q lq =
+      let f : n ≤ narrow_inputs = narrow_inputs_lem e lent (board_in e) refl (nleb→lt wide_mark (board_in e) narrow) in
+      let small : (i : ℕ) → table_of kind n S i < narrow_space =
+      λ i. lt_of_lt_of_le (table_lt kind sz ok i) (pow_mono {i = 2 ^ n} {j = narrow_patterns} (pow_mono {i = n} {j = narrow_inputs} f)) in
+      side_lanes (tables_of kind n S) q
+      ∙ lanes_cong (λ i. section (get_or (tables_of kind n S) i 0) q) (λ _. 0)
+      (λ i li. ap (λ t. section t q) (table_at kind n S i li) ∙ past_section (table_of kind n S i) q (small i) lq)
 
-  module _ {before after : List ℕ} {r : Picks} (none : (q : ℕ) → 1 ≤ q → q < sections → get_or before (restPlace q) 0 ≡ 0) (space : get_or before cellsPlace 0 ≡ cellSpace)
-      (made : Remade e (words_of masks) eachLane 0 0 before after r) where
+  module _ {before after : List ℕ} {r : Picks} (none : (q : ℕ) → 1 ≤ q → q < sections → get_or before (rest_place q) 0 ≡ 0) (space : get_or before cells_place 0 ≡ cell_space)
+      (made : Remade e (words_of masks) each_lane 0 0 before after r) where
     -- the cells of all wires together are below the space of a byte, so that every pick is made
-    all-few : sum maxWires (cellsAgain e words eachLane 0) ≤ maxWires * (2 ^ maxInputs - 1)
-    all-few =
-        sum_bound maxWires (2 ^ maxInputs - 1) (cellsAgain e words eachLane 0)
-        (λ j l. omega (arith, again-cells j l, table-few kind n (few kind sz) S j))
+    all_few : sum max_wires (cells_again e words each_lane 0) ≤ max_wires * (2 ^ max_inputs - 1)
+    all_few =
+        sum_bound max_wires (2 ^ max_inputs - 1) (cells_again e words each_lane 0)
+        (λ j l. omega (arith, again_cells j l, table_few kind n (few kind sz) S j))
 
-    is-kept : T r.kept
-    is-kept =
-        ⊎_elim (λ t. t) (λ t. absurd (omega (arith, made.over t (λ j l. omega (arith, no_cells j l)), space, all-few))) (decide r.kept)
+    is_kept : T r.kept
+    is_kept =
+        ⊎_elim (λ t. t) (λ t. absurd (omega (arith, made.over t (λ j l. omega (arith, no_cells j l)), space, all_few))) (decide r.kept)
 
-    rest-side : (q : ℕ) → 1 ≤ q → q < sections → get_or after (restPlace q) 0 ≡ side_by_side (tables_of kind n S) q
-    rest-side q l1 lq =
-        let x = get_or before (restPlace q) 0 in
-        made.rest is-kept q l1 lq
+    rest_side : (q : ℕ) → 1 ≤ q → q < sections → get_or after (rest_place q) 0 ≡ side_by_side (tables_of kind n S) q
+    rest_side q l1 lq =
+        let x = get_or before (rest_place q) 0 in
+        made.rest is_kept q l1 lq
         ∙ ⊎_elim
-        (λ t. ap (λ y. cond y (lanes_of (sideAgain e words eachLane x q)) x) (test-yes (lentWide e) t) ∙ again-side x q)
-        (λ t. ap (λ y. cond y (lanes_of (sideAgain e words eachLane x q)) x) (test-no (lentWide e) t) ∙ none q l1 lq ∙ sym (narrow-side t q l1))
-        (decide (lentWide e))
+        (λ t. ap (λ y. cond y (lanes_of (side_again e words each_lane x q)) x) (test_yes (lent_wide e) t) ∙ again_side x q)
+        (λ t. ap (λ y. cond y (lanes_of (side_again e words each_lane x q)) x) (test_no (lent_wide e) t) ∙ none q l1 lq ∙ sym (narrow_side t q l1))
+        (decide (lent_wide e))
 
-    whole-tables : (q : ℕ) → q < sections → sideAt r.low after q ≡ side_by_side (tables_of kind n S) q
-    unfolding sideAt
-    whole-tables zero lq = made.low is-kept ∙ again-side 0 0
-    whole-tables (suc q) lq = side-past r.low after (suc q) (omega arith) ∙ rest-side (suc q) (omega arith) lq
+    whole_tables : (q : ℕ) → q < sections → side_at r.low after q ≡ side_by_side (tables_of kind n S) q
+    unfolding side_at
+    whole_tables zero lq = made.low is_kept ∙ again_side 0 0
+    whole_tables (suc q) lq = side_past r.low after (suc q) (omega arith) ∙ rest_side (suc q) (omega arith) lq
 
-    pub whole-carried : length masks ≡ maskCount → Halved masks → Carried (lentKind e) (lentInputs e) m S masks after r.low r.cells
-    whole-carried long halved =
+    pub whole_carried : length masks ≡ mask_count → Halved masks → Carried (lent_kind e) (lent_inputs e) m S masks after r.low r.cells
+    whole_carried long halved =
         record {
           sized = sz;
           sets = ok;
           long = long;
           halved = halved;
           masks = ew;
-          tables = whole-tables;
-          cells = (made.counts is-kept).0 ∙ all-cells;
+          tables = whole_tables;
+          cells = (made.counts is_kept).0 ∙ all_cells;
         }

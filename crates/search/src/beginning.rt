@@ -1,19 +1,19 @@
 // What the search begins with: the picks of the whole relation, the first answer as the best so far, and the relation by value.
 // Inner functions: `search_sets` meets what they require.
 ghost use Rattle.std.specs.Prelude.{◌≡◌, false, cond, ℕ, ◌<◌, ◌≤◌, List, length, get_or};
-ghost use Rattle.sheet.specs.Limits.{maxPatterns};
+ghost use Rattle.sheet.specs.Limits.{max_patterns};
 ghost use Rattle.sheet.specs.Inner.Sized.{Sized};
-ghost use Rattle.table.specs.Inner.Pairs.{narrowPatterns};
+ghost use Rattle.table.specs.Inner.Pairs.{narrow_patterns};
 ghost use Rattle.table.specs.Inner.Wide.{sections};
-ghost use Rattle.nodes.specs.Counts.{mostInputs};
-ghost use Rattle.relation.specs.Tests.{ofSets};
+ghost use Rattle.nodes.specs.Counts.{most_inputs};
+ghost use Rattle.relation.specs.Tests.{of_sets};
 ghost use Rattle.branch_bound.specs.Search.{start};
-ghost use Rattle.branch_bound.specs.Boards.{boardOf};
-ghost use Rattle.parts.specs.Inner.Boards.{lentKind, lentInputs, lentWires, lentWide, Lent};
+ghost use Rattle.branch_bound.specs.Boards.{board_of};
+ghost use Rattle.parts.specs.Inner.Boards.{lent_kind, lent_inputs, lent_wires, lent_wide, Lent};
 ghost use Rattle.parts.specs.Inner.Parts.{PartSets, Carried};
 ghost use Rattle.parts.specs.Inner.Picks.{tables_of, cells_of};
-ghost use Rattle.parts.specs.Inner.States.{restPlace, stateLength, AtHand};
-ghost use Rattle.visits.specs.Inner.States.{state_of, budgetIn, Held, SameRest, rest_of};
+ghost use Rattle.parts.specs.Inner.States.{rest_place, state_length, AtHand};
+ghost use Rattle.visits.specs.Inner.States.{state_of, budget_in, Held, SameRest, rest_of};
 ghost use Rattle.visits.specs.Inner.Conflicts.{Seen};
 
 use crate::quick_solver::quick;
@@ -48,9 +48,9 @@ pub fn whole_part(
     sets: &[u16; Sheet::MAX_PATTERNS],
     state: &mut [u64; STATE],
 ) -> WholePart
-    requires { Lent e.now × Sized (mostInputs (lentKind e.now)) (lentInputs e.now) (lentWires e.now) × PartSets (lentInputs e.now) (lentWires e.now) sets.now
+    requires { Lent e.now × Sized (most_inputs (lent_kind e.now)) (lent_inputs e.now) (lent_wires e.now) × PartSets (lent_inputs e.now) (lent_wires e.now) sets.now
         × (length state.old ≡ stateLength) × ((q : ℕ) → 1 ≤ q → q < sections → get_or state.old (restPlace q) 0 ≡ 0) }
-    ensures { Carried (lentKind e.now) (lentInputs e.now) (lentWires e.now) sets.now result.masks state.new result.low result.cells
+    ensures { Carried (lent_kind e.now) (lent_inputs e.now) (lent_wires e.now) sets.now result.masks state.new result.low result.cells
         × (length state.new ≡ stateLength) }
 {
     state[CELLS] = NO_BEST;
@@ -71,8 +71,8 @@ fn keep_tables(
     rest: [u64; RESTS],
     state: &mut [u64; STATE],
 )
-    requires { length state.old ≡ stateLength }
-    ensures { ((l : List ℕ) → rest ≡ rest_of l → SameRest l state.new) × (length state.new ≡ stateLength)
+    requires { length state.old ≡ state_length }
+    ensures { ((l : List ℕ) → rest ≡ rest_of l → SameRest l state.new) × (length state.new ≡ state_length)
         × ((state_of state.new).tables ≡ tables) × ((state_of state.new).cells ≡ cells) }
 {
     let sides = [
@@ -93,10 +93,10 @@ pub fn keep_first(
     cells: u64,
     state: &mut [u64; STATE],
 )
-    requires { Lent e.now × Sized (mostInputs (lentKind e.now)) (lentInputs e.now) (lentWires e.now) × PartSets (lentInputs e.now) (lentWires e.now) sets
+    requires { Lent e.now × Sized (most_inputs (lent_kind e.now)) (lent_inputs e.now) (lent_wires e.now) × PartSets (lent_inputs e.now) (lent_wires e.now) sets
         × AtHand low state.old (tables_of (lentKind e.now) (lentInputs e.now) sets) × (cells ≡ cells_of (lentKind e.now) (lentInputs e.now) sets)
         × (length state.old ≡ stateLength) }
-    ensures { SameRest state.old state.new × (length state.new ≡ stateLength)
+    ensures { SameRest state.old state.new × (length state.new ≡ state_length)
         × ((state_of state.new).tables ≡ (start (boardOf (lentKind e.now) (lentInputs e.now) (lentWires e.now)) (ofSets sets)).tables)
         × ((state_of state.new).cells ≡ (start (boardOf (lentKind e.now) (lentInputs e.now) (lentWires e.now)) (ofSets sets)).cells) }
 {
@@ -109,7 +109,7 @@ pub fn keep_first(
 
 // The patterns of the relation by value: those of the first section, and on a wide board those of all.
 fn seen_of(wide: bool) -> u8
-    ensures { result ≡ cond wide maxPatterns narrowPatterns }
+    ensures { result ≡ cond wide max_patterns narrow_patterns }
 {
     if wide {
         Sheet::MAX_PATTERNS as u8
@@ -125,8 +125,8 @@ pub fn begin_search(
     budget: u32,
     state: &mut [u64; STATE],
 )
-    requires { Lent e.now × (length state.old ≡ stateLength) }
-    ensures { Held state.new × (budgetIn state.new ≡ budget) × SameRest state.old state.new
+    requires { Lent e.now × (length state.old ≡ state_length) }
+    ensures { Held state.new × (budget_in state.new ≡ budget) × SameRest state.old state.new
         × (state_of state.new ≡ record { tables = (state_of state.old).tables; cells = (state_of state.old).cells; visits = 0; stopped = false })
         × Seen (lentWide e.now) (lentInputs e.now) sets.now state.new }
 {

@@ -2,18 +2,18 @@
 // `branch_bound`.
 ghost use Rattle.std.specs.Prelude.{◌≡◌};
 ghost use Rattle.relation.specs.Source.{Rel};
-ghost use Rattle.relation.specs.Tests.{ofSets};
-ghost use Rattle.branch_bound.specs.Search.{Board, floor as floorOf, searchPart, run};
+ghost use Rattle.relation.specs.Tests.{of_sets};
+ghost use Rattle.branch_bound.specs.Search.{Board, floor as floorOf, search_part, run};
 ghost use Rattle.nodes.specs.declared.BoardKind.TheVariants.{Tree, Sharing};
-ghost use Rattle.nodes.specs.Counts.{mostInputs};
-ghost use Rattle.branch_bound.specs.Boards.{boardOf};
-ghost use Rattle.search.specs.Cases.{searchReply};
-ghost use Rattle.branch_bound.specs.Reply.{answer_of, searchOf};
+ghost use Rattle.nodes.specs.Counts.{most_inputs};
+ghost use Rattle.branch_bound.specs.Boards.{board_of};
+ghost use Rattle.search.specs.Cases.{search_reply};
+ghost use Rattle.branch_bound.specs.Reply.{answer_of, search_of};
 ghost use Rattle.sheet.specs.Inner.Sized.{Sized};
-ghost use Rattle.parts.specs.Inner.Boards.{lentKind, lentInputs, lentWires, lentWide, Lent};
+ghost use Rattle.parts.specs.Inner.Boards.{lent_kind, lent_inputs, lent_wires, lent_wide, Lent};
 ghost use Rattle.parts.specs.Inner.Parts.{PartSets, Carried};
 ghost use Rattle.visits.specs.Inner.Conflicts.{Seen};
-ghost use Rattle.visits.specs.Inner.States.{state_of, budgetIn, Held, Ran};
+ghost use Rattle.visits.specs.Inner.States.{state_of, budget_in, Held, Ran};
 
 use base::{Refusal, Verdict};
 use beginning::{begin_search, keep_first, whole_part};
@@ -61,9 +61,9 @@ fn search_whole(
     cells: u64,
     state: &mut [u64; STATE],
 )
-    requires { Lent e.now × Carried (lentKind e.now) (lentInputs e.now) (lentWires e.now) sets masks state.old low cells
+    requires { Lent e.now × Carried (lent_kind e.now) (lent_inputs e.now) (lent_wires e.now) sets masks state.old low cells
         × Seen (lentWide e.now) (lentInputs e.now) sets state.old × Held state.old }
-    ensures { Ran (searchPart (boardOf (lentKind e.now) (lentInputs e.now) (lentWires e.now)) (budgetIn state.old) (ofSets sets))
+    ensures { Ran (search_part (board_of (lent_kind e.now) (lent_inputs e.now) (lent_wires e.now)) (budget_in state.old) (of_sets sets))
         state.old state.new }
 {
     let mut own = sets;
@@ -76,7 +76,7 @@ fn search_whole(
 
 // The reply from the state that the search ends in, and the floor of the relation.
 fn reply(state: &[u64; STATE], floor: u64) -> Answer
-    ensures { (b : Board) → (R : Rel) → floor ≡ floorOf b R → searchReply result ≡ answer_of b R (state_of state.now) }
+    ensures { (b : Board) → (R : Rel) → floor ≡ floorOf b R → search_reply result ≡ answer_of b R (state_of state.now) }
 {
     let tables = tables_in(state);
     let cells = state[CELLS];
@@ -103,8 +103,8 @@ fn reply(state: &[u64; STATE], floor: u64) -> Answer
 // The search of a relation whose sizes and sets were tested, with its sets past the last pattern emptied. The table lent has the numbers of the board, of the
 // wires and of the patterns behind its entries.
 fn search_sets(e: &[u32; LENT], sets: [u16; Sheet::MAX_PATTERNS], budget: u32) -> Answer
-    requires { Lent e.now × Sized (mostInputs (lentKind e.now)) (lentInputs e.now) (lentWires e.now) × PartSets (lentInputs e.now) (lentWires e.now) sets }
-    ensures { searchReply result ≡ answer_of (boardOf (lentKind e.now) (lentInputs e.now) (lentWires e.now)) (ofSets sets)
+    requires { Lent e.now × Sized (most_inputs (lent_kind e.now)) (lent_inputs e.now) (lent_wires e.now) × PartSets (lent_inputs e.now) (lent_wires e.now) sets }
+    ensures { search_reply result ≡ answer_of (board_of (lent_kind e.now) (lent_inputs e.now) (lent_wires e.now)) (of_sets sets)
         (run (boardOf (lentKind e.now) (lentInputs e.now) (lentWires e.now)) budget (ofSets sets)) }
 {
     let mut state = [0u64; STATE];
@@ -120,8 +120,8 @@ fn search_sets(e: &[u32; LENT], sets: [u16; Sheet::MAX_PATTERNS], budget: u32) -
 
 // The table that a board's picks are made from, with the numbers of the board, of its wires and of its patterns behind its entries.
 fn lent_for(kind: BoardKind, n: u8, m: u8) -> [u32; LENT]
-    requires { Sized (mostInputs kind) n m }
-    ensures { Lent result × (lentKind result ≡ kind) × (lentInputs result ≡ n) × (lentWires result ≡ m) }
+    requires { Sized (most_inputs kind) n m }
+    ensures { Lent result × (lent_kind result ≡ kind) × (lent_inputs result ≡ n) × (lent_wires result ≡ m) }
 {
     let mut table = match kind {
         BoardKind::Tree => blocks(),
@@ -141,8 +141,8 @@ fn search_tested(
     sets: [u16; Sheet::MAX_PATTERNS],
     budget: u32,
 ) -> Answer
-    requires { Sized (mostInputs kind) n m × PartSets n m sets }
-    ensures { searchReply result ≡ answer_of (boardOf kind n m) (ofSets sets) (run (boardOf kind n m) budget (ofSets sets)) }
+    requires { Sized (most_inputs kind) n m × PartSets n m sets }
+    ensures { search_reply result ≡ answer_of (board_of kind n m) (of_sets sets) (run (board_of kind n m) budget (of_sets sets)) }
 {
     let table = lent_for(kind, n, m);
     search_sets(&table, sets, budget)
@@ -150,7 +150,7 @@ fn search_tested(
 
 // The search of any relation under any budget, on either board. It refuses what the relation's test refuses.
 pub fn search_on(kind: BoardKind, relation: Relation, budget: u32) -> Answer
-    ensures { searchReply result ≡ searchOf kind relation budget }
+    ensures { search_reply result ≡ search_of kind relation budget }
 {
     let n = relation.n;
     let m = relation.m;
@@ -170,14 +170,14 @@ pub fn search_on(kind: BoardKind, relation: Relation, budget: u32) -> Answer
 
 // The search on the board of trees.
 pub fn search(relation: Relation, budget: u32) -> Answer
-    ensures { searchReply result ≡ searchOf Tree relation budget }
+    ensures { search_reply result ≡ search_of Tree relation budget }
 {
     search_on(BoardKind::Tree, relation, budget)
 }
 
 // The search on the board that shares selectors (document 02, E2). A relation of more than four inputs is refused with 3 (E5).
 pub fn search_shared(relation: Relation, budget: u32) -> Answer
-    ensures { searchReply result ≡ searchOf Sharing relation budget }
+    ensures { search_reply result ≡ search_of Sharing relation budget }
 {
     search_on(BoardKind::Sharing, relation, budget)
 }

@@ -1,18 +1,18 @@
 // The first answer, one wire after the other (QuickSolver of source 001, section 6.2).
 // Inner functions: `keep_first` and `quick` meet what they require.
 ghost use Rattle.std.specs.Prelude.{◌≡◌, cond, ◌+◌, ◌%◌, ◌<◌, length, get_or, set as put};
-ghost use Rattle.sheet.specs.Limits.{maxWires};
-ghost use Rattle.nodes.specs.Counts.{mostInputs, count_of};
-ghost use Rattle.relation.specs.Tests.{ofSets};
+ghost use Rattle.sheet.specs.Limits.{max_wires};
+ghost use Rattle.nodes.specs.Counts.{most_inputs, count_of};
+ghost use Rattle.relation.specs.Tests.{of_sets};
 ghost use Rattle.branch_bound.specs.Search.{start};
-ghost use Rattle.branch_bound.specs.Boards.{boardOf};
-ghost use Rattle.parts.specs.Inner.Boards.{lentKind, lentInputs, lentWires, Lent};
+ghost use Rattle.branch_bound.specs.Boards.{board_of};
+ghost use Rattle.parts.specs.Inner.Boards.{lent_kind, lent_inputs, lent_wires, Lent};
 ghost use Rattle.sheet.specs.Inner.Sized.{Sized};
 ghost use Rattle.parts.specs.Inner.Parts.{PartSets};
 ghost use Rattle.parts.specs.Inner.Picks.{table_of};
-ghost use Rattle.parts.specs.Inner.States.{restPlace, stateLength};
-ghost use Rattle.table.specs.Inner.Ranks.{narrowSpace};
-ghost use Rattle.visits.specs.Inner.States.{joinedOf};
+ghost use Rattle.parts.specs.Inner.States.{rest_place, state_length};
+ghost use Rattle.table.specs.Inner.Ranks.{narrow_space};
+ghost use Rattle.visits.specs.Inner.States.{joined_of};
 
 use branch_bound::State;
 use parts::boards::{BOARD_PLACE, WIRES_PLACE, inputs_of, is_wide};
@@ -27,7 +27,7 @@ use visits::states::joined;
 
 // Wire j's table, of which a pick has the first section: on a wide board the state has the others.
 fn table_at(wide: bool, found: u32, j: u8, state: &[u64; STATE]) -> u64
-    requires { j < maxWires }
+    requires { j < max_wires }
     ensures { result ≡ cond wide
         (found % narrowSpace + joinedOf 0 (get_or state.now (restPlace 1) 0) (get_or state.now (restPlace 2) 0) (get_or state.now (restPlace 3) 0) j)
         (found % narrowSpace) }
@@ -50,10 +50,10 @@ fn pick_left(
     tables: &mut [u64; Sheet::WIRES],
     state: &mut [u64; STATE],
 ) -> u32
-    requires { Lent e.now × Sized (mostInputs (lentKind e.now)) (lentInputs e.now) (lentWires e.now) × PartSets (lentInputs e.now) (lentWires e.now) left.now × (j < maxWires)
+    requires { Lent e.now × Sized (most_inputs (lent_kind e.now)) (lent_inputs e.now) (lent_wires e.now) × PartSets (lent_inputs e.now) (lent_wires e.now) left.now × (j < max_wires)
         × (j ≡ 0 → (table ≡ table_of (lentKind e.now) (lentInputs e.now) left.now 0) × (first ≡ count_of (lentKind e.now) (lentInputs e.now) table))
         × (length tables.old ≡ maxWires) × (length state.old ≡ stateLength) }
-    ensures { (tables.new ≡ put tables.old j (table_of (lentKind e.now) (lentInputs e.now) left.now j))
+    ensures { (tables.new ≡ put tables.old j (table_of (lent_kind e.now) (lent_inputs e.now) left.now j))
         × (result ≡ count_of (lentKind e.now) (lentInputs e.now) (table_of (lentKind e.now) (lentInputs e.now) left.now j))
         × (length state.new ≡ stateLength) }
 {
@@ -76,9 +76,9 @@ pub fn quick(
     first: u32,
     state: &mut [u64; STATE],
 ) -> State
-    requires { Lent e.now × Sized (mostInputs (lentKind e.now)) (lentInputs e.now) (lentWires e.now) × PartSets (lentInputs e.now) (lentWires e.now) sets
+    requires { Lent e.now × Sized (most_inputs (lent_kind e.now)) (lent_inputs e.now) (lent_wires e.now) × PartSets (lent_inputs e.now) (lent_wires e.now) sets
         × (table ≡ table_of (lentKind e.now) (lentInputs e.now) sets 0) × (first ≡ count_of (lentKind e.now) (lentInputs e.now) table) × (length state.old ≡ stateLength) }
-    ensures { (result ≡ start (boardOf (lentKind e.now) (lentInputs e.now) (lentWires e.now)) (ofSets sets)) × (length state.new ≡ stateLength) }
+    ensures { (result ≡ start (board_of (lent_kind e.now) (lent_inputs e.now) (lent_wires e.now)) (of_sets sets)) × (length state.new ≡ state_length) }
 {
     let n = inputs_of(e[BOARD_PLACE] as u8);
     let m = e[WIRES_PLACE] as u8;

@@ -5,14 +5,14 @@ use mathlib.Core.Bool.{Bool, true, false, cond, not, ◌||◌}
 use mathlib.Core.List.{List, [], ◌∷◌}
 use native.Mathlib.Omega.{arith}
 use lib.Dec.{eqb}
-use Rattle.sheet.specs.Limits.{maxInputs, maxPatterns, maxGates, maxOutputs}
+use Rattle.sheet.specs.Limits.{max_inputs, max_patterns, max_gates, max_outputs}
 use lib.ListN.{length, get_or}
 use Rattle.sheet.specs.declared.Command.{Command}
 use Rattle.sheet.specs.declared.Command.TheVariants.{Sizes}
-use Rattle.sheet.specs.Commands.{collect, inputsOf, wiresOf, isMarked, isDontCare, has_row, gatesOf, outputsOf, rowsOn, dontCaresOn}
-use Rattle.sheet.specs.Gathered.{tabulate, meet, gathered, noMark, rowMark, dontCareMark, markOn, presentOn, limitOn, gateAt, outputAt}
-use Rattle.base.proofs.Tabulate.{tabulate-at}
-use Rattle.sheet.proofs.Sizes.{pattern-place}
+use Rattle.sheet.specs.Commands.{collect, inputs_of, wires_of, is_marked, is_dont_care, has_row, gates_of, outputs_of, rows_on, dont_cares_on}
+use Rattle.sheet.specs.Gathered.{tabulate, meet, gathered, no_mark, row_mark, dont_care_mark, mark_on, present_on, limit_on, gate_at, output_at}
+use Rattle.base.proofs.Tabulate.{tabulate_at}
+use Rattle.sheet.proofs.Sizes.{pattern_place}
 
 -- without commands nothing is gathered, as with sizes 0
 pub nothing : gathered (Sizes 0 0 ∷ []) ≡ gathered []
@@ -20,88 +20,88 @@ unfolding gathered tabulate meet collect
 nothing = refl
 
 module _ (cs : List Command) where
-  pub inputs-field : (gathered cs).n ≡ inputsOf cs
+  pub inputs_field : (gathered cs).n ≡ inputs_of cs
   unfolding gathered
-  inputs-field = refl
+  inputs_field = refl
 
-  pub wires-field : (gathered cs).m ≡ wiresOf cs
+  pub wires_field : (gathered cs).m ≡ wires_of cs
   unfolding gathered
-  wires-field = refl
+  wires_field = refl
 
-  pub gates-field : (gathered cs).gate_count ≡ length (gatesOf cs)
+  pub gates_field : (gathered cs).gate_count ≡ length (gates_of cs)
   unfolding gathered
-  gates-field = refl
+  gates_field = refl
 
-  pub outputs-field : (gathered cs).output_count ≡ length (outputsOf cs)
+  pub outputs_field : (gathered cs).output_count ≡ length (outputs_of cs)
   unfolding gathered
-  outputs-field = refl
+  outputs_field = refl
 
-  module _ (p : ℕ) (h : p < maxPatterns) where
-    pub mark-field : get_or (gathered cs).marks p 0 ≡ markOn p cs
+  module _ (p : ℕ) (h : p < max_patterns) where
+    pub mark_field : get_or (gathered cs).marks p 0 ≡ mark_on p cs
     unfolding gathered
-    mark-field = tabulate-at maxPatterns (λ q. markOn q cs) p h
+    mark_field = tabulate_at max_patterns (λ q. mark_on q cs) p h
 
-    pub value-field : get_or (gathered cs).values p 0 ≡ presentOn p cs
+    pub value_field : get_or (gathered cs).values p 0 ≡ present_on p cs
     unfolding gathered
-    value-field = tabulate-at maxPatterns (λ q. presentOn q cs) p h
+    value_field = tabulate_at max_patterns (λ q. present_on q cs) p h
 
-    pub limit-field : get_or (gathered cs).limits p 0 ≡ limitOn p cs
+    pub limit_field : get_or (gathered cs).limits p 0 ≡ limit_on p cs
     unfolding gathered
-    limit-field = tabulate-at maxPatterns (λ q. limitOn q cs) p h
+    limit_field = tabulate_at max_patterns (λ q. limit_on q cs) p h
 
-  module _ (i : ℕ) (h : i < maxGates) where
-    pub kind-field : get_or (gathered cs).kinds i 0 ≡ (gateAt i cs).kind
+  module _ (i : ℕ) (h : i < max_gates) where
+    pub kind_field : get_or (gathered cs).kinds i 0 ≡ (gate_at i cs).kind
     unfolding gathered
-    kind-field = tabulate-at maxGates (λ j. (gateAt j cs).kind) i h
+    kind_field = tabulate_at max_gates (λ j. (gate_at j cs).kind) i h
 
-    pub left-field : get_or (gathered cs).lefts i 0 ≡ (gateAt i cs).left
+    pub left_field : get_or (gathered cs).lefts i 0 ≡ (gate_at i cs).left
     unfolding gathered
-    left-field = tabulate-at maxGates (λ j. (gateAt j cs).left) i h
+    left_field = tabulate_at max_gates (λ j. (gate_at j cs).left) i h
 
-    pub right-field : get_or (gathered cs).rights i 0 ≡ (gateAt i cs).right
+    pub right_field : get_or (gathered cs).rights i 0 ≡ (gate_at i cs).right
     unfolding gathered
-    right-field = tabulate-at maxGates (λ j. (gateAt j cs).right) i h
+    right_field = tabulate_at max_gates (λ j. (gate_at j cs).right) i h
 
-  pub output-field : (i : ℕ) → i < maxOutputs → get_or (gathered cs).signals i 0 ≡ outputAt i cs
+  pub output_field : (i : ℕ) → i < max_outputs → get_or (gathered cs).signals i 0 ≡ output_at i cs
   unfolding gathered
-  output-field i h = tabulate-at maxOutputs (λ j. outputAt j cs) i h
+  output_field i h = tabulate_at max_outputs (λ j. output_at j cs) i h
 
--- a pattern is marked exactly where its mark is not `noMark`
-by-mark : (a b : Bool) → cond a dontCareMark (cond b rowMark noMark) ≡ noMark → a || b ≡ false
-by-mark true b e = absurd (omega arith)
-by-mark false true e = absurd (omega arith)
-by-mark false false e = refl
+-- a pattern is marked exactly where its mark is not `no_mark`
+by_mark : (a b : Bool) → cond a dont_care_mark (cond b row_mark no_mark) ≡ no_mark → a || b ≡ false
+by_mark true b e = absurd (omega arith)
+by_mark false true e = absurd (omega arith)
+by_mark false false e = refl
 
-by-none : (a b : Bool) → (cond a dontCareMark (cond b rowMark noMark) ≡ noMark → ⊥) → a || b ≡ true
-by-none true b e = refl
-by-none false true e = refl
-by-none false false e = absurd (e refl)
+by_none : (a b : Bool) → (cond a dont_care_mark (cond b row_mark no_mark) ≡ no_mark → ⊥) → a || b ≡ true
+by_none true b e = refl
+by_none false true e = refl
+by_none false false e = absurd (e refl)
 
-pub mark-none : (p : ℕ) (cs : List Command) → markOn p cs ≡ noMark → isMarked p cs ≡ false
-mark-none p cs e = by-mark (isDontCare p cs) (has_row p cs) e
+pub mark_none : (p : ℕ) (cs : List Command) → mark_on p cs ≡ no_mark → is_marked p cs ≡ false
+mark_none p cs e = by_mark (is_dont_care p cs) (has_row p cs) e
 
-pub mark-some : (p : ℕ) (cs : List Command) → (markOn p cs ≡ noMark → ⊥) → isMarked p cs ≡ true
-mark-some p cs e = by-none (isDontCare p cs) (has_row p cs) e
+pub mark_some : (p : ℕ) (cs : List Command) → (mark_on p cs ≡ no_mark → ⊥) → is_marked p cs ≡ true
+mark_some p cs e = by_none (is_dont_care p cs) (has_row p cs) e
 
-by-test : (a b : Bool) → eqb (cond a dontCareMark (cond b rowMark noMark)) noMark ≡ not (a || b)
-by-test true b = refl
-by-test false true = refl
-by-test false false = refl
+by_test : (a b : Bool) → eqb (cond a dont_care_mark (cond b row_mark no_mark)) no_mark ≡ not (a || b)
+by_test true b = refl
+by_test false true = refl
+by_test false false = refl
 
-pub mark-test : (p : ℕ) (cs : List Command) → eqb (markOn p cs) noMark ≡ not (isMarked p cs)
-mark-test p cs = by-test (isDontCare p cs) (has_row p cs)
+pub mark_test : (p : ℕ) (cs : List Command) → eqb (mark_on p cs) no_mark ≡ not (is_marked p cs)
+mark_test p cs = by_test (is_dont_care p cs) (has_row p cs)
 
 -- a pattern of a sheet in range has its place in the lists
-pub pattern-room : (cs : List Command) → inputsOf cs ≤ maxInputs → (p : ℕ) → p < 2 ^ inputsOf cs → p < maxPatterns
-pattern-room cs h p l = pattern-place (inputsOf cs) p h l
+pub pattern_room : (cs : List Command) → inputs_of cs ≤ max_inputs → (p : ℕ) → p < 2 ^ inputs_of cs → p < max_patterns
+pattern_room cs h p l = pattern_place (inputs_of cs) p h l
 
 -- a pattern with one 02, and one with a 03
-module _ (cs : List Command) (p : ℕ) (h : p < maxPatterns) where
-  pub present-mark : (v : ℕ) → rowsOn p cs ≡ v ∷ [] → dontCaresOn p cs ≡ [] → get_or (gathered cs).marks p 0 ≡ rowMark
-  present-mark v r d = mark-field cs p h ∙ rw (d, r)
+module _ (cs : List Command) (p : ℕ) (h : p < max_patterns) where
+  pub present_mark : (v : ℕ) → rows_on p cs ≡ v ∷ [] → dont_cares_on p cs ≡ [] → get_or (gathered cs).marks p 0 ≡ row_mark
+  present_mark v r d = mark_field cs p h ∙ rw (d, r)
 
-  pub present-value : (v : ℕ) → rowsOn p cs ≡ v ∷ [] → get_or (gathered cs).values p 0 ≡ v
-  present-value v r = value-field cs p h ∙ rw r
+  pub present_value : (v : ℕ) → rows_on p cs ≡ v ∷ [] → get_or (gathered cs).values p 0 ≡ v
+  present_value v r = value_field cs p h ∙ rw r
 
-  pub impossible-mark : dontCaresOn p cs ≡ p ∷ [] → get_or (gathered cs).marks p 0 ≡ dontCareMark
-  impossible-mark d = mark-field cs p h ∙ rw d
+  pub impossible_mark : dont_cares_on p cs ≡ p ∷ [] → get_or (gathered cs).marks p 0 ≡ dont_care_mark
+  impossible_mark d = mark_field cs p h ∙ rw d

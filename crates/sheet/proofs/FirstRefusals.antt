@@ -2,10 +2,10 @@
 use Prim.Native.Nat.{ℕ, zero, suc}
 use mathlib.Core.Path.{◌≡◌, refl}
 use mathlib.Core.List.{List, [], ◌∷◌, ◌++◌}
-use Rattle.base.specs.Refusals.{refusalAt, noSignal, tooMany}
+use Rattle.base.specs.Refusals.{refusal_at, no_signal, too_many}
 use Rattle.sheet.specs.declared.Command.{Command}
 use Rattle.sheet.specs.declared.Command.TheVariants.{Sizes, Gate}
-use Rattle.sheet.specs.Limits.{maxGates}
+use Rattle.sheet.specs.Limits.{max_gates}
 use Rattle.sheet.specs.Commands.{collect}
 use Rattle.sheet.specs.Judged.{refused, judged}
 
@@ -15,10 +15,10 @@ gated zero = Sizes 1 1 ∷ []
 gated (suc k) = gated k ++ Gate 0 0 0 ∷ []
 
 -- 6 before 8
-pub signal-first : judged (gated maxGates) (Gate 0 33 0) 7 ≡ refused (refusalAt noSignal 7)
+pub signal_first : judged (gated max_gates) (Gate 0 33 0) 7 ≡ refused (refusal_at no_signal 7)
 unfolding judged collect gated
-signal-first = refl
+signal_first = refl
 
-pub gate-next : judged (gated maxGates) (Gate 0 32 0) 7 ≡ refused (refusalAt tooMany 7)
+pub gate_next : judged (gated max_gates) (Gate 0 32 0) 7 ≡ refused (refusal_at too_many 7)
 unfolding judged collect gated
-gate-next = refl
+gate_next = refl

@@ -9,38 +9,38 @@ use lib.Bits.{bit_and}
 use Rattle.sheet.specs.declared.Command.{Command}
 use Rattle.sheet.specs.declared.Command.TheVariants.{End, Row, DontCare, Gate, Output, Limit}
 use Rattle.sheet.specs.declared.Sheet.{Sheet}
-use Rattle.sheet.specs.Commands.{is_empty, about, wiresOf, isMarked, isDontCare, has_row, rowsOn, dontCaresOn, LogicGate, noGate, gatesOf, outputsOf}
-use Rattle.sheet.specs.Commands.{limitsOn}
-use Rattle.sheet.specs.Limits.{maxPatterns, maxGates, maxOutputs, allOnes}
-use Rattle.sheet.specs.Gathered.{tabulate, meet, gathered, limitOn, gateAt, outputAt, noMark, rowMark, dontCareMark}
-use Rattle.base.proofs.Tabulate.{tabulate-at, tabulate-set}
-use Rattle.sheet.proofs.Lists.{never, collect-snoc, isEmpty-append, isEmpty-nil, about-same, about-other, getD-snoc-other}
-use Rattle.base.proofs.Tests.{and-false}
+use Rattle.sheet.specs.Commands.{is_empty, about, wires_of, is_marked, is_dont_care, has_row, rows_on, dont_cares_on, LogicGate, no_gate, gates_of, outputs_of}
+use Rattle.sheet.specs.Commands.{limits_on}
+use Rattle.sheet.specs.Limits.{max_patterns, max_gates, max_outputs, all_ones}
+use Rattle.sheet.specs.Gathered.{tabulate, meet, gathered, limit_on, gate_at, output_at, no_mark, row_mark, dont_care_mark}
+use Rattle.base.proofs.Tabulate.{tabulate_at, tabulate_set}
+use Rattle.sheet.proofs.Lists.{never, collect_snoc, is_empty_append, is_empty_nil, about_same, about_other, get_d_snoc_other}
+use Rattle.base.proofs.Tests.{and_false}
 
 -- a pattern without 02 and 03 has no rows and no don't care
-pub unmarked-row : (p : ℕ) (cs : List Command) → isMarked p cs ≡ false → rowsOn p cs ≡ []
-unmarked-row p cs e = isEmpty-nil (rowsOn p cs) (neither (is_empty (dontCaresOn p cs)) (is_empty (rowsOn p cs)) e)
+pub unmarked_row : (p : ℕ) (cs : List Command) → is_marked p cs ≡ false → rows_on p cs ≡ []
+unmarked_row p cs e = is_empty_nil (rows_on p cs) (neither (is_empty (dont_cares_on p cs)) (is_empty (rows_on p cs)) e)
   where
     neither : (a b : Bool) → not a || not b ≡ false → b ≡ true
     neither true true f = refl
     neither true false f = sym f
     neither false b f = never (sym f)
 
-pub unmarked-care : (p : ℕ) (cs : List Command) → isMarked p cs ≡ false → isDontCare p cs ≡ false
-unmarked-care p cs e = first (isDontCare p cs) (has_row p cs) e
+pub unmarked_care : (p : ℕ) (cs : List Command) → is_marked p cs ≡ false → is_dont_care p cs ≡ false
+unmarked_care p cs e = first (is_dont_care p cs) (has_row p cs) e
   where
     first : (a b : Bool) → a || b ≡ false → a ≡ false
     first true b f = f
     first false b f = refl
 
-pub end-adds : (cs : List Command) → gathered (cs ++ End ∷ []) ≡ gathered cs
+pub end_adds : (cs : List Command) → gathered (cs ++ End ∷ []) ≡ gathered cs
 unfolding gathered
-end-adds cs = simp (collect-snoc, append-nil)
+end_adds cs = simp (collect_snoc, append-nil)
 
-pub meet-snoc : (w : ℕ) (xs : List ℕ) (x : ℕ) → meet w (xs ++ x ∷ []) ≡ bit_and (meet w xs) x
+pub meet_snoc : (w : ℕ) (xs : List ℕ) (x : ℕ) → meet w (xs ++ x ∷ []) ≡ bit_and (meet w xs) x
 unfolding meet
-meet-snoc w [] x = refl
-meet-snoc w (y ∷ xs) x = meet-snoc (bit_and w y) xs x
+meet_snoc w [] x = refl
+meet_snoc w (y ∷ xs) x = meet_snoc (bit_and w y) xs x
 
 -- the sheet with other tables over the patterns, other gates and other outputs
 abbrev remade : Sheet → List ℕ → List ℕ → List ℕ → ℕ → List ℕ → List ℕ → List ℕ → ℕ → List ℕ → Sheet
@@ -69,10 +69,10 @@ abbrev pub limited : Sheet → ℕ → ℕ → Sheet
 limited h p w = tabled h h.marks h.values (set h.limits p (bit_and (get_or h.limits p 0) w))
 
 abbrev pub rowed : Sheet → ℕ → ℕ → Sheet
-rowed h p v = tabled h (set h.marks p rowMark) (set h.values p v) h.limits
+rowed h p v = tabled h (set h.marks p row_mark) (set h.values p v) h.limits
 
 abbrev pub freed : Sheet → ℕ → Sheet
-freed h p = tabled h (set h.marks p dontCareMark) h.values h.limits
+freed h p = tabled h (set h.marks p dont_care_mark) h.values h.limits
 
 abbrev pub gated : Sheet → ℕ → ℕ → ℕ → Sheet
 gated h k a b =
@@ -85,62 +85,62 @@ led h s =
     remade h h.marks h.values h.limits h.gate_count h.kinds h.lefts h.rights (i + 1) (set h.signals i s)
 
 -- one command more about the pattern p, in a table made of what is said about each pattern
-about-set {ℓ} : {A : Type ℓ} (f : ℕ → List A → ℕ) (said : ℕ → List A) (p : ℕ) (x : A) (y : ℕ) → p < maxPatterns → y ≡ f p (said p ++ x ∷ [])
-    → set (tabulate maxPatterns (λ q. f q (said q))) p y ≡ tabulate maxPatterns (λ q. f q (said q ++ about q p x))
-about-set f said p x y h e =
-    tabulate-set maxPatterns (λ q. f q (said q)) (λ q. f q (said q ++ about q p x)) p y h
-    (rw (about-same p x) e)
-    (λ q d. rw (about-other q p x (λ g. d (sym g)), append-nil (said q)))
+about_set {ℓ} : {A : Type ℓ} (f : ℕ → List A → ℕ) (said : ℕ → List A) (p : ℕ) (x : A) (y : ℕ) → p < max_patterns → y ≡ f p (said p ++ x ∷ [])
+    → set (tabulate max_patterns (λ q. f q (said q))) p y ≡ tabulate max_patterns (λ q. f q (said q ++ about q p x))
+about_set f said p x y h e =
+    tabulate_set max_patterns (λ q. f q (said q)) (λ q. f q (said q ++ about q p x)) p y h
+    (rw (about_same p x) e)
+    (λ q d. rw (about_other q p x (λ g. d (sym g)), append-nil (said q)))
 
 module _ (cs : List Command) where
-  pub limit-adds : (p w : ℕ) → p < maxPatterns → limited (gathered cs) p w ≡ gathered (cs ++ Limit p w ∷ [])
+  pub limit_adds : (p w : ℕ) → p < max_patterns → limited (gathered cs) p w ≡ gathered (cs ++ Limit p w ∷ [])
   unfolding gathered
-  limit-adds p w h =
-      simp (collect-snoc, append-nil)
-      (rw (about-set (λ q. meet all) (λ q. limitsOn q cs) p w _ h here))
+  limit_adds p w h =
+      simp (collect_snoc, append-nil)
+      (rw (about_set (λ q. meet all) (λ q. limits_on q cs) p w _ h here))
     where
       all : ℕ
-      all = allOnes (wiresOf cs)
+      all = all_ones (wires_of cs)
 
-      here : bit_and (get_or (tabulate maxPatterns (λ q. limitOn q cs)) p 0) w ≡ meet all (limitsOn p cs ++ w ∷ [])
-      here = rw (tabulate-at maxPatterns (λ q. limitOn q cs) p h) (sym (meet-snoc all (limitsOn p cs) w))
+      here : bit_and (get_or (tabulate max_patterns (λ q. limit_on q cs)) p 0) w ≡ meet all (limits_on p cs ++ w ∷ [])
+      here = rw (tabulate_at max_patterns (λ q. limit_on q cs) p h) (sym (meet_snoc all (limits_on p cs) w))
 
-  pub row-adds : (p v : ℕ) → p < maxPatterns → isMarked p cs ≡ false → rowed (gathered cs) p v ≡ gathered (cs ++ Row p v ∷ [])
+  pub row_adds : (p v : ℕ) → p < max_patterns → is_marked p cs ≡ false → rowed (gathered cs) p v ≡ gathered (cs ++ Row p v ∷ [])
   unfolding gathered
-  row-adds p v h e =
-      let none : rowsOn p cs ≡ [] = unmarked-row p cs e in
-      simp (collect-snoc, append-nil)
+  row_adds p v h e =
+      let none : rows_on p cs ≡ [] = unmarked_row p cs e in
+      simp (collect_snoc, append-nil)
       (rw (
-        about-set (λ q vs. cond (isDontCare q cs) dontCareMark (cond (not (is_empty vs)) rowMark noMark))
-            (λ q. rowsOn q cs) p v rowMark h (rw (none, unmarked-care p cs e)),
-        about-set (λ q vs. get_or vs 0 0) (λ q. rowsOn q cs) p v v h (rw none),
+        about_set (λ q vs. cond (is_dont_care q cs) dont_care_mark (cond (not (is_empty vs)) row_mark no_mark))
+            (λ q. rows_on q cs) p v row_mark h (rw (none, unmarked_care p cs e)),
+        about_set (λ q vs. get_or vs 0 0) (λ q. rows_on q cs) p v v h (rw none),
       ))
 
-  pub dont-care-adds : (p : ℕ) → p < maxPatterns → freed (gathered cs) p ≡ gathered (cs ++ DontCare p ∷ [])
+  pub dont_care_adds : (p : ℕ) → p < max_patterns → freed (gathered cs) p ≡ gathered (cs ++ DontCare p ∷ [])
   unfolding gathered
-  dont-care-adds p h =
-      let some : is_empty (dontCaresOn p cs ++ p ∷ []) ≡ false = rw (isEmpty-append (dontCaresOn p cs) (p ∷ [])) (and-false (is_empty (dontCaresOn p cs))) in
-      simp (collect-snoc, append-nil)
-      (rw (about-set (λ q ps. cond (not (is_empty ps)) dontCareMark (cond (has_row q cs) rowMark noMark)) (λ q. dontCaresOn q cs) p p dontCareMark h (rw some)))
+  dont_care_adds p h =
+      let some : is_empty (dont_cares_on p cs ++ p ∷ []) ≡ false = rw (is_empty_append (dont_cares_on p cs) (p ∷ [])) (and_false (is_empty (dont_cares_on p cs))) in
+      simp (collect_snoc, append-nil)
+      (rw (about_set (λ q ps. cond (not (is_empty ps)) dont_care_mark (cond (has_row q cs) row_mark no_mark)) (λ q. dont_cares_on q cs) p p dont_care_mark h (rw some)))
 
-  gate-set : (f : LogicGate → ℕ) (g : LogicGate) → length (gatesOf cs) < maxGates
-      → set (tabulate maxGates (λ i. f (gateAt i cs))) (length (gatesOf cs)) (f g) ≡ tabulate maxGates (λ i. f (get_or (gatesOf cs ++ g ∷ []) i noGate))
-  gate-set f g h =
-      tabulate-set maxGates (λ i. f (gateAt i cs)) (λ i. f (get_or (gatesOf cs ++ g ∷ []) i noGate)) (length (gatesOf cs)) (f g) h
-      (ap f (sym (get_or-append_seam (gatesOf cs) g [] noGate)))
-      (λ j e. ap f (getD-snoc-other (gatesOf cs) g noGate j e))
+  gate_set : (f : LogicGate → ℕ) (g : LogicGate) → length (gates_of cs) < max_gates
+      → set (tabulate max_gates (λ i. f (gate_at i cs))) (length (gates_of cs)) (f g) ≡ tabulate max_gates (λ i. f (get_or (gates_of cs ++ g ∷ []) i no_gate))
+  gate_set f g h =
+      tabulate_set max_gates (λ i. f (gate_at i cs)) (λ i. f (get_or (gates_of cs ++ g ∷ []) i no_gate)) (length (gates_of cs)) (f g) h
+      (ap f (sym (get_or-append_seam (gates_of cs) g [] no_gate)))
+      (λ j e. ap f (get_d_snoc_other (gates_of cs) g no_gate j e))
 
-  pub gate-adds : (k a b : ℕ) → length (gatesOf cs) < maxGates → gated (gathered cs) k a b ≡ gathered (cs ++ Gate k a b ∷ [])
+  pub gate_adds : (k a b : ℕ) → length (gates_of cs) < max_gates → gated (gathered cs) k a b ≡ gathered (cs ++ Gate k a b ∷ [])
   unfolding gathered
-  gate-adds k a b h =
+  gate_adds k a b h =
       let g : LogicGate = record { kind = k; left = a; right = b } in
-      simp (collect-snoc, append-nil, length-append)
-      (rw (gate-set (λ x. x.kind) g h, gate-set (λ x. x.left) g h, gate-set (λ x. x.right) g h))
+      simp (collect_snoc, append-nil, length-append)
+      (rw (gate_set (λ x. x.kind) g h, gate_set (λ x. x.left) g h, gate_set (λ x. x.right) g h))
 
-  pub output-adds : (s : ℕ) → length (outputsOf cs) < maxOutputs → led (gathered cs) s ≡ gathered (cs ++ Output s ∷ [])
+  pub output_adds : (s : ℕ) → length (outputs_of cs) < max_outputs → led (gathered cs) s ≡ gathered (cs ++ Output s ∷ [])
   unfolding gathered
-  output-adds s h =
-      simp (collect-snoc, append-nil, length-append)
-      (rw (tabulate-set maxOutputs (λ i. outputAt i cs) (λ i. get_or (outputsOf cs ++ s ∷ []) i 0)
-      (length (outputsOf cs)) s h (sym (get_or-append_seam (outputsOf cs) s [] 0))
-      (getD-snoc-other (outputsOf cs) s 0)))
+  output_adds s h =
+      simp (collect_snoc, append-nil, length-append)
+      (rw (tabulate_set max_outputs (λ i. output_at i cs) (λ i. get_or (outputs_of cs ++ s ∷ []) i 0)
+      (length (outputs_of cs)) s h (sym (get_or-append_seam (outputs_of cs) s [] 0))
+      (get_d_snoc_other (outputs_of cs) s 0)))

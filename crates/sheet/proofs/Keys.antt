@@ -16,8 +16,8 @@ none_below zero b h = omega arith
 none_below (suc k) b h = let l : k ≤ b = none_below k b h.0 in omega (arith, h.1)
 
 -- so each of its tests fails
-pub none-tests : (k b : ℕ) → NoneOf k b → (j : ℕ) → ltb j k ≡ true → eqb b j ≡ false
-none-tests k b h j e =
+pub none_tests : (k b : ℕ) → NoneOf k b → (j : ℕ) → ltb j k ≡ true → eqb b j ≡ false
+none_tests k b h j e =
     let l : k ≤ b = none_below k b h in
     let i : j < k = ltb-true j k e in
     ne_eqb b j (omega arith)

@@ -36,8 +36,8 @@ pub uncapped : (j k : ℕ) → k ≤ j → min (2 ^ j) (2 ^ k) ≡ 2 ^ k
 uncapped j k h = let p : 2 ^ k ≤ 2 ^ j = pow_mono h in omega arith
 
 -- a test against a power that goes up to j, of a number of 2 ^ j bits, is the test against the power itself
-pub beyond-capped : (x j k : ℕ) → x < 2 ^ (2 ^ j) → leb (2 ^ min (2 ^ j) (2 ^ k)) x ≡ leb (2 ^ (2 ^ k)) x
-beyond-capped x j k h =
+pub beyond_capped : (x j k : ℕ) → x < 2 ^ (2 ^ j) → leb (2 ^ min (2 ^ j) (2 ^ k)) x ≡ leb (2 ^ (2 ^ k)) x
+beyond_capped x j k h =
     ⊎_elim (λ t. ap (λ e. leb (2 ^ e) x) (uncapped j k (leb→le k j t)))
     (λ t.
     let l : j ≤ k = le_of_lt (nleb→lt k j t) in

@@ -4,9 +4,9 @@ use mathlib.Core.List.{List}
 use Rattle.sheet.specs.declared.Command.{Command}
 use Rattle.sheet.specs.SaySame.{SaySame}
 use Rattle.sheet.specs.Gathered.{tabulate, gathered}
-use Rattle.sheet.specs.Limits.{maxPatterns}
+use Rattle.sheet.specs.Limits.{max_patterns}
 
-pub say-same-gathered : (cs ds : List Command) → SaySame cs ds → gathered cs ≡ gathered ds
+pub say_same_gathered : (cs ds : List Command) → SaySame cs ds → gathered cs ≡ gathered ds
 unfolding gathered
-say-same-gathered cs ds s =
-    rw (ap (tabulate maxPatterns) (fun_ext s.permitted)) (simp (s.inputs, s.wires, s.rows, s.dont-cares, s.gates, s.outputs))
+say_same_gathered cs ds s =
+    rw (ap (tabulate max_patterns) (fun_ext s.permitted)) (simp (s.inputs, s.wires, s.rows, s.dont_cares, s.gates, s.outputs))

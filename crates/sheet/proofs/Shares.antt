@@ -6,8 +6,8 @@ use Rattle.sheet.specs.declared.Command.{Command}
 use Rattle.sheet.specs.Commands.{collect}
 
 module _ {ℓ} {A : Type ℓ} where
-  pub each-collect : (P : Command → Type 0) (Q : A → Type 0) (says : Command → List A) → ((c : Command) → P c → Each Q (says c))
+  pub each_collect : (P : Command → Type 0) (Q : A → Type 0) (says : Command → List A) → ((c : Command) → P c → Each Q (says c))
       → (cs : List Command) → Each P cs → Each Q (collect says cs)
   unfolding collect
-  each-collect P Q says f [] p = tt
-  each-collect P Q says f (c ∷ cs) p = each_append Q (says c) (collect says cs) (f c p.0) (each-collect P Q says f cs p.1)
+  each_collect P Q says f [] p = tt
+  each_collect P Q says f (c ∷ cs) p = each_append Q (says c) (collect says cs) (f c p.0) (each_collect P Q says f cs p.1)

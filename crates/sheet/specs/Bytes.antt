@@ -5,15 +5,15 @@ use Rattle.sheet.specs.declared.Command.TheVariants.{End, Sizes, Row, DontCare, 
 use Rattle.sheet.specs.Commands.{collect}
 
 -- the set of 06 takes two bytes, the lower first
-abbrev pub commandBytes : Command → List ℕ
-commandBytes End = 0 ∷ []
-commandBytes (Sizes n m) = 1 ∷ n ∷ m ∷ []
-commandBytes (Row p v) = 2 ∷ p ∷ v ∷ []
-commandBytes (DontCare p) = 3 ∷ p ∷ []
-commandBytes (Gate k a b) = 4 ∷ k ∷ a ∷ b ∷ []
-commandBytes (Output s) = 5 ∷ s ∷ []
-commandBytes (Limit p w) = 6 ∷ p ∷ w % 256 ∷ w / 256 ∷ []
+abbrev pub command_bytes : Command → List ℕ
+command_bytes End = 0 ∷ []
+command_bytes (Sizes n m) = 1 ∷ n ∷ m ∷ []
+command_bytes (Row p v) = 2 ∷ p ∷ v ∷ []
+command_bytes (DontCare p) = 3 ∷ p ∷ []
+command_bytes (Gate k a b) = 4 ∷ k ∷ a ∷ b ∷ []
+command_bytes (Output s) = 5 ∷ s ∷ []
+command_bytes (Limit p w) = 6 ∷ p ∷ w % 256 ∷ w / 256 ∷ []
 
 -- commands one after the other, with nothing between
 abbrev pub bytes_of : List Command → List ℕ
-bytes_of = collect commandBytes
+bytes_of = collect command_bytes

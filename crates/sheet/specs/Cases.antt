@@ -1,5 +1,5 @@
 -- What was gathered, with the verdict on it told by its case.
-use Rattle.base.specs.Cases.{Case, verdictCase}
+use Rattle.base.specs.Cases.{Case, verdict_case}
 use Rattle.sheet.specs.declared.Reply.{Reply}
 use Rattle.sheet.specs.declared.Sheet.{Sheet}
 
@@ -7,5 +7,5 @@ pub record SheetReply : Type 0 where
   pub sheet : Sheet
   pub answer : Case
 
-abbrev pub sheetReply : Reply → SheetReply
-sheetReply r = record { sheet = r.sheet; answer = verdictCase r.answer }
+abbrev pub sheet_reply : Reply → SheetReply
+sheet_reply r = record { sheet = r.sheet; answer = verdict_case r.answer }

@@ -4,25 +4,25 @@ use Rattle.std.specs.Int.Bits.{bit_and}
 unfoldable pub use Rattle.base.specs.Tabulate.{tabulate}
 use Rattle.sheet.specs.declared.Command.{Command}
 use Rattle.sheet.specs.declared.Sheet.{Sheet}
-use Rattle.sheet.specs.Limits.{maxPatterns, maxGates, maxOutputs, allOnes}
-use Rattle.sheet.specs.Commands.{inputsOf, wiresOf, rowsOn, has_row, isDontCare, LogicGate, noGate, gatesOf, outputsOf, limitsOn}
+use Rattle.sheet.specs.Limits.{max_patterns, max_gates, max_outputs, all_ones}
+use Rattle.sheet.specs.Commands.{inputs_of, wires_of, rows_on, has_row, is_dont_care, LogicGate, no_gate, gates_of, outputs_of, limits_on}
 
 -- a pattern's mark: it has neither 02 nor 03, it has a 02, it has a 03
-abbrev pub noMark : ℕ
-noMark = 0
+abbrev pub no_mark : ℕ
+no_mark = 0
 
-abbrev pub rowMark : ℕ
-rowMark = 1
+abbrev pub row_mark : ℕ
+row_mark = 1
 
-abbrev pub dontCareMark : ℕ
-dontCareMark = 2
+abbrev pub dont_care_mark : ℕ
+dont_care_mark = 2
 
-abbrev pub markOn : ℕ → List Command → ℕ
-markOn p cs = cond (isDontCare p cs) dontCareMark (cond (has_row p cs) rowMark noMark)
+abbrev pub mark_on : ℕ → List Command → ℕ
+mark_on p cs = cond (is_dont_care p cs) dont_care_mark (cond (has_row p cs) row_mark no_mark)
 
 -- the present value on pattern p; 0 where it has no 02
-abbrev pub presentOn : ℕ → List Command → ℕ
-presentOn p cs = get_or (rowsOn p cs) 0 0
+abbrev pub present_on : ℕ → List Command → ℕ
+present_on p cs = get_or (rows_on p cs) 0 0
 
 -- a set and others, intersected
 unfoldable pub meet : ℕ → List ℕ → ℕ
@@ -30,30 +30,30 @@ meet w [] = w
 meet w (x ∷ xs) = meet (bit_and w x) xs
 
 -- what all 06 for a pattern permit together, out of all values
-abbrev pub limitOn : ℕ → List Command → ℕ
-limitOn p cs = meet (allOnes (wiresOf cs)) (limitsOn p cs)
+abbrev pub limit_on : ℕ → List Command → ℕ
+limit_on p cs = meet (all_ones (wires_of cs)) (limits_on p cs)
 
 -- gate i; all 0 past the last
-abbrev pub gateAt : ℕ → List Command → LogicGate
-gateAt i cs = get_or (gatesOf cs) i noGate
+abbrev pub gate_at : ℕ → List Command → LogicGate
+gate_at i cs = get_or (gates_of cs) i no_gate
 
 -- output i; 0 past the last
-abbrev pub outputAt : ℕ → List Command → ℕ
-outputAt i cs = get_or (outputsOf cs) i 0
+abbrev pub output_at : ℕ → List Command → ℕ
+output_at i cs = get_or (outputs_of cs) i 0
 
 -- what the commands say: n and m; for each pattern its mark, its present value and its permitted values; the gates and the outputs in order
 unfoldable pub gathered : List Command → Sheet
 gathered cs =
     record {
-      n = inputsOf cs;
-      m = wiresOf cs;
-      marks = tabulate maxPatterns (λ p. markOn p cs);
-      values = tabulate maxPatterns (λ p. presentOn p cs);
-      limits = tabulate maxPatterns (λ p. limitOn p cs);
-      gate_count = length (gatesOf cs);
-      kinds = tabulate maxGates (λ i. (gateAt i cs).kind);
-      lefts = tabulate maxGates (λ i. (gateAt i cs).left);
-      rights = tabulate maxGates (λ i. (gateAt i cs).right);
-      output_count = length (outputsOf cs);
-      signals = tabulate maxOutputs (λ i. outputAt i cs);
+      n = inputs_of cs;
+      m = wires_of cs;
+      marks = tabulate max_patterns (λ p. mark_on p cs);
+      values = tabulate max_patterns (λ p. present_on p cs);
+      limits = tabulate max_patterns (λ p. limit_on p cs);
+      gate_count = length (gates_of cs);
+      kinds = tabulate max_gates (λ i. (gate_at i cs).kind);
+      lefts = tabulate max_gates (λ i. (gate_at i cs).left);
+      rights = tabulate max_gates (λ i. (gate_at i cs).right);
+      output_count = length (outputs_of cs);
+      signals = tabulate max_outputs (λ i. output_at i cs);
     }

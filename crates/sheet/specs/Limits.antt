@@ -1,48 +1,48 @@
 -- Document 01, "Unit sheet", and document 02, E5: the limits of a sheet, and tests against them.
 use Rattle.std.specs.Prelude.{ℕ, ◌-◌, ◌^◌, min, Bool, ◌||◌, ltb, leb, eqb}
 
-abbrev pub maxInputs : ℕ
-maxInputs = 6
+abbrev pub max_inputs : ℕ
+max_inputs = 6
 
 -- fewer inputs where the board shares selectors
-abbrev pub maxSharedInputs : ℕ
-maxSharedInputs = 4
+abbrev pub max_shared_inputs : ℕ
+max_shared_inputs = 4
 
-abbrev pub maxWires : ℕ
-maxWires = 4
+abbrev pub max_wires : ℕ
+max_wires = 4
 
-abbrev pub maxGates : ℕ
-maxGates = 32
+abbrev pub max_gates : ℕ
+max_gates = 32
 
-abbrev pub maxOutputs : ℕ
-maxOutputs = 8
+abbrev pub max_outputs : ℕ
+max_outputs = 8
 
 -- the patterns of so many inputs, and the values of so many wires
-abbrev pub maxPatterns : ℕ
-maxPatterns = 2 ^ maxInputs
+abbrev pub max_patterns : ℕ
+max_patterns = 2 ^ max_inputs
 
-abbrev pub maxValues : ℕ
-maxValues = 2 ^ maxWires
+abbrev pub max_values : ℕ
+max_values = 2 ^ max_wires
 
 -- x is outside 1 to k
-abbrev pub countOut : ℕ → ℕ → Bool
-countOut x k = eqb x 0 || ltb k x
+abbrev pub count_out : ℕ → ℕ → Bool
+count_out x k = eqb x 0 || ltb k x
 
 -- n or m is outside its range, with at most so many inputs
-abbrev pub sizesOut : (most n m : ℕ) → Bool
-sizesOut most n m = countOut n most || countOut m maxWires
+abbrev pub sizes_out : (most n m : ℕ) → Bool
+sizes_out most n m = count_out n most || count_out m max_wires
 
 -- x needs more than k bits
-abbrev pub isBeyond : ℕ → ℕ → Bool
-isBeyond k x = leb (2 ^ k) x
+abbrev pub is_beyond : ℕ → ℕ → Bool
+is_beyond k x = leb (2 ^ k) x
 
 -- a set of values is a number of 2 ^ wordPower bits
-abbrev pub wordPower : ℕ
-wordPower = 4
+abbrev pub word_power : ℕ
+word_power = 4
 
-abbrev pub wordBits : ℕ
-wordBits = 2 ^ wordPower
+abbrev pub word_bits : ℕ
+word_bits = 2 ^ word_power
 
 -- 2 ^ k ones, as far as such a number has room for them: all values of k wires, each by its bit
-abbrev pub allOnes : ℕ → ℕ
-allOnes k = 2 ^ min wordBits (2 ^ k) - 1
+abbrev pub all_ones : ℕ → ℕ
+all_ones k = 2 ^ min word_bits (2 ^ k) - 1

@@ -3,9 +3,9 @@
 // before, and a command whose pattern was tested.
 ghost use Rattle.std.specs.Prelude.{◌≡◌, ◌||◌, [], ◌∷◌, ◌+◌, ◌<◌, ◌≤◌, get_or, leb, eqb};
 ghost use Rattle.base.specs.Lowest.{lowest};
-ghost use Rattle.sheet.specs.Gathered.{gathered, noMark};
-ghost use Rattle.sheet.specs.Limits.{maxPatterns};
-ghost use Rattle.sheet.specs.Inner.Gathering.{acceptedReply, patternOf, faultOf, Takes, Judges, Adds, Ends};
+ghost use Rattle.sheet.specs.Gathered.{gathered, no_mark};
+ghost use Rattle.sheet.specs.Limits.{max_patterns};
+ghost use Rattle.sheet.specs.Inner.Gathering.{accepted_reply, pattern_of, fault_of, Takes, Judges, Adds, Ends};
 
 use crate::limits::{all_ones, patterns_of};
 use crate::{Command, Reply, Sheet};
@@ -31,7 +31,7 @@ fn not_made(made: u16, a: u8, b: u8) -> bool
 
 // Why a gate or an output is refused: 6 before 8, and 0 where it is taken.
 fn fault_of(unmade: bool, full: bool) -> u8
-    ensures { result ≡ faultOf unmade full }
+    ensures { result ≡ fault_of unmade full }
 {
     if unmade {
         return Refusal::NO_SIGNAL;
@@ -44,8 +44,8 @@ fn fault_of(unmade: bool, full: bool) -> u8
 
 // The lowest pattern below count that has no mark, or count.
 fn missing(marks: [u8; Sheet::MAX_PATTERNS], count: usize) -> usize
-    requires { count ≤ maxPatterns }
-    ensures { result ≡ lowest count (λ p. eqb (get_or marks p 0) noMark) }
+    requires { count ≤ max_patterns }
+    ensures { result ≡ lowest count (λ p. eqb (get_or marks p 0) no_mark) }
 {
     let mut p = 0;
     while p < count {
@@ -79,7 +79,7 @@ impl Sheet {
     }
 
     fn accept(self) -> Reply
-        ensures { result ≡ acceptedReply self }
+        ensures { result ≡ accepted_reply self }
     {
         Reply {
             sheet: self,
@@ -89,7 +89,7 @@ impl Sheet {
 
     // 02: 7, or the pattern has its value.
     fn row(mut self, p: u8, v: u8, at: usize) -> Reply
-        requires { p < maxPatterns }
+        requires { p < max_patterns }
         ensures { Judges self (Command.Row p v) at result }
     {
         let i = p as usize;
@@ -103,7 +103,7 @@ impl Sheet {
 
     // 03: 7, or the pattern is impossible.
     fn dont_care(mut self, p: u8, at: usize) -> Reply
-        requires { p < maxPatterns }
+        requires { p < max_patterns }
         ensures { Judges self (Command.DontCare p) at result }
     {
         let i = p as usize;
@@ -148,7 +148,7 @@ impl Sheet {
 
     // 06: several for one pattern intersect.
     fn limit(mut self, p: u8, set: u16) -> Sheet
-        requires { p < maxPatterns }
+        requires { p < max_patterns }
         ensures { Takes self (Command.Limit p set) result }
     {
         let i = p as usize;
@@ -159,7 +159,7 @@ impl Sheet {
 
     // One command more, whose first byte is at a place: 6, 7, 8 or taken. The reader has tested the command's pattern.
     pub fn add(self, c: Command, at: usize) -> Reply
-        requires { patternOf c < maxPatterns }
+        requires { pattern_of c < max_patterns }
         ensures { Adds self c at result }
     {
         match c {

@@ -1,7 +1,7 @@
 // Unit sheets: the limits, the commands, and what the commands say, gathered into one sheet.
 ghost use Rattle.std.specs.Prelude.{◌≡◌};
 ghost use Rattle.sheet.specs.Judged.{refused};
-ghost use Rattle.sheet.specs.Inner.Gathering.{gatheredReply};
+ghost use Rattle.sheet.specs.Inner.Gathering.{gathered_reply};
 
 use base::{Refusal, Verdict};
 
@@ -75,7 +75,7 @@ pub struct Reply {
 impl Reply {
     // A refusal writes nothing: what was gathered is dropped.
     pub fn refusal(f: Refusal) -> Reply
-        ensures { result ≡ gatheredReply (refused f) }
+        ensures { result ≡ gathered_reply (refused f) }
     {
         let sheet = Sheet::fresh(0, 0);
         Reply {

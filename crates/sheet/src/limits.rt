@@ -1,6 +1,6 @@
 // Sizes, and numbers of bits, against the limits of a sheet.
 ghost use Rattle.std.specs.Prelude.{◌≡◌, ◌≤◌, ◌^◌, min};
-ghost use Rattle.sheet.specs.Limits.{maxInputs, maxWires, maxPatterns, maxValues, countOut, sizesOut, isBeyond, allOnes};
+ghost use Rattle.sheet.specs.Limits.{max_inputs, max_wires, max_patterns, max_values, count_out, sizes_out, is_beyond, all_ones};
 
 use crate::Sheet;
 
@@ -19,49 +19,49 @@ fn power(k: u8, most: u8) -> u8
 
 // The number of patterns of n inputs, as far as a sheet has room for them.
 pub fn patterns_of(n: u8) -> u8
-    ensures { (result ≡ min maxPatterns (2 ^ n)) × (result ≤ maxPatterns) × (n ≤ maxInputs → result ≡ 2 ^ n) }
+    ensures { (result ≡ min max_patterns (2 ^ n)) × (result ≤ max_patterns) × (n ≤ max_inputs → result ≡ 2 ^ n) }
 {
     power(n, Sheet::MAX_INPUTS)
 }
 
 // The number of values of m wires, likewise.
 pub fn values_of(m: u8) -> u8
-    ensures { (result ≡ min maxValues (2 ^ m)) × (result ≤ maxValues) × (m ≤ maxWires → result ≡ 2 ^ m) }
+    ensures { (result ≡ min max_values (2 ^ m)) × (result ≤ max_values) × (m ≤ max_wires → result ≡ 2 ^ m) }
 {
     power(m, Sheet::MAX_WIRES)
 }
 
 // 2 to the k ones: the set of all values of k wires, as far as a word has room.
 pub fn all_ones(k: u8) -> u16
-    ensures { result ≡ allOnes k }
+    ensures { result ≡ all_ones k }
 {
     ((1u32 << power(k, WORD_POWER)) - 1) as u16
 }
 
 // x needs more than k bits.
 pub fn beyond(k: u8, x: u16) -> bool
-    ensures { result ≡ isBeyond k x }
+    ensures { result ≡ is_beyond k x }
 {
     if k < WORD_BITS { 1 <= x >> k } else { false }
 }
 
 // A set with a value that k wires do not have.
 pub fn bits_past(k: u8, x: u16) -> bool
-    ensures { result ≡ isBeyond (2 ^ k) x }
+    ensures { result ≡ is_beyond (2 ^ k) x }
 {
     beyond(power(k, WORD_POWER), x)
 }
 
 // A count outside 1 to most.
 pub fn count_out(x: u8, most: u8) -> bool
-    ensures { result ≡ countOut x most }
+    ensures { result ≡ count_out x most }
 {
     if x == 0 { true } else { most < x }
 }
 
 // Too few or too many inputs or wires, with at most so many inputs.
 pub fn sizes_out(most: u8, n: u8, m: u8) -> bool
-    ensures { result ≡ sizesOut most n m }
+    ensures { result ≡ sizes_out most n m }
 {
     if count_out(n, most) {
         true

@@ -2,113 +2,113 @@
 use Prim.Native.Nat.{ℕ}
 use mathlib.Core.Path.{◌≡◌, refl}
 use mathlib.Core.List.{List, [], ◌∷◌}
-use Rattle.table.specs.Drawing.{drawnTable, drawnCells, got, noStage}
-use Rattle.base.specs.Cases.{accepting, acceptedOutcome, refusedCase}
-use Rattle.base.specs.Refusals.{refusalAt, cutShort, unknown, outOfRange, trailing, outOfTurn, notAscending, shortBuffer}
+use Rattle.table.specs.Drawing.{drawn_table, drawn_cells, got, no_stage}
+use Rattle.base.specs.Cases.{accepting, accepted_outcome, refused_case}
+use Rattle.base.specs.Refusals.{refusal_at, cut_short, unknown, out_of_range, trailing, out_of_turn, not_ascending, short_buffer}
 use Rattle.base.specs.Lowest.{lowest}
 use Rattle.table.specs.Bits.{bit, sum, of_bits, tabulate}
-use Rattle.table.specs.Cells.{low, high, selectorCells}
-use Rattle.table.specs.Tree.{con, sel, follow, isCon, wiredTrees, treeCells, reduced}
-use Rattle.stage.specs.Steps.{and_then, misplaced, dueNumber, due, operand}
-use Rattle.stage.specs.Bytes.{wiresBytes, stageBytes}
-use Rattle.stage.specs.Read.{wiresAt, nothingAfter, end_at, closed, readSheet}
-use Rattle.stage.specs.Written.{stageDrawn, stageOf, firstOut, written_of}
-use Rattle.stage.specs.Reply.{stageTables}
-use Rattle.stage.specs.TreeBytes.{treeBytes}
-use Rattle.stage.specs.TreeRead.{branchesAt, selectorAt, treeFrom, treeWithin, treeAt, treeWireAt}
-use Rattle.stage.specs.Trees.{treeForm, treeDrawing, readStage}
+use Rattle.table.specs.Cells.{low, high, selector_cells}
+use Rattle.table.specs.Tree.{con, sel, follow, is_con, wired_trees, tree_cells, reduced}
+use Rattle.stage.specs.Steps.{and_then, misplaced, due_number, due, operand}
+use Rattle.stage.specs.Bytes.{wires_bytes, stage_bytes}
+use Rattle.stage.specs.Read.{wires_at, nothing_after, end_at, closed, read_sheet}
+use Rattle.stage.specs.Written.{stage_drawn, stage_of, first_out, written_of}
+use Rattle.stage.specs.Reply.{stage_tables}
+use Rattle.stage.specs.TreeBytes.{tree_bytes}
+use Rattle.stage.specs.TreeRead.{branches_at, selector_at, tree_from, tree_within, tree_at, tree_wire_at}
+use Rattle.stage.specs.Trees.{tree_form, tree_drawing, read_stage}
 
 -- all meanings of reading, and of writing, open
 unfoldable reading : ℕ
-unfolding and_then misplaced dueNumber due operand branchesAt selectorAt treeFrom treeWithin treeAt treeWireAt wiresAt nothingAfter end_at closed readSheet
+unfolding and_then misplaced due_number due operand branches_at selector_at tree_from tree_within tree_at tree_wire_at wires_at nothing_after end_at closed read_sheet
 reading = 0
 
 unfoldable writing : ℕ
-unfolding lowest low high reduced treeBytes wiresBytes stageBytes stageDrawn stageOf firstOut written_of
+unfolding lowest low high reduced tree_bytes wires_bytes stage_bytes stage_drawn stage_of first_out written_of
 writing = 0
 
 -- document 01, "Bench sheets": the stage that the program prints for sheet A
-abbrev stage-a : List ℕ
-stage-a =
+abbrev stage_a : List ℕ
+stage_a =
     0x20 ∷ 0x02 ∷ 0x02 ∷ 0x21 ∷ 0x00 ∷ 0x22 ∷ 0x01 ∷ 0x24 ∷ 0x23 ∷ 0x21 ∷ 0x01 ∷ 0x22 ∷ 0x02 ∷ 0x23 ∷ 0x24 ∷ 0x2F ∷ []
 
-pub a_read : readStage stage-a ≡ got 2 2 (sel 1 (con 1) (con 0) ∷ sel 2 (con 0) (con 1) ∷ [])
+pub a_read : read_stage stage_a ≡ got 2 2 (sel 1 (con 1) (con 0) ∷ sel 2 (con 0) (con 1) ∷ [])
 unfolding reading
 a_read = refl
 
-pub a-tables : stageTables treeDrawing 2 (sel 1 (con 1) (con 0) ∷ sel 2 (con 0) (con 1) ∷ []) ≡ 3 ∷ 10 ∷ 0 ∷ 0 ∷ []
-unfolding stageTables drawnTable of_bits sum tabulate follow bit
-a-tables = refl
+pub a_tables : stage_tables tree_drawing 2 (sel 1 (con 1) (con 0) ∷ sel 2 (con 0) (con 1) ∷ []) ≡ 3 ∷ 10 ∷ 0 ∷ 0 ∷ []
+unfolding stage_tables drawn_table of_bits sum tabulate follow bit
+a_tables = refl
 
 -- the inverted line is a cell, and the straight one is none
-pub a-cells : drawnCells treeDrawing (sel 1 (con 1) (con 0) ∷ sel 2 (con 0) (con 1) ∷ []) ≡ 1
-unfolding drawnCells treeCells isCon wiredTrees selectorCells
-a-cells = refl
+pub a_cells : drawn_cells tree_drawing (sel 1 (con 1) (con 0) ∷ sel 2 (con 0) (con 1) ∷ []) ≡ 1
+unfolding drawn_cells tree_cells is_con wired_trees selector_cells
+a_cells = refl
 
-pub a-bytes : stageOf treeForm 2 2 (3 ∷ 10 ∷ 0 ∷ 0 ∷ []) ≡ stage-a
+pub a_bytes : stage_of tree_form 2 2 (3 ∷ 10 ∷ 0 ∷ 0 ∷ []) ≡ stage_a
 unfolding writing
-a-bytes = refl
+a_bytes = refl
 
 -- its writing: in a buffer that lacks one byte, in one that has just enough, and with a table that has a bit too many
-pub a-written : (written_of treeForm 2 2 (3 ∷ 10 ∷ 0 ∷ 0 ∷ []) 15 ≡ refusedCase (refusalAt shortBuffer 16))
-    × (written_of treeForm 2 2 (3 ∷ 10 ∷ 0 ∷ 0 ∷ []) 16 ≡ accepting acceptedOutcome 16)
-    × (written_of treeForm 2 2 (3 ∷ 16 ∷ 0 ∷ 0 ∷ []) 16 ≡ refusedCase (refusalAt outOfRange 1))
+pub a_written : (written_of tree_form 2 2 (3 ∷ 10 ∷ 0 ∷ 0 ∷ []) 15 ≡ refused_case (refusal_at short_buffer 16))
+    × (written_of tree_form 2 2 (3 ∷ 10 ∷ 0 ∷ 0 ∷ []) 16 ≡ accepting accepted_outcome 16)
+    × (written_of tree_form 2 2 (3 ∷ 16 ∷ 0 ∷ 0 ∷ []) 16 ≡ refused_case (refusal_at out_of_range 1))
 unfolding writing
-a-written = (refl, refl, refl)
+a_written = (refl, refl, refl)
 
 -- document 02, E5: a stage of six inputs, whose wire is the last of them, written and read; its table has the patterns up to 63
-abbrev stage-six : List ℕ
-stage-six = 0x20 ∷ 0x06 ∷ 0x01 ∷ 0x21 ∷ 0x00 ∷ 0x22 ∷ 0x06 ∷ 0x23 ∷ 0x24 ∷ 0x2F ∷ []
+abbrev stage_six : List ℕ
+stage_six = 0x20 ∷ 0x06 ∷ 0x01 ∷ 0x21 ∷ 0x00 ∷ 0x22 ∷ 0x06 ∷ 0x23 ∷ 0x24 ∷ 0x2F ∷ []
 
-pub six-written : written_of treeForm 6 1 (0xAAAAAAAAAAAAAAAA ∷ 0 ∷ 0 ∷ 0 ∷ []) 10 ≡ accepting acceptedOutcome 10
+pub six_written : written_of tree_form 6 1 (0xAAAAAAAAAAAAAAAA ∷ 0 ∷ 0 ∷ 0 ∷ []) 10 ≡ accepting accepted_outcome 10
 unfolding writing
-six-written = refl
+six_written = refl
 
-pub six-bytes : stageOf treeForm 6 1 (0xAAAAAAAAAAAAAAAA ∷ 0 ∷ 0 ∷ 0 ∷ []) ≡ stage-six
+pub six_bytes : stage_of tree_form 6 1 (0xAAAAAAAAAAAAAAAA ∷ 0 ∷ 0 ∷ 0 ∷ []) ≡ stage_six
 unfolding writing
-six-bytes = refl
+six_bytes = refl
 
-pub six-read : readStage stage-six ≡ got 6 1 (sel 6 (con 0) (con 1) ∷ [])
+pub six_read : read_stage stage_six ≡ got 6 1 (sel 6 (con 0) (con 1) ∷ [])
 unfolding reading
-six-read = refl
+six_read = refl
 
-pub six-table : drawnTable treeDrawing 6 (sel 6 (con 0) (con 1)) ≡ 0xAAAAAAAAAAAAAAAA
-unfolding drawnTable of_bits sum follow bit
-six-table = refl
+pub six_table : drawn_table tree_drawing 6 (sel 6 (con 0) (con 1)) ≡ 0xAAAAAAAAAAAAAAAA
+unfolding drawn_table of_bits sum follow bit
+six_table = refl
 
 -- the refusals of a stage sheet
-pub empty-sheet : readStage [] ≡ noStage (refusalAt cutShort 0)
+pub empty_sheet : read_stage [] ≡ no_stage (refusal_at cut_short 0)
 unfolding reading
-empty-sheet = refl
+empty_sheet = refl
 
-pub unknown-byte : readStage (0x25 ∷ []) ≡ noStage (refusalAt unknown 0)
+pub unknown_byte : read_stage (0x25 ∷ []) ≡ no_stage (refusal_at unknown 0)
 unfolding reading
-unknown-byte = refl
+unknown_byte = refl
 
-pub lone-end : readStage (0x2F ∷ []) ≡ noStage (refusalAt outOfTurn 0)
+pub lone_end : read_stage (0x2F ∷ []) ≡ no_stage (refusal_at out_of_turn 0)
 unfolding reading
-lone-end = refl
+lone_end = refl
 
-pub sizes-range : readStage (0x20 ∷ 7 ∷ 1 ∷ []) ≡ noStage (refusalAt outOfRange 0)
+pub sizes_range : read_stage (0x20 ∷ 7 ∷ 1 ∷ []) ≡ no_stage (refusal_at out_of_range 0)
 unfolding reading
-sizes-range = refl
+sizes_range = refl
 
-pub wire-range : readStage (0x20 ∷ 1 ∷ 1 ∷ 0x21 ∷ 1 ∷ []) ≡ noStage (refusalAt outOfRange 3)
+pub wire_range : read_stage (0x20 ∷ 1 ∷ 1 ∷ 0x21 ∷ 1 ∷ []) ≡ no_stage (refusal_at out_of_range 3)
 unfolding reading
-wire-range = refl
+wire_range = refl
 
-pub wire-turn : readStage (0x20 ∷ 1 ∷ 2 ∷ 0x21 ∷ 1 ∷ []) ≡ noStage (refusalAt outOfTurn 3)
+pub wire_turn : read_stage (0x20 ∷ 1 ∷ 2 ∷ 0x21 ∷ 1 ∷ []) ≡ no_stage (refusal_at out_of_turn 3)
 unfolding reading
-wire-turn = refl
+wire_turn = refl
 
-pub descending : readStage (0x20 ∷ 2 ∷ 1 ∷ 0x21 ∷ 0 ∷ 0x22 ∷ 2 ∷ 0x22 ∷ 1 ∷ []) ≡ noStage (refusalAt notAscending 7)
+pub descending : read_stage (0x20 ∷ 2 ∷ 1 ∷ 0x21 ∷ 0 ∷ 0x22 ∷ 2 ∷ 0x22 ∷ 1 ∷ []) ≡ no_stage (refusal_at not_ascending 7)
 unfolding reading
 descending = refl
 
-pub no-second-tree : readStage (0x20 ∷ 1 ∷ 1 ∷ 0x21 ∷ 0 ∷ 0x22 ∷ 1 ∷ 0x23 ∷ []) ≡ noStage (refusalAt cutShort 8)
+pub no_second_tree : read_stage (0x20 ∷ 1 ∷ 1 ∷ 0x21 ∷ 0 ∷ 0x22 ∷ 1 ∷ 0x23 ∷ []) ≡ no_stage (refusal_at cut_short 8)
 unfolding reading
-no-second-tree = refl
+no_second_tree = refl
 
-pub after-end : readStage (0x20 ∷ 1 ∷ 1 ∷ 0x21 ∷ 0 ∷ 0x23 ∷ 0x2F ∷ 0 ∷ []) ≡ noStage (refusalAt trailing 7)
+pub after_end : read_stage (0x20 ∷ 1 ∷ 1 ∷ 0x21 ∷ 0 ∷ 0x23 ∷ 0x2F ∷ 0 ∷ []) ≡ no_stage (refusal_at trailing 7)
 unfolding reading
-after-end = refl
+after_end = refl

@@ -15,8 +15,8 @@ pub record StageForm : Type 1 where
   pub count : (n t : ℕ) → ℕ
   pub reduced : (n t : ℕ) → Shape
   -- a wire as bytes, under its number
-  pub wireBytes : (j : ℕ) → Shape → List ℕ
+  pub wire_bytes : (j : ℕ) → Shape → List ℕ
   -- the first bytes of the sheet's commands
   pub known : ℕ → Bool
   -- wire j of a sheet of n inputs and m wires, read at a place where it is due
-  pub wireAt : (n m j at : ℕ) → List ℕ → Read Shape
+  pub wire_at : (n m j at : ℕ) → List ℕ → Read Shape

@@ -1,14 +1,14 @@
 // The diagrams of a stage sheet, each read to its truth table and its cells. What a number drives and which input it tests is looked up in two arrays.
 // Inner functions: `read_on` has tested the sizes before it calls them.
 ghost use Rattle.std.specs.Prelude.{◌≡◌, List, ℕ, ◌+◌, ◌<◌, ◌≤◌, length, set, drop};
-ghost use Rattle.sheet.specs.Limits.{maxInputs};
-ghost use Rattle.stage.specs.Bytes.{selectorBytes};
+ghost use Rattle.sheet.specs.Limits.{max_inputs};
+ghost use Rattle.stage.specs.Bytes.{selector_bytes};
 ghost use Rattle.stage.specs.Steps.{and_then};
-ghost use Rattle.diagram.specs.Diagram.{Entry, entry, nextNumber, mostEntries, entryPrice, entriesCells};
-ghost use Rattle.diagram.specs.Read.{entryRefusal, entry_at, entries_at, topAt, diagramWireAt};
-ghost use Rattle.diagram.specs.Diagrams.{diagramDrawing};
-ghost use Rattle.stage_reader.specs.Inner.Numbers.{mostNumbers, InputsTell, TablesTell, entryThere, entryBy, Selects, tableBy};
-ghost use Rattle.stage_reader.specs.Inner.Wires.{wireReply, step_of};
+ghost use Rattle.diagram.specs.Diagram.{Entry, entry, next_number, most_entries, entry_price, entries_cells};
+ghost use Rattle.diagram.specs.Read.{entry_refusal, entry_at, entries_at, top_at, diagram_wire_at};
+ghost use Rattle.diagram.specs.Diagrams.{diagram_drawing};
+ghost use Rattle.stage_reader.specs.Inner.Numbers.{most_numbers, InputsTell, TablesTell, entry_there, entry_by, Selects, table_by};
+ghost use Rattle.stage_reader.specs.Inner.Wires.{wire_reply, step_of};
 
 use crate::due::{due_number, turn_number};
 use crate::steps::WireStep;
@@ -31,8 +31,8 @@ const HEAD_BYTES: usize = 3;
 // The number of the refusal of the entry that is to have a number of its own, 0 where it may follow those before it. A test is over both numbers
 // that it names before the next one comes.
 fn entry_refusal(n: u8, own: u8, i: u8, zero: u8, one: u8, inputs: &[u8; NUMBERS]) -> u8
-    requires { own < mostNumbers }
-    ensures { (es : List Entry) → nextNumber es ≡ own → InputsTell n es inputs.now → result ≡ entryRefusal n es (entry i zero one) }
+    requires { own < most_numbers }
+    ensures { (es : List Entry) → next_number es ≡ own → InputsTell n es inputs.now → result ≡ entry_refusal n es (entry i zero one) }
 {
     if count_out(i, n) {
         return Refusal::OUT_OF_RANGE;
@@ -54,8 +54,8 @@ fn entry_refusal(n: u8, own: u8, i: u8, zero: u8, one: u8, inputs: &[u8; NUMBERS
 
 // The same of the entry that stands at a place, if it is whole.
 fn judge_entry(s: &[u8], at: usize, n: u8, own: u8, inputs: &[u8; NUMBERS]) -> u8
-    requires { (at ≤ length s.now) × (own < mostNumbers) }
-    ensures { (es : List Entry) → nextNumber es ≡ own → InputsTell n es inputs.now
+    requires { (at ≤ length s.now) × (own < most_numbers) }
+    ensures { (es : List Entry) → next_number es ≡ own → InputsTell n es inputs.now
         → entry_at n es at (drop at s.now) ≡ entryBy result s.now at }
 {
     if s.len() - at < SELECTOR_BYTES {
@@ -73,8 +73,8 @@ fn keep_entry(
     tables: &mut [u64; NUMBERS],
     inputs: &mut [u8; NUMBERS],
 )
-    requires { (n ≤ maxInputs) × (at + 3 ≤ length s.now) × (own < mostNumbers) × Selects n own tables.old (entryThere s.now at) }
-    ensures { (tables.new ≡ set tables.old own (tableBy n tables.old (entryThere s.now at)))
+    requires { (n ≤ max_inputs) × (at + 3 ≤ length s.now) × (own < most_numbers) × Selects n own tables.old (entry_there s.now at) }
+    ensures { (tables.new ≡ set tables.old own (table_by n tables.old (entry_there s.now at)))
         × (inputs.new ≡ set inputs.old own (entryThere s.now at).input) }
 {
     let i = s[at];
@@ -89,8 +89,8 @@ fn keep_entry(
 // The cells with the entry at a place: one more, whether or not it repeats another and whether or not anything leads to it, but no more where it names the
 // constants 0 and 1 (document 02, E4).
 fn count_entry(s: &[u8], at: usize, cells: u16) -> u16
-    requires { (at + selectorBytes ≤ length s.now) × (cells ≤ mostEntries) }
-    ensures { result ≡ entryPrice (entryThere s.now at) + cells }
+    requires { (at + selector_bytes ≤ length s.now) × (cells ≤ most_entries) }
+    ensures { result ≡ entry_price (entry_there s.now at) + cells }
 {
     if s[at + 1] != 0 {
         return 1 + cells;
@@ -100,8 +100,8 @@ fn count_entry(s: &[u8], at: usize, cells: u16) -> u16
 
 // The top after the entries: a number that an entry or a constant has.
 fn read_top(s: &[u8], at: usize, next: u8, cells: u16, tables: &[u64; NUMBERS]) -> WireStep
-    requires { next ≤ mostNumbers }
-    ensures { (n : ℕ) (es : List Entry) → nextNumber es ≡ next → TablesTell n es tables.now → cells ≡ entriesCells es
+    requires { next ≤ most_numbers }
+    ensures { (n : ℕ) (es : List Entry) → next_number es ≡ next → TablesTell n es tables.now → cells ≡ entries_cells es
         → wireReply result ≡ step_of diagramDrawing n (topAt es at (drop at s.now)) }
 {
     if s.len() <= at {
@@ -120,8 +120,8 @@ fn read_top(s: &[u8], at: usize, next: u8, cells: u16, tables: &[u64; NUMBERS]) 
 
 // So many entries from a place on, and the top.
 fn read_diagram(s: &[u8], from: usize, n: u8, count: u8) -> WireStep
-    requires { (n ≤ maxInputs) × (count ≤ mostEntries) × (from ≤ length s.now) }
-    ensures { wireReply result ≡ step_of diagramDrawing n (and_then (entries_at count n from (drop from s.now)) topAt) }
+    requires { (n ≤ max_inputs) × (count ≤ most_entries) × (from ≤ length s.now) }
+    ensures { wire_reply result ≡ step_of diagram_drawing n (and_then (entries_at count n from (drop from s.now)) top_at) }
 {
     // Numbers 0 and 1 are the constants. They test no input, and so stand for one after all inputs.
     let mut tables = [0u64; NUMBERS];
@@ -152,8 +152,8 @@ fn read_diagram(s: &[u8], from: usize, n: u8, count: u8) -> WireStep
 
 // 26 j c, c entries and the top of wire j.
 pub fn read_diagram_wire(s: &[u8], at: usize, j: u8, n: u8, m: u8) -> WireStep
-    requires { n ≤ maxInputs }
-    ensures { wireReply result ≡ step_of diagramDrawing n (diagramWireAt n m j at (drop at s.now)) }
+    requires { n ≤ max_inputs }
+    ensures { wire_reply result ≡ step_of diagram_drawing n (diagram_wire_at n m j at (drop at s.now)) }
 {
     let f = due_number(BoardKind::Sharing, s, at, 0x26);
     if f != 0 {

@@ -1,6 +1,6 @@
 // Where a command is due, and where a wire is: the number of the refusal, 0 where what is due stands there.
 ghost use Rattle.std.specs.Prelude.{◌≡◌, drop};
-ghost use Rattle.stage.specs.Steps.{misplaced, dueNumber, turnNumber};
+ghost use Rattle.stage.specs.Steps.{misplaced, due_number, turn_number};
 ghost use Rattle.diagram.specs.Forms.{form_of};
 
 use base::Refusal;
@@ -31,7 +31,7 @@ pub fn misplaced_number(kind: BoardKind, b: u8) -> u8
 
 // The number of the refusal where a command is due, or 0 where it stands there.
 pub fn due_number(kind: BoardKind, s: &[u8], at: usize, want: u8) -> u8
-    ensures { result ≡ dueNumber (form_of kind).known want (drop at s.now) }
+    ensures { result ≡ due_number (form_of kind).known want (drop at s.now) }
 {
     if s.len() <= at {
         return Refusal::CUT_SHORT;
@@ -47,7 +47,7 @@ pub fn due_number(kind: BoardKind, s: &[u8], at: usize, want: u8) -> u8
 // The number of the refusal of wire i where wire j of m is due, or 0 where it is that wire; `out` where another operand of its command is out of range,
 // which is judged before its turn is.
 pub fn turn_number(m: u8, j: u8, i: u8, out: bool) -> u8
-    ensures { result ≡ turnNumber m j i out }
+    ensures { result ≡ turn_number m j i out }
 {
     if m <= i {
         return Refusal::OUT_OF_RANGE;

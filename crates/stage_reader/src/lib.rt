@@ -1,14 +1,14 @@
 // The stage reader: what drives each wire, an ordered tree or a diagram by the board, to its truth table and its cells.
 ghost use Rattle.std.specs.Prelude.{◌≡◌, ◌≤◌, drop};
-ghost use Rattle.base.specs.Cases.{acceptedCase, refusedCase, verdictCase};
-ghost use Rattle.sheet.specs.Limits.{maxInputs, maxWires};
-ghost use Rattle.stage.specs.Read.{wiresAt, end_at, closed, readSheet};
-ghost use Rattle.stage.specs.Reply.{refusedReply, replyToStage};
-ghost use Rattle.stage.specs.Trees.{treeDrawing, readStage};
-ghost use Rattle.diagram.specs.Diagrams.{diagramDrawing, readDiagrams};
-ghost use Rattle.diagram.specs.Forms.{form_of, drawingOf};
-ghost use Rattle.stage_reader.specs.Cases.{stageReply};
-ghost use Rattle.stage_reader.specs.Inner.Wires.{wireReply, step_of};
+ghost use Rattle.base.specs.Cases.{accepted_case, refused_case, verdict_case};
+ghost use Rattle.sheet.specs.Limits.{max_inputs, max_wires};
+ghost use Rattle.stage.specs.Read.{wires_at, end_at, closed, read_sheet};
+ghost use Rattle.stage.specs.Reply.{refused_reply, reply_to_stage};
+ghost use Rattle.stage.specs.Trees.{tree_drawing, read_stage};
+ghost use Rattle.diagram.specs.Diagrams.{diagram_drawing, read_diagrams};
+ghost use Rattle.diagram.specs.Forms.{form_of, drawing_of};
+ghost use Rattle.stage_reader.specs.Cases.{stage_reply};
+ghost use Rattle.stage_reader.specs.Inner.Wires.{wire_reply, step_of};
 
 use base::{Refusal, Verdict};
 use diagrams::read_diagram_wire;
@@ -37,7 +37,7 @@ pub struct StageRead {
 
 // 2F, and nothing after it.
 fn read_end(kind: BoardKind, s: &[u8], at: usize) -> Verdict
-    ensures { verdictCase result ≡ end_at (form_of kind).known refusedCase acceptedCase at (drop at s.now) }
+    ensures { verdict_case result ≡ end_at (form_of kind).known refused_case accepted_case at (drop at s.now) }
 {
     let f = due_number(kind, s, at, 0x2F);
     if f != 0 {
@@ -51,7 +51,7 @@ fn read_end(kind: BoardKind, s: &[u8], at: usize) -> Verdict
 
 // A refused sheet leaves nothing of what was read.
 fn no_stage(f: Refusal) -> StageRead
-    ensures { stageReply result ≡ refusedReply f }
+    ensures { stage_reply result ≡ refused_reply f }
 {
     StageRead {
         n: 0,
@@ -64,8 +64,8 @@ fn no_stage(f: Refusal) -> StageRead
 
 // Wire j, which is due. Here the boards part, and where their commands are told (`due`); all else is read alike.
 fn read_wire(kind: BoardKind, s: &[u8], at: usize, j: u8, n: u8, m: u8) -> WireStep
-    requires { n ≤ maxInputs }
-    ensures { wireReply result ≡ step_of (drawingOf kind) n ((form_of kind).wireAt n m j at (drop at s.now)) }
+    requires { n ≤ max_inputs }
+    ensures { wire_reply result ≡ step_of (drawing_of kind) n ((form_of kind).wire_at n m j at (drop at s.now)) }
 {
     match kind {
         BoardKind::Tree => read_tree_wire(s, at, j, n, m),
@@ -75,8 +75,8 @@ fn read_wire(kind: BoardKind, s: &[u8], at: usize, j: u8, n: u8, m: u8) -> WireS
 
 // The wires of a stage sheet from place 3 on, and its end.
 fn read_wires(kind: BoardKind, s: &[u8], n: u8, m: u8) -> StageRead
-    requires { (n ≤ maxInputs) × (m ≤ maxWires) }
-    ensures { stageReply result ≡ replyToStage (drawingOf kind) (closed (form_of kind) n m (wiresAt (form_of kind) m n m 0 3 (drop 3 s.now))) }
+    requires { (n ≤ max_inputs) × (m ≤ max_wires) }
+    ensures { stage_reply result ≡ reply_to_stage (drawing_of kind) (closed (form_of kind) n m (wires_at (form_of kind) m n m 0 3 (drop 3 s.now))) }
 {
     let mut tables = [0u64; Sheet::WIRES];
     let mut cells: u16 = 0;
@@ -113,7 +113,7 @@ fn read_wires(kind: BoardKind, s: &[u8], n: u8, m: u8) -> StageRead
 
 // A whole stage sheet of either board: its tables and its cells, or the refusal.
 pub fn read_on(kind: BoardKind, s: &[u8]) -> StageRead
-    ensures { stageReply result ≡ replyToStage (drawingOf kind) (readSheet (form_of kind) s.now) }
+    ensures { stage_reply result ≡ reply_to_stage (drawing_of kind) (read_sheet (form_of kind) s.now) }
 {
     let f = due_number(kind, s, 0, 0x20);
     if f != 0 {
@@ -132,14 +132,14 @@ pub fn read_on(kind: BoardKind, s: &[u8]) -> StageRead
 
 // A stage sheet of document 01's board, whose wires are trees.
 pub fn read_stage(s: &[u8]) -> StageRead
-    ensures { stageReply result ≡ replyToStage treeDrawing (readStage s.now) }
+    ensures { stage_reply result ≡ reply_to_stage tree_drawing (read_stage s.now) }
 {
     read_on(BoardKind::Tree, s)
 }
 
 // A stage sheet of the board that shares selectors (document 02, E2), whose wires are diagrams. The board has at most four inputs: more are 3 (E5).
 pub fn read_shared(s: &[u8]) -> StageRead
-    ensures { stageReply result ≡ replyToStage diagramDrawing (readDiagrams s.now) }
+    ensures { stage_reply result ≡ reply_to_stage diagram_drawing (read_diagrams s.now) }
 {
     read_on(BoardKind::Sharing, s)
 }

@@ -11,11 +11,11 @@ use lib.ListN.{length, length-append}
 use borrow.Author.Tests.{eq-eqb, ne_eqb}
 use Rattle.table.specs.Cells.{low, high}
 use Rattle.table.specs.Tree.{Tree, sel, selectors, reduced}
-use Rattle.table.proofs.Halves.{low-lt, high_lt}
+use Rattle.table.proofs.Halves.{low_lt, high_lt}
 use Rattle.nodes.specs.Nodes.{Node, node, has, listing}
-use Rattle.stage.specs.TreeBytes.{treeBytes}
-use Rattle.diagram.specs.Written.{nodeNumber, number_of}
-use Rattle.stage_writer.proofs.Keys.{has-number}
+use Rattle.stage.specs.TreeBytes.{tree_bytes}
+use Rattle.diagram.specs.Written.{node_number, number_of}
+use Rattle.stage_writer.proofs.Keys.{has_number}
 
 -- what is told of a table by its halves, at every width but 0
 halved : {A : Type 0} (f : ℕ → ℕ → A) (by : ℕ → ℕ → ℕ → ℕ → A) → ((v t : ℕ) → f (suc v) t ≡ by v t (low v t) (high v t))
@@ -27,7 +27,7 @@ halved f by step (suc v) t half h e = let d : suc v - 1 ≡ v = omega arith in r
 -- the halves of a table are tables of one input less
 pub low_fits : (r t half : ℕ) → half ≡ 2 ^ (2 ^ r) → t % half < 2 ^ (2 ^ r)
 unfolding low
-low_fits r t half e = rw e (low-lt r t)
+low_fits r t half e = rw e (low_lt r t)
 
 pub high_fits : (r t half : ℕ) → half ≡ 2 ^ (2 ^ r) → t < 2 ^ (2 ^ suc r) → t / half < 2 ^ (2 ^ r)
 unfolding high
@@ -36,38 +36,38 @@ high_fits r t half e l = rw e (high_lt r t l)
 module _ (w t half : ℕ) (h : w ≡ 0 → ⊥) (e : half ≡ 2 ^ (2 ^ (w - 1))) where
   module _ (k : ℕ) where
     -- the reduced tree by the trees of the halves
-    reduced-step : reduced w k t ≡ cond (eqb (t % half) (t / half)) (reduced (w - 1) (k + 1) (t % half))
+    reduced_step : reduced w k t ≡ cond (eqb (t % half) (t / half)) (reduced (w - 1) (k + 1) (t % half))
         (sel (k + 1) (reduced (w - 1) (k + 1) (t % half)) (reduced (w - 1) (k + 1) (t / half)))
     unfolding reduced
-    reduced-step =
+    reduced_step =
         halved (λ w t. reduced w k t) (λ v t a b. cond (eqb a b) (reduced v (k + 1) a) (sel (k + 1) (reduced v (k + 1) a) (reduced v (k + 1) b)))
         (λ v t. simp (add-one k)) w t half h e
 
-    pub reduced-same : t % half ≡ t / half → reduced w k t ≡ reduced (w - 1) (k + 1) (t % half)
-    reduced-same q = simp (reduced-step, eq-eqb _ _ q)
+    pub reduced_same : t % half ≡ t / half → reduced w k t ≡ reduced (w - 1) (k + 1) (t % half)
+    reduced_same q = simp (reduced_step, eq-eqb _ _ q)
 
-    pub reduced-two : (t % half ≡ t / half → ⊥) → reduced w k t ≡ sel (k + 1) (reduced (w - 1) (k + 1) (t % half)) (reduced (w - 1) (k + 1) (t / half))
-    reduced-two q = simp (reduced-step, ne_eqb _ _ q)
+    pub reduced_two : (t % half ≡ t / half → ⊥) → reduced w k t ≡ sel (k + 1) (reduced (w - 1) (k + 1) (t % half)) (reduced (w - 1) (k + 1) (t / half))
+    reduced_two q = simp (reduced_step, ne_eqb _ _ q)
 
-    pub same-selectors : t % half ≡ t / half → selectors (reduced w k t) ≡ selectors (reduced (w - 1) (k + 1) (t % half))
-    same-selectors q = ap selectors (reduced-same q)
+    pub same_selectors : t % half ≡ t / half → selectors (reduced w k t) ≡ selectors (reduced (w - 1) (k + 1) (t % half))
+    same_selectors q = ap selectors (reduced_same q)
 
-    pub two-selectors : (t % half ≡ t / half → ⊥)
+    pub two_selectors : (t % half ≡ t / half → ⊥)
         → selectors (reduced w k t) ≡ 1 + selectors (reduced (w - 1) (k + 1) (t % half)) + selectors (reduced (w - 1) (k + 1) (t / half))
     unfolding selectors
-    two-selectors q = omega (arith, ap selectors (reduced-two q))
+    two_selectors q = omega (arith, ap selectors (reduced_two q))
 
-    pub same_length : t % half ≡ t / half → length (treeBytes (reduced w k t)) ≡ length (treeBytes (reduced (w - 1) (k + 1) (t % half)))
-    same_length q = ap (λ (x : Tree). length (treeBytes x)) (reduced-same q)
+    pub same_length : t % half ≡ t / half → length (tree_bytes (reduced w k t)) ≡ length (tree_bytes (reduced (w - 1) (k + 1) (t % half)))
+    same_length q = ap (λ (x : Tree). length (tree_bytes x)) (reduced_same q)
 
-    pub two-length : (t % half ≡ t / half → ⊥)
-        → length (treeBytes (reduced w k t))
-        ≡ 2 + length (treeBytes (reduced (w - 1) (k + 1) (t % half))) + length (treeBytes (reduced (w - 1) (k + 1) (t / half)))
-    unfolding treeBytes
-    two-length q =
-        let z = treeBytes (reduced (w - 1) (k + 1) (t % half)) in
-        let o = treeBytes (reduced (w - 1) (k + 1) (t / half)) in
-        omega (arith, ap (λ (x : Tree). length (treeBytes x)) (reduced-two q), length-append z o)
+    pub two_length : (t % half ≡ t / half → ⊥)
+        → length (tree_bytes (reduced w k t))
+        ≡ 2 + length (tree_bytes (reduced (w - 1) (k + 1) (t % half))) + length (tree_bytes (reduced (w - 1) (k + 1) (t / half)))
+    unfolding tree_bytes
+    two_length q =
+        let z = tree_bytes (reduced (w - 1) (k + 1) (t % half)) in
+        let o = tree_bytes (reduced (w - 1) (k + 1) (t / half)) in
+        omega (arith, ap (λ (x : Tree). length (tree_bytes x)) (reduced_two q), length-append z o)
 
   module _ (seen : List Node) where
     listing_step : listing w t seen
@@ -79,23 +79,23 @@ module _ (w t half : ℕ) (h : w ≡ 0 → ⊥) (e : half ≡ 2 ^ (2 ^ (w - 1)))
         (λ v t a b. cond (eqb a b) (listing v a seen) (cond (has seen (node v t)) seen (node v t ∷ listing v b (listing v a seen))))
         (λ v t. refl) w t half h e
 
-    pub listing-same : t % half ≡ t / half → listing w t seen ≡ listing (w - 1) (t % half) seen
-    listing-same q = simp (listing_step, eq-eqb _ _ q)
+    pub listing_same : t % half ≡ t / half → listing w t seen ≡ listing (w - 1) (t % half) seen
+    listing_same q = simp (listing_step, eq-eqb _ _ q)
 
     module _ (differ : t % half ≡ t / half → ⊥) where
-      pub listing-old : (nodeNumber seen (node (w - 1) t) ≡ 0 → ⊥) → listing w t seen ≡ seen
-      listing-old q = simp (listing_step, ne_eqb _ _ differ, has-number seen (node (w - 1) t), ne_eqb _ _ q)
+      pub listing_old : (node_number seen (node (w - 1) t) ≡ 0 → ⊥) → listing w t seen ≡ seen
+      listing_old q = simp (listing_step, ne_eqb _ _ differ, has_number seen (node (w - 1) t), ne_eqb _ _ q)
 
-      pub listing-new : nodeNumber seen (node (w - 1) t) ≡ 0 → listing w t seen ≡ node (w - 1) t ∷ listing (w - 1) (t / half) (listing (w - 1) (t % half) seen)
-      listing-new q = simp (listing_step, ne_eqb _ _ differ, has-number seen (node (w - 1) t), eq-eqb _ _ q)
+      pub listing_new : node_number seen (node (w - 1) t) ≡ 0 → listing w t seen ≡ node (w - 1) t ∷ listing (w - 1) (t / half) (listing (w - 1) (t % half) seen)
+      listing_new q = simp (listing_step, ne_eqb _ _ differ, has_number seen (node (w - 1) t), eq-eqb _ _ q)
 
   module _ (ks : List Node) where
-    number_step : number_of ks w t ≡ cond (eqb (t % half) (t / half)) (number_of ks (w - 1) (t % half)) (nodeNumber ks (node (w - 1) t))
+    number_step : number_of ks w t ≡ cond (eqb (t % half) (t / half)) (number_of ks (w - 1) (t % half)) (node_number ks (node (w - 1) t))
     unfolding number_of
-    number_step = halved (number_of ks) (λ v t a b. cond (eqb a b) (number_of ks v a) (nodeNumber ks (node v t))) (λ v t. refl) w t half h e
+    number_step = halved (number_of ks) (λ v t a b. cond (eqb a b) (number_of ks v a) (node_number ks (node v t))) (λ v t. refl) w t half h e
 
     pub number_same : t % half ≡ t / half → number_of ks w t ≡ number_of ks (w - 1) (t % half)
     number_same q = simp (number_step, eq-eqb _ _ q)
 
-    pub number-node : (t % half ≡ t / half → ⊥) → number_of ks w t ≡ nodeNumber ks (node (w - 1) t)
-    number-node q = simp (number_step, ne_eqb _ _ q)
+    pub number_node : (t % half ≡ t / half → ⊥) → number_of ks w t ≡ node_number ks (node (w - 1) t)
+    number_node q = simp (number_step, ne_eqb _ _ q)

@@ -6,66 +6,66 @@ use native.Mathlib.Omega.{arith}
 use native.Mathlib.Numerals.{add-one}
 use lib.ListN.{length, get_or, set, take, drop, length-append, drop_of_length-le}
 use lib.Seq.{sets, length-sets, drop-cons, get_or-take, length-take-le}
-use Rattle.base.proofs.Tabulate.{sets-append}
+use Rattle.base.proofs.Tabulate.{sets_append}
 use Rattle.table.specs.Tree.{Tree, sel}
 use Rattle.stage.specs.Form.{StageForm}
-use Rattle.stage.specs.Bytes.{wiresBytes, stageBytes}
-use Rattle.stage.specs.TreeBytes.{treeBytes}
+use Rattle.stage.specs.Bytes.{wires_bytes, stage_bytes}
+use Rattle.stage.specs.TreeBytes.{tree_bytes}
 use Rattle.base.specs.Inner.Put.{Put}
 use Rattle.base.proofs.Stores.{put_then}
-use Rattle.stage.specs.Written.{stageDrawn, stageOf}
+use Rattle.stage.specs.Written.{stage_drawn, stage_of}
 
 -- one store
-pub one-stored : {l b : List ℕ} {at x : ℕ} → b ≡ set l at x → Put l at (x ∷ []) b (at + 1)
-one-stored e = record { stored = e; past = refl }
+pub one_stored : {l b : List ℕ} {at x : ℕ} → b ≡ set l at x → Put l at (x ∷ []) b (at + 1)
+one_stored e = record { stored = e; past = refl }
 
 -- two stores, one after the other
-pub two-stored : (l b1 b2 : List ℕ) (at x y : ℕ) → b1 ≡ set l at x → b2 ≡ set b1 (at + 1) y → Put l at (x ∷ y ∷ []) b2 (at + 2)
-two-stored l b1 b2 at x y e1 e2 = record { stored = let s : suc at ≡ at + 1 = omega arith in cc; past = refl }
+pub two_stored : (l b1 b2 : List ℕ) (at x y : ℕ) → b1 ≡ set l at x → b2 ≡ set b1 (at + 1) y → Put l at (x ∷ y ∷ []) b2 (at + 2)
+two_stored l b1 b2 at x y e1 e2 = record { stored = let s : suc at ≡ at + 1 = omega arith in cc; past = refl }
 
 -- no store changes a length
-pub put-length : {l x b : List ℕ} {at next : ℕ} → Put l at x b next → length b ≡ length l
-put-length {l} {x} {b} {at} {next} p = ap length p.stored ∙ length-sets l at x
+pub put_length : {l x b : List ℕ} {at next : ℕ} → Put l at x b next → length b ≡ length l
+put_length {l} {x} {b} {at} {next} p = ap length p.stored ∙ length-sets l at x
 
 -- a run of stores done, and what remains of it
 pub stored_on : (l b x y g : List ℕ) (at next : ℕ) → Put l at x b next → sets l at (x ++ y) ≡ g → sets b next y ≡ g
-stored_on l b x y g at next e h = cc (sets-append l at x y, e.stored, e.past)
+stored_on l b x y g at next e h = cc (sets_append l at x y, e.stored, e.past)
 
 -- what the three calls of a selector leave
-pub selector-stored : {l b1 b2 b3 : List ℕ} (z o : Tree) {at : ℕ} (k : ℕ) {first second past : ℕ} → Put l at (0x22 ∷ k ∷ []) b1 first
-    → Put b1 first (treeBytes z) b2 second → Put b2 second (treeBytes o) b3 past → Put l at (treeBytes (sel k z o)) b3 past
-unfolding treeBytes
-selector-stored z o k e f g = put_then e (put_then f g)
+pub selector_stored : {l b1 b2 b3 : List ℕ} (z o : Tree) {at : ℕ} (k : ℕ) {first second past : ℕ} → Put l at (0x22 ∷ k ∷ []) b1 first
+    → Put b1 first (tree_bytes z) b2 second → Put b2 second (tree_bytes o) b3 past → Put l at (tree_bytes (sel k z o)) b3 past
+unfolding tree_bytes
+selector_stored z o k e f g = put_then e (put_then f g)
 
 -- the wires from j on
-abbrev pub wiresFrom : StageForm → ℕ → ℕ → ℕ → List ℕ → List ℕ
-wiresFrom F n m j tables = wiresBytes F j (map (F.reduced n) (drop j (take m tables)))
+abbrev pub wires_from : StageForm → ℕ → ℕ → ℕ → List ℕ → List ℕ
+wires_from F n m j tables = wires_bytes F j (map (F.reduced n) (drop j (take m tables)))
 
 module _ (F : StageForm) (n m j : ℕ) (tables : List ℕ) (fits : m ≤ length tables) where
-  pub wires-step : j < m → wiresFrom F n m j tables ≡ F.wireBytes j (F.reduced n (get_or tables j 0)) ++ wiresFrom F n m (j + 1) tables
-  unfolding wiresBytes
-  wires-step h =
+  pub wires_step : j < m → wires_from F n m j tables ≡ F.wire_bytes j (F.reduced n (get_or tables j 0)) ++ wires_from F n m (j + 1) tables
+  unfolding wires_bytes
+  wires_step h =
       let l : j < length (take m tables) = rw (length-take-le m tables fits) h in
       rw (drop-cons (take m tables) j 0 l, get_or-take m tables j 0 h, add-one j)
 
-  pub wires-end : m ≤ j → wiresFrom F n m j tables ≡ []
-  unfolding wiresBytes
-  wires-end h = rw (drop_of_length-le (take m tables) {i = j} (rw (length-take-le m tables fits) h))
+  pub wires_end : m ≤ j → wires_from F n m j tables ≡ []
+  unfolding wires_bytes
+  wires_end h = rw (drop_of_length-le (take m tables) {i = j} (rw (length-take-le m tables fits) h))
 
   -- the next wire is within the stage
-  pub wire-fits : (at most : ℕ) → length (stageOf F n m tables) ≤ most → j < m
-      → at + length (wiresFrom F n m j tables) ≡ 3 + length (wiresBytes F 0 (stageDrawn F n m tables))
-      → at + length (F.wireBytes j (F.reduced n (get_or tables j 0))) ≤ most
-  unfolding stageOf stageBytes
-  wire-fits at most short h e =
-      let x = F.wireBytes j (F.reduced n (get_or tables j 0)) in
-      let y = wiresFrom F n m (j + 1) tables in
-      let all = length-append (wiresBytes F 0 (stageDrawn F n m tables)) (0x2F ∷ []) in
-      omega (arith, e, ap length (wires-step h), length-append x y, all, short)
+  pub wire_fits : (at most : ℕ) → length (stage_of F n m tables) ≤ most → j < m
+      → at + length (wires_from F n m j tables) ≡ 3 + length (wires_bytes F 0 (stage_drawn F n m tables))
+      → at + length (F.wire_bytes j (F.reduced n (get_or tables j 0))) ≤ most
+  unfolding stage_of stage_bytes
+  wire_fits at most short h e =
+      let x = F.wire_bytes j (F.reduced n (get_or tables j 0)) in
+      let y = wires_from F n m (j + 1) tables in
+      let all = length-append (wires_bytes F 0 (stage_drawn F n m tables)) (0x2F ∷ []) in
+      omega (arith, e, ap length (wires_step h), length-append x y, all, short)
 
 -- what the calls that write a stage leave
-pub stage-stored : (F : StageForm) (l b1 b2 b3 b4 b5 tables : List ℕ) (n m at : ℕ) → b1 ≡ set l 0 0x20 → b2 ≡ set b1 1 n → b3 ≡ set b2 2 m
-    → Put b3 3 (wiresBytes F 0 (stageDrawn F n m tables)) b4 at → b5 ≡ set b4 at 0x2F → b5 ≡ sets l 0 (stageOf F n m tables)
-unfolding stageOf stageBytes
-stage-stored F l b1 b2 b3 b4 b5 tables n m at e1 e2 e3 e4 e5 =
-    cc (sets-append (set (set (set l 0 0x20) 1 n) 2 m) 3 (wiresBytes F 0 (stageDrawn F n m tables)) (0x2F ∷ []), e4.stored, e4.past)
+pub stage_stored : (F : StageForm) (l b1 b2 b3 b4 b5 tables : List ℕ) (n m at : ℕ) → b1 ≡ set l 0 0x20 → b2 ≡ set b1 1 n → b3 ≡ set b2 2 m
+    → Put b3 3 (wires_bytes F 0 (stage_drawn F n m tables)) b4 at → b5 ≡ set b4 at 0x2F → b5 ≡ sets l 0 (stage_of F n m tables)
+unfolding stage_of stage_bytes
+stage_stored F l b1 b2 b3 b4 b5 tables n m at e1 e2 e3 e4 e5 =
+    cc (sets_append (set (set (set l 0 0x20) 1 n) 2 m) 3 (wires_bytes F 0 (stage_drawn F n m tables)) (0x2F ∷ []), e4.stored, e4.past)

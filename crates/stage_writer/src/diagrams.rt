@@ -1,13 +1,13 @@
 // The bytes of a wire that is a diagram: an entry for each node of the wire's table, in the order in which the nodes are listed.
 // Inner functions: `write_on` has tested sizes and tables before it calls them, and the buffer before any of them writes.
 ghost use Rattle.std.specs.Prelude.{◌≡◌, [], ℕ, ◌+◌, ◌*◌, ◌^◌, ◌<◌, ◌≤◌, length, get_or};
-ghost use Rattle.sheet.specs.Limits.{maxSharedInputs};
+ghost use Rattle.sheet.specs.Limits.{max_shared_inputs};
 ghost use Rattle.nodes.specs.Nodes.{node, listing};
-ghost use Rattle.stage.specs.Bytes.{selectorBytes};
-ghost use Rattle.diagram.specs.Bytes.{entryBytes, entriesBytes, diagramWireBytes, mostNodes, longestWritten};
-ghost use Rattle.diagram.specs.Written.{nodeNumber, number_of, entry_of, entriesOf, reducedDiagram};
+ghost use Rattle.stage.specs.Bytes.{selector_bytes};
+ghost use Rattle.diagram.specs.Bytes.{entry_bytes, entries_bytes, diagram_wire_bytes, most_nodes, longest_written};
+ghost use Rattle.diagram.specs.Written.{node_number, number_of, entry_of, entries_of, reduced_diagram};
 ghost use Rattle.base.specs.Inner.Put.{Put};
-ghost use Rattle.stage_writer.specs.Inner.Keys.{node_of, nodesIn, Listed, Added, Keyed};
+ghost use Rattle.stage_writer.specs.Inner.Keys.{node_of, nodes_in, Listed, Added, Keyed};
 
 use crate::common::{half_of, put_three};
 use base::put;
@@ -16,7 +16,7 @@ use table::picks::NARROW_SPACE;
 
 // What halves a table of one input more than v, as `half_of` has it: this board's tables are of so few inputs that 16 bits have room for them.
 fn narrow_half(v: u8) -> u16
-    requires { v < maxSharedInputs }
+    requires { v < max_shared_inputs }
     ensures { result ≡ 2 ^ (2 ^ v) }
 {
     half_of(v) as u16
@@ -31,8 +31,8 @@ fn key_of(after: u8, table: u16) -> u32
 
 // The number of a listed node; 0, which is a constant's and no node's, where it is not listed.
 fn node_number(keys: &[u32; MOST_NODES], count: u8, key: u32) -> u8
-    requires { count ≤ mostNodes }
-    ensures { result ≡ nodeNumber (nodesIn keys.now count) (node_of key) }
+    requires { count ≤ most_nodes }
+    ensures { result ≡ node_number (nodes_in keys.now count) (node_of key) }
 {
     let mut left = count;
     while 0 < left {
@@ -46,7 +46,7 @@ fn node_number(keys: &[u32; MOST_NODES], count: u8, key: u32) -> u8
 
 // Lists one node more.
 fn add_node(keys: &mut [u32; MOST_NODES], count: u8, key: u32) -> u8
-    requires { (count < mostNodes) × (length keys.old ≡ mostNodes) }
+    requires { (count < most_nodes) × (length keys.old ≡ most_nodes) }
     ensures { Added (node_of key) keys.old count keys.new result }
 {
     keys[count as usize] = key;
@@ -56,7 +56,7 @@ fn add_node(keys: &mut [u32; MOST_NODES], count: u8, key: u32) -> u8
 // Lists the nodes of a table of w inputs that are not listed yet, and hands back how many are listed then. The half for 0 comes first, and the table itself
 // after both halves. Where it is listed its halves are too, so nothing is left to do.
 fn list_nodes(keys: &mut [u32; MOST_NODES], count: u8, w: u8, t: u16) -> u8
-    requires { (w ≤ maxSharedInputs) × (count + 2 ^ w ≤ 2 ^ maxSharedInputs) × (length keys.old ≡ mostNodes) }
+    requires { (w ≤ max_shared_inputs) × (count + 2 ^ w ≤ 2 ^ max_shared_inputs) × (length keys.old ≡ most_nodes) }
     ensures { Listed w t keys.old count keys.new result }
 {
     if w == 0 {
@@ -80,8 +80,8 @@ fn list_nodes(keys: &mut [u32; MOST_NODES], count: u8, w: u8, t: u16) -> u8
 
 // How many entries are written of a table: its nodes, whether or not they count.
 pub fn entry_count(n: u8, t: u16) -> u8
-    requires { n ≤ maxSharedInputs }
-    ensures { (result ≡ length (listing n t [])) × (result ≤ mostNodes) }
+    requires { n ≤ max_shared_inputs }
+    ensures { (result ≡ length (listing n t [])) × (result ≤ most_nodes) }
 {
     let mut keys: [u32; MOST_NODES] = [0; MOST_NODES];
     list_nodes(&mut keys, 0, n, t)
@@ -89,8 +89,8 @@ pub fn entry_count(n: u8, t: u16) -> u8
 
 // The number of a table of w inputs. Inputs that it does not depend on are passed over; what is left is a listed node or a constant.
 fn number_of(keys: &[u32; MOST_NODES], count: u8, w: u8, t: u16) -> u8
-    requires { (count ≤ mostNodes) × (w ≤ maxSharedInputs) × (t < 2 ^ (2 ^ w)) }
-    ensures { result ≡ number_of (nodesIn keys.now count) w t }
+    requires { (count ≤ most_nodes) × (w ≤ max_shared_inputs) × (t < 2 ^ (2 ^ w)) }
+    ensures { result ≡ number_of (nodes_in keys.now count) w t }
 {
     let mut left = w;
     let mut part = t;
@@ -109,8 +109,8 @@ fn number_of(keys: &[u32; MOST_NODES], count: u8, w: u8, t: u16) -> u8
 
 // Writes the entry of node k of a table of n inputs: its input, and the numbers of its halves among the nodes before it.
 fn put_entry(buffer: &mut [u8], at: usize, keys: &[u32; MOST_NODES], k: u8, n: u8) -> usize
-    requires { (k < mostNodes) × (n ≤ maxSharedInputs) × Keyed n (get_or keys.now k 0) × (at + selectorBytes ≤ longestWritten) }
-    ensures { Put buffer.old at (entryBytes (entry_of n (nodesIn keys.now k) (node_of (get_or keys.now k 0)))) buffer.new result }
+    requires { (k < most_nodes) × (n ≤ max_shared_inputs) × Keyed n (get_or keys.now k 0) × (at + selector_bytes ≤ longest_written) }
+    ensures { Put buffer.old at (entry_bytes (entry_of n (nodes_in keys.now k) (node_of (get_or keys.now k 0)))) buffer.new result }
 {
     let key = keys[k as usize];
     let after = (key / NARROW_SPACE) as u8;
@@ -123,8 +123,8 @@ fn put_entry(buffer: &mut [u8], at: usize, keys: &[u32; MOST_NODES], k: u8, n: u
 
 // Writes the entries of the listed nodes from the first on, and hands back the place after them.
 fn put_entries(buffer: &mut [u8], at: usize, keys: &[u32; MOST_NODES], count: u8, n: u8) -> usize
-    requires { (count ≤ mostNodes) × (n ≤ maxSharedInputs) × ((k : ℕ) → k < count → Keyed n (get_or keys.now k 0)) × (at + selectorBytes * count ≤ longestWritten) }
-    ensures { Put buffer.old at (entriesBytes (entriesOf n (nodesIn keys.now count))) buffer.new result }
+    requires { (count ≤ most_nodes) × (n ≤ max_shared_inputs) × ((k : ℕ) → k < count → Keyed n (get_or keys.now k 0)) × (at + selector_bytes * count ≤ longest_written) }
+    ensures { Put buffer.old at (entries_bytes (entries_of n (nodes_in keys.now count))) buffer.new result }
 {
     let mut next = at;
     let mut k: u8 = 0;
@@ -137,8 +137,8 @@ fn put_entries(buffer: &mut [u8], at: usize, keys: &[u32; MOST_NODES], count: u8
 
 // Writes wire j, and hands back the place after it.
 pub fn put_diagram_wire(buffer: &mut [u8], at: usize, n: u8, j: u8, t: u16) -> usize
-    requires { (n ≤ maxSharedInputs) × (t < 2 ^ (2 ^ n)) × (at + length (diagramWireBytes j (reducedDiagram n t)) ≤ longestWritten) }
-    ensures { Put buffer.old at (diagramWireBytes j (reducedDiagram n t)) buffer.new result }
+    requires { (n ≤ max_shared_inputs) × (t < 2 ^ (2 ^ n)) × (at + length (diagram_wire_bytes j (reduced_diagram n t)) ≤ longest_written) }
+    ensures { Put buffer.old at (diagram_wire_bytes j (reduced_diagram n t)) buffer.new result }
 {
     let mut keys: [u32; MOST_NODES] = [0; MOST_NODES];
     let count = list_nodes(&mut keys, 0, n, t);

@@ -1,10 +1,10 @@
 // The stage writer: what drives each wire, made from the wire's table, at the start of a lent buffer. It serves both boards: sizes are tested by the board's own, and `wires` looks at which it is.
 ghost use Rattle.std.specs.Prelude.{◌≡◌, length};
-ghost use Rattle.stage.specs.Trees.{treeForm};
-ghost use Rattle.stage.specs.Written.{written_of, bufferAfter};
-ghost use Rattle.diagram.specs.Diagrams.{diagramForm};
+ghost use Rattle.stage.specs.Trees.{tree_form};
+ghost use Rattle.stage.specs.Written.{written_of, buffer_after};
+ghost use Rattle.diagram.specs.Diagrams.{diagram_form};
 ghost use Rattle.diagram.specs.Forms.{form_of};
-ghost use Rattle.base.specs.Cases.{writtenCase};
+ghost use Rattle.base.specs.Cases.{written_case};
 
 use base::{Refusal, Written};
 use nodes::{BoardKind, most_inputs};
@@ -28,7 +28,7 @@ pub fn write_on(
     tables: [u64; Sheet::WIRES],
     buffer: &mut [u8],
 ) -> Written
-    ensures { (writtenCase result ≡ written_of (form_of kind) n m tables (length buffer.old))
+    ensures { (written_case result ≡ written_of (form_of kind) n m tables (length buffer.old))
         × (buffer.new ≡ bufferAfter (form_of kind) n m tables buffer.old) }
 {
     if sizes_out(most_inputs(kind), n, m) {
@@ -48,14 +48,14 @@ pub fn write_on(
 
 // A stage of trees.
 pub fn write_stage(n: u8, m: u8, tables: [u64; Sheet::WIRES], buffer: &mut [u8]) -> Written
-    ensures { (writtenCase result ≡ written_of treeForm n m tables (length buffer.old)) × (buffer.new ≡ bufferAfter treeForm n m tables buffer.old) }
+    ensures { (written_case result ≡ written_of tree_form n m tables (length buffer.old)) × (buffer.new ≡ buffer_after tree_form n m tables buffer.old) }
 {
     write_on(BoardKind::Tree, n, m, tables, buffer)
 }
 
 // A stage of diagrams (document 02, E2). Their board has at most four inputs: more are 3 (E5).
 pub fn write_shared(n: u8, m: u8, tables: [u64; Sheet::WIRES], buffer: &mut [u8]) -> Written
-    ensures { (writtenCase result ≡ written_of diagramForm n m tables (length buffer.old)) × (buffer.new ≡ bufferAfter diagramForm n m tables buffer.old) }
+    ensures { (written_case result ≡ written_of diagram_form n m tables (length buffer.old)) × (buffer.new ≡ buffer_after diagram_form n m tables buffer.old) }
 {
     write_on(BoardKind::Sharing, n, m, tables, buffer)
 }

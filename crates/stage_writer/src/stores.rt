@@ -2,12 +2,12 @@
 // Inner functions: `write_on` has tested sizes, tables and buffer before it calls them.
 ghost use Rattle.std.specs.Prelude.{◌≡◌, ℕ, ◌^◌, ◌<◌, ◌≤◌, get_or};
 ghost use Rattle.std.proofs.lemmas.List.Edits.{sets};
-ghost use Rattle.sheet.specs.Limits.{maxWires};
-ghost use Rattle.nodes.specs.Counts.{mostInputs};
-ghost use Rattle.stage.specs.Bytes.{wiresBytes};
+ghost use Rattle.sheet.specs.Limits.{max_wires};
+ghost use Rattle.nodes.specs.Counts.{most_inputs};
+ghost use Rattle.stage.specs.Bytes.{wires_bytes};
 ghost use Rattle.diagram.specs.Forms.{form_of};
 ghost use Rattle.base.specs.Inner.Put.{Put};
-ghost use Rattle.stage.specs.Written.{stageDrawn, stageOf};
+ghost use Rattle.stage.specs.Written.{stage_drawn, stage_of};
 
 use crate::wires::put_wire;
 use base::put;
@@ -16,8 +16,8 @@ use sheet::Sheet;
 
 // Writes the wires of a stage from place 3 on, and hands back the place after them.
 fn put_wires(kind: BoardKind, buffer: &mut [u8], n: u8, m: u8, tables: [u64; Sheet::WIRES]) -> usize
-    requires { (n ≤ mostInputs kind) × (m ≤ maxWires) × ((j : ℕ) → j < m → get_or tables j 0 < 2 ^ (2 ^ n)) }
-    ensures { Put buffer.old 3 (wiresBytes (form_of kind) 0 (stageDrawn (form_of kind) n m tables)) buffer.new result }
+    requires { (n ≤ most_inputs kind) × (m ≤ max_wires) × ((j : ℕ) → j < m → get_or tables j 0 < 2 ^ (2 ^ n)) }
+    ensures { Put buffer.old 3 (wires_bytes (form_of kind) 0 (stage_drawn (form_of kind) n m tables)) buffer.new result }
 {
     let mut at: usize = 3;
     let mut j: u8 = 0;
@@ -30,8 +30,8 @@ fn put_wires(kind: BoardKind, buffer: &mut [u8], n: u8, m: u8, tables: [u64; She
 
 // Writes a stage at the start of a buffer that is long enough.
 pub fn put_sheet(kind: BoardKind, buffer: &mut [u8], n: u8, m: u8, tables: [u64; Sheet::WIRES])
-    requires { (n ≤ mostInputs kind) × (m ≤ maxWires) × ((j : ℕ) → j < m → get_or tables j 0 < 2 ^ (2 ^ n)) }
-    ensures { buffer.new ≡ sets buffer.old 0 (stageOf (form_of kind) n m tables) }
+    requires { (n ≤ most_inputs kind) × (m ≤ max_wires) × ((j : ℕ) → j < m → get_or tables j 0 < 2 ^ (2 ^ n)) }
+    ensures { buffer.new ≡ sets buffer.old 0 (stage_of (form_of kind) n m tables) }
 {
     put(buffer, 0, 0x20);
     put(buffer, 1, n);

@@ -1,12 +1,12 @@
 // The tables of a stage that is to be written: whether they are in range, their selectors, and how long the stage will be.
 // Inner functions: `write_on` has tested the sizes before it calls them, and the tables before their selectors are counted.
 ghost use Rattle.std.specs.Prelude.{◌≡◌, ℕ, ◌+◌, ◌*◌, ◌^◌, ◌<◌, ◌≤◌, get_or};
-ghost use Rattle.sheet.specs.Limits.{maxWires};
-ghost use Rattle.nodes.specs.Counts.{mostInputs};
+ghost use Rattle.sheet.specs.Limits.{max_wires};
+ghost use Rattle.nodes.specs.Counts.{most_inputs};
 ghost use Rattle.table.specs.Cells.{wires, total};
-ghost use Rattle.stage.specs.Bytes.{sheetFrame, selectorBytes};
-ghost use Rattle.stage.specs.Written.{firstOut};
-ghost use Rattle.stage_writer.specs.Inner.Wires.{frame_of, selectorsOf};
+ghost use Rattle.stage.specs.Bytes.{sheet_frame, selector_bytes};
+ghost use Rattle.stage.specs.Written.{first_out};
+ghost use Rattle.stage_writer.specs.Inner.Wires.{frame_of, selectors_of};
 
 use crate::wires::{frame, selectors};
 use nodes::BoardKind;
@@ -16,8 +16,8 @@ use table::tables::table_out;
 
 // The first wire whose table has bits past the patterns of n inputs, or m.
 pub fn first_out(n: u8, m: u8, tables: [u64; Sheet::WIRES]) -> u8
-    requires { m ≤ maxWires }
-    ensures { result ≡ firstOut n m tables }
+    requires { m ≤ max_wires }
+    ensures { result ≡ first_out n m tables }
 {
     let mut j: u8 = 0;
     while j < m {
@@ -31,8 +31,8 @@ pub fn first_out(n: u8, m: u8, tables: [u64; Sheet::WIRES]) -> u8
 
 // The selectors of a stage whose tables are of n inputs. Six inputs have 63 in a table at most, so that a byte counts those of four wires.
 pub fn stage_selectors(kind: BoardKind, n: u8, m: u8, tables: [u64; Sheet::WIRES]) -> u8
-    requires { (n ≤ mostInputs kind) × (m ≤ maxWires) × ((j : ℕ) → j < m → get_or tables j 0 < 2 ^ (2 ^ n)) }
-    ensures { result ≡ total (selectorsOf kind n) m (wires tables) }
+    requires { (n ≤ most_inputs kind) × (m ≤ max_wires) × ((j : ℕ) → j < m → get_or tables j 0 < 2 ^ (2 ^ n)) }
+    ensures { result ≡ total (selectors_of kind n) m (wires tables) }
 {
     let mut all: u8 = 0;
     let mut j: u8 = 0;
@@ -45,7 +45,7 @@ pub fn stage_selectors(kind: BoardKind, n: u8, m: u8, tables: [u64; Sheet::WIRES
 
 // The length of a stage of m wires.
 pub fn stage_length(kind: BoardKind, m: u8, selectors: u8) -> usize
-    ensures { result ≡ sheetFrame + frame_of kind * m + selectorBytes * selectors }
+    ensures { result ≡ sheet_frame + frame_of kind * m + selector_bytes * selectors }
 {
     SHEET_FRAME + frame(kind) * (m as usize) + SELECTOR_BYTES * (selectors as usize)
 }

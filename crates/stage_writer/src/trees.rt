@@ -1,10 +1,10 @@
 // A wire that is a tree: how many selectors it has, and its bytes.
 // Inner functions: `write_on` has tested sizes and tables before it calls them, and the buffer before any of them writes.
 ghost use Rattle.std.specs.Prelude.{◌≡◌, ℕ, ◌+◌, ◌≤◌, length};
-ghost use Rattle.sheet.specs.Limits.{maxInputs};
+ghost use Rattle.sheet.specs.Limits.{max_inputs};
 ghost use Rattle.table.specs.Tree.{selectors, reduced};
-ghost use Rattle.stage.specs.TreeBytes.{constantByte, treeBytes, treeWireBytes};
-ghost use Rattle.diagram.specs.Bytes.{longestWritten};
+ghost use Rattle.stage.specs.TreeBytes.{constant_byte, tree_bytes, tree_wire_bytes};
+ghost use Rattle.diagram.specs.Bytes.{longest_written};
 ghost use Rattle.base.specs.Inner.Put.{Put};
 
 use crate::common::{half_of, put_with_operand};
@@ -12,7 +12,7 @@ use base::put;
 
 // How many selectors the reduced tree of a table of w inputs has, whatever number k of inputs stand before these.
 pub fn selector_count(w: u8, t: u64) -> u8
-    requires { w ≤ maxInputs }
+    requires { w ≤ max_inputs }
     ensures { (k : ℕ) → result ≡ selectors (reduced w k t) }
 {
     if w == 0 {
@@ -30,15 +30,15 @@ pub fn selector_count(w: u8, t: u64) -> u8
 
 // The byte of a constant.
 fn constant(t: u64) -> u8
-    ensures { result ≡ constantByte t }
+    ensures { result ≡ constant_byte t }
 {
     if t == 0 { 0x23 } else { 0x24 }
 }
 
 // Writes the reduced tree of a table of w inputs, which stand after k others, and hands back the place after it.
 fn put_tree(buffer: &mut [u8], at: usize, w: u8, k: u8, t: u64) -> usize
-    requires { (w + k ≤ maxInputs) × (at + length (treeBytes (reduced w k t)) ≤ longestWritten) }
-    ensures { Put buffer.old at (treeBytes (reduced w k t)) buffer.new result }
+    requires { (w + k ≤ max_inputs) × (at + length (tree_bytes (reduced w k t)) ≤ longest_written) }
+    ensures { Put buffer.old at (tree_bytes (reduced w k t)) buffer.new result }
 {
     if w == 0 {
         put(buffer, at, constant(t));
@@ -60,8 +60,8 @@ fn put_tree(buffer: &mut [u8], at: usize, w: u8, k: u8, t: u64) -> usize
 
 // Writes wire j, and hands back the place after it.
 pub fn put_tree_wire(buffer: &mut [u8], at: usize, n: u8, j: u8, t: u64) -> usize
-    requires { (n ≤ maxInputs) × (at + length (treeWireBytes j (reduced n 0 t)) ≤ longestWritten) }
-    ensures { Put buffer.old at (treeWireBytes j (reduced n 0 t)) buffer.new result }
+    requires { (n ≤ max_inputs) × (at + length (tree_wire_bytes j (reduced n 0 t)) ≤ longest_written) }
+    ensures { Put buffer.old at (tree_wire_bytes j (reduced n 0 t)) buffer.new result }
 {
     let tree_at = put_with_operand(buffer, at, 0x21, j);
     put_tree(buffer, tree_at, n, 0, t)

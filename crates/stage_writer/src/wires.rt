@@ -3,12 +3,12 @@
 // Inner functions: `write_on` has tested sizes and tables before it calls them, and the buffer before any of them writes.
 ghost use Rattle.std.specs.Prelude.{◌≡◌, ◌+◌, ◌^◌, ◌<◌, ◌≤◌, length};
 ghost use Rattle.nodes.specs.declared.BoardKind.TheVariants.{Sharing};
-ghost use Rattle.sheet.specs.Limits.{maxPatterns};
-ghost use Rattle.nodes.specs.Counts.{mostInputs};
-ghost use Rattle.diagram.specs.Bytes.{longestWritten};
+ghost use Rattle.sheet.specs.Limits.{max_patterns};
+ghost use Rattle.nodes.specs.Counts.{most_inputs};
+ghost use Rattle.diagram.specs.Bytes.{longest_written};
 ghost use Rattle.diagram.specs.Forms.{form_of};
 ghost use Rattle.base.specs.Inner.Put.{Put};
-ghost use Rattle.stage_writer.specs.Inner.Wires.{frame_of, selectorsOf};
+ghost use Rattle.stage_writer.specs.Inner.Wires.{frame_of, selectors_of};
 
 use crate::diagrams::{entry_count, put_diagram_wire};
 use crate::trees::{put_tree_wire, selector_count};
@@ -28,8 +28,8 @@ pub fn frame(kind: BoardKind) -> usize
 
 // The selectors of what is written of a table, whether or not they are cells: each has its bytes.
 pub fn selectors(kind: BoardKind, n: u8, t: u64) -> u8
-    requires { (n ≤ mostInputs kind) × (t < 2 ^ (2 ^ n)) }
-    ensures { (result ≡ selectorsOf kind n t) × (result < maxPatterns) }
+    requires { (n ≤ most_inputs kind) × (t < 2 ^ (2 ^ n)) }
+    ensures { (result ≡ selectors_of kind n t) × (result < max_patterns) }
 {
     match kind {
         BoardKind::Tree => selector_count(n, t),
@@ -39,8 +39,8 @@ pub fn selectors(kind: BoardKind, n: u8, t: u64) -> u8
 
 // Writes wire j's part of a stage, and hands back the place after it.
 pub fn put_wire(kind: BoardKind, buffer: &mut [u8], at: usize, n: u8, j: u8, t: u64) -> usize
-    requires { (n ≤ mostInputs kind) × (t < 2 ^ (2 ^ n)) × (at + length ((form_of kind).wireBytes j ((form_of kind).reduced n t)) ≤ longestWritten) }
-    ensures { Put buffer.old at ((form_of kind).wireBytes j ((form_of kind).reduced n t)) buffer.new result }
+    requires { (n ≤ most_inputs kind) × (t < 2 ^ (2 ^ n)) × (at + length ((form_of kind).wire_bytes j ((form_of kind).reduced n t)) ≤ longest_written) }
+    ensures { Put buffer.old at ((form_of kind).wire_bytes j ((form_of kind).reduced n t)) buffer.new result }
 {
     match kind {
         BoardKind::Tree => put_tree_wire(buffer, at, n, j, t),

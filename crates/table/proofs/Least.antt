@@ -24,15 +24,15 @@ module _ (key : ℕ → ℕ) (fit : ℕ → Bool) where
   not_lower : (t s : ℕ) → T (not (displaces key t s)) → key s ≤ key t
   not_lower t s = nltb→le (key t) (key s)
 
-  nearer-least : (k : ℕ) (o : Option ℕ) → T (fit k) → Least k o → Least (suc k) (nearer key fit o k)
+  nearer_least : (k : ℕ) (o : Option ℕ) → T (fit k) → Least k o → Least (suc k) (nearer key fit o k)
   unfolding nearer
-  nearer-least k none f h = (
+  nearer_least k none f h = (
     omega arith,
     f,
     λ t l g. ⊎_elim (λ (e : t ≡ k). rw e (le_refl (key k))) (λ b. absurd (h t b g)) (below_suc l),
     λ t l g _. ⊎_elim (λ (e : t ≡ k). omega arith) (λ b. absurd (h t b g)) (below_suc l),
   )
-  nearer-least k (some r) f h =
+  nearer_least k (some r) f h =
       cond_has (Least (suc k)) (displaces key k r)
       (λ c. let d = lower k r c in (
         omega arith,
@@ -56,22 +56,22 @@ module _ (key : ℕ → ℕ) (fit : ℕ → Bool) where
     λ t l g w. ⊎_elim (λ (e : t ≡ k). absurd (T_not (fit k) f (rw e at g))) (λ b. h.3 t b g w) (below_suc l),
   )
 
-  pub least-is : (k : ℕ) → Least k (least key fit k)
+  pub least_is : (k : ℕ) → Least k (least key fit k)
   unfolding least
-  least-is zero = λ t l g. not-suc-le-zero l
-  least-is (suc k) =
-      cond_has (Least (suc k)) (fit k) (λ f. nearer-least k (least key fit k) f (least-is k)) (λ f. skip k (least key fit k) f (least-is k))
+  least_is zero = λ t l g. not-suc-le-zero l
+  least_is (suc k) =
+      cond_has (Least (suc k)) (fit k) (λ f. nearer_least k (least key fit k) f (least_is k)) (λ f. skip k (least key fit k) f (least_is k))
 
-  pub least-found : (k : ℕ) (o : Option ℕ) → Least k o → (t : ℕ) → t < k → T (fit t) → Least k (some (or_zero o))
+  pub least_found : (k : ℕ) (o : Option ℕ) → Least k o → (t : ℕ) → t < k → T (fit t) → Least k (some (or_zero o))
   unfolding or_zero
-  least-found k none h t l g = absurd (h t l g)
-  least-found k (some r) h t l g = h
+  least_found k none h t l g = absurd (h t l g)
+  least_found k (some r) h t l g = h
 
   -- there is one such table only
-  pub least-only : (k r q : ℕ) → Least k (some r) → Least k (some q) → r ≡ q
-  least-only k r q a c =
+  pub least_only : (k r q : ℕ) → Least k (some r) → Least k (some q) → r ≡ q
+  least_only k r q a c =
       le_antisymm (a.3 q c.0 c.1 (c.2 r a.0 a.1)) (c.3 r a.0 a.1 (a.2 q c.0 c.1))
 
-  pub least-eq : (k : ℕ) (o : Option ℕ) (t : ℕ) → Least k o → Least k (some t) → o ≡ some t
-  least-eq k none t a c = absurd (a t c.0 c.1)
-  least-eq k (some r) t a c = ap {B = Option ℕ} some (least-only k r t a c)
+  pub least_eq : (k : ℕ) (o : Option ℕ) (t : ℕ) → Least k o → Least k (some t) → o ≡ some t
+  least_eq k none t a c = absurd (a t c.0 c.1)
+  least_eq k (some r) t a c = ap {B = Option ℕ} some (least_only k r t a c)

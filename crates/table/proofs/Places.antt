@@ -11,205 +11,205 @@ use lib.Bits.{bit_and, and_shr, and_mod, and_le_l, and_le_r}
 use lib.Dec.{eqb, eqb→eq}
 use lib.Pow.{shr-shr}
 use lib.ListN.{get_or}
-use Rattle.base.proofs.Tests.{and_intro, and_left, and_right, eq_test, test-ext}
+use Rattle.base.proofs.Tests.{and_intro, and_left, and_right, eq_test, test_ext}
 use Rattle.table.specs.Cells as Cells
 use Rattle.table.specs.Cells.{full}
-use Rattle.table.specs.Pick.{leastOf}
-use Rattle.table.specs.Inner.Ranks.{masked, narrowSpace, pickKey}
-use Rattle.table.specs.Inner.Lines.{line, needsOfThree, needsOfFour, lineBy}
-use Rattle.table.specs.Inner.Blocks.{entries, threeSpace, noTable, noEntry, bestBlock, block_of, block_at, zerosAt, onesAt, Blocks, PickShown, HalvesShow}
-use Rattle.table.specs.Inner.Pairs.{blockPatterns, blockSpace, byteBits, pairBits, zerosIn, ones_in}
-use Rattle.table.proofs.Pairs.{Place, fromBlock, from_byte, byte-place, first-place, zeros-lt, ones_lt}
-use Rattle.table.proofs.Cells.{cells-lt}
+use Rattle.table.specs.Pick.{least_of}
+use Rattle.table.specs.Inner.Ranks.{masked, narrow_space, pick_key}
+use Rattle.table.specs.Inner.Lines.{line, needs_of_three, needs_of_four, line_by}
+use Rattle.table.specs.Inner.Blocks.{entries, three_space, no_table, no_entry, best_block, block_of, block_at, zeros_at, ones_at, Blocks, PickShown, HalvesShow}
+use Rattle.table.specs.Inner.Pairs.{block_patterns, block_space, byte_bits, pair_bits, zeros_in, ones_in}
+use Rattle.table.proofs.Pairs.{Place, from_block, from_byte, byte_place, first_place, zeros_lt, ones_lt}
+use Rattle.table.proofs.Cells.{cells_lt}
 use Rattle.table.proofs.BestBlocks.{entry_at}
-use Rattle.table.proofs.Entries.{entry-some, twoBlocks, three-shown, twiceShown, pairShown, four-shown}
+use Rattle.table.proofs.Entries.{entry_some, two_blocks, three_shown, twice_shown, pair_shown, four_shown}
 
 -- the entry at a place
-pub block-at : {e : List ℕ} → Blocks e → (at : ℕ) → at < entries → (get_or e at 0 ≡ block_at at) × (threeSpace ≤ get_or e at 0) × (get_or e at 0 ≤ noEntry)
-unfolding bestBlock
-block-at {e} b at l =
-    let h = entry_at (λ x. x) (pickKey 2) (λ t. omega (arith, cells-lt 2 t)) b at l in
-    (h.0, omega (arith, h.0, entry-some (leastOf (pickKey 2) 2 (masked (at / blockSpace) (at % blockSpace)))), omega (arith, h.0, h.1))
+pub block_at_lem : {e : List ℕ} → Blocks e → (at : ℕ) → at < entries → (get_or e at 0 ≡ block_at at) × (three_space ≤ get_or e at 0) × (get_or e at 0 ≤ no_entry)
+unfolding best_block
+block_at_lem {e} b at l =
+    let h = entry_at (λ x. x) (pick_key 2) (λ t. omega (arith, cells_lt 2 t)) b at l in
+    (h.0, omega (arith, h.0, entry_some (least_of (pick_key 2) 2 (masked (at / block_space) (at % block_space)))), omega (arith, h.0, h.1))
 
 -- two places bit by bit together are the place of what both pairs of masks have
-place-and : (a b z o y n : ℕ) → Place a z o → Place b y n → Place (bit_and a b) (bit_and z y) (bit_and o n)
-place-and a b z o y n p q = (
-  and_shr a b blockPatterns ∙ ap₂ bit_and p.0 q.0 ∙ sym (and_mod z y blockPatterns),
-  and_mod a b blockPatterns ∙ ap₂ bit_and p.1 q.1 ∙ sym (and_mod o n blockPatterns),
+place_and : (a b z o y n : ℕ) → Place a z o → Place b y n → Place (bit_and a b) (bit_and z y) (bit_and o n)
+place_and a b z o y n p q = (
+  and_shr a b block_patterns ∙ ap₂ bit_and p.0 q.0 ∙ sym (and_mod z y block_patterns),
+  and_mod a b block_patterns ∙ ap₂ bit_and p.1 q.1 ∙ sym (and_mod o n block_patterns),
 )
 
 -- at the same places the same is shown
 places_same : {k l m n : ℕ} → k ≡ m → l ≡ n → (x : ℕ) → HalvesShow k l x → HalvesShow m n x
 places_same e d x s = rw (← e, ← d) s
 
-places-told : (zeros ones z o low high x : ℕ) → zeros % threeSpace ≡ z → ones % threeSpace ≡ o → Place low zeros ones
-    → Place high (zeros / blockSpace) (ones / blockSpace) → HalvesShow low high x → PickShown 3 threeSpace z o x
-places-told zeros ones z o low high x ez eo pl ph s =
-    let dz : zerosAt low high ≡ z = omega arith in
-    let dn : onesAt low high ≡ o = omega arith in
+places_told : (zeros ones z o low high x : ℕ) → zeros % three_space ≡ z → ones % three_space ≡ o → Place low zeros ones
+    → Place high (zeros / block_space) (ones / block_space) → HalvesShow low high x → PickShown 3 three_space z o x
+places_told zeros ones z o low high x ez eo pl ph s =
+    let dz : zeros_at low high ≡ z = omega arith in
+    let dn : ones_at low high ≡ o = omega arith in
     rw (← dz, ← dn) s
 
 -- a byte of two numbers bit by bit together
-byte-and : (x y k : ℕ) → from_byte k (bit_and x y) % entries ≡ bit_and (from_byte k x % entries) (from_byte k y % entries)
-byte-and x y k = ap (λ v. v % entries) (and_shr x y (byteBits * k)) ∙ and_mod (from_byte k x) (from_byte k y) byteBits
+byte_and : (x y k : ℕ) → from_byte k (bit_and x y) % entries ≡ bit_and (from_byte k x % entries) (from_byte k y % entries)
+byte_and x y k = ap (λ v. v % entries) (and_shr x y (byte_bits * k)) ∙ and_mod (from_byte k x) (from_byte k y) byte_bits
 
 -- all patterns of a block, and the bits of a place that tell where it can be 0 and where it can be 1
-abbrev fullBlock : ℕ
-fullBlock = blockSpace - 1
+abbrev full_block : ℕ
+full_block = block_space - 1
 
-abbrev zeroBits : ℕ
-zeroBits = fullBlock * blockSpace
+abbrev zero_bits : ℕ
+zero_bits = full_block * block_space
 
-abbrev oneBits : ℕ
-oneBits = fullBlock
+abbrev one_bits : ℕ
+one_bits = full_block
 
 -- a place has all zeros of its block, or all ones, exactly where it has each bit of that half
-zeros-all : (b : ℕ) → b < entries → bit_and b zeroBits ≡ zeroBits → b / blockSpace ≡ fullBlock
-zeros-all b l h = omega (arith, and_shr b zeroBits blockPatterns, and_le_l (b / blockSpace) fullBlock)
+zeros_all : (b : ℕ) → b < entries → bit_and b zero_bits ≡ zero_bits → b / block_space ≡ full_block
+zeros_all b l h = omega (arith, and_shr b zero_bits block_patterns, and_le_l (b / block_space) full_block)
 
-all-zeros : (b : ℕ) → b / blockSpace ≡ fullBlock → bit_and b zeroBits ≡ zeroBits
-all-zeros b h = omega (arith, and_shr b zeroBits blockPatterns, ap (λ x. bit_and x fullBlock) h, and_le_r b zeroBits)
+all_zeros : (b : ℕ) → b / block_space ≡ full_block → bit_and b zero_bits ≡ zero_bits
+all_zeros b h = omega (arith, and_shr b zero_bits block_patterns, ap (λ x. bit_and x full_block) h, and_le_r b zero_bits)
 
-ones-all : (b : ℕ) → bit_and b oneBits ≡ oneBits → b % blockSpace ≡ fullBlock
-ones-all b h = omega (arith, and_mod b oneBits blockPatterns, and_le_l (b % blockSpace) fullBlock)
+ones_all : (b : ℕ) → bit_and b one_bits ≡ one_bits → b % block_space ≡ full_block
+ones_all b h = omega (arith, and_mod b one_bits block_patterns, and_le_l (b % block_space) full_block)
 
-all_ones : (b : ℕ) → b % blockSpace ≡ fullBlock → bit_and b oneBits ≡ oneBits
-all_ones b h = omega (arith, and_mod b oneBits blockPatterns, ap (λ x. bit_and x fullBlock) h, and_le_r b oneBits)
+all_ones_lem : (b : ℕ) → b % block_space ≡ full_block → bit_and b one_bits ≡ one_bits
+all_ones_lem b h = omega (arith, and_mod b one_bits block_patterns, ap (λ x. bit_and x full_block) h, and_le_r b one_bits)
 
 -- what the line of three inputs needs, by the places of the halves
-needs-three : (w : ℕ)
-    → eqb (bit_and w needsOfThree) needsOfThree ≡ eqb (w % entries / blockSpace) (fullBlock) && eqb (w / entries % entries % blockSpace) (fullBlock)
-needs-three w =
+needs_three : (w : ℕ)
+    → eqb (bit_and w needs_of_three) needs_of_three ≡ eqb (w % entries / block_space) (full_block) && eqb (w / entries % entries % block_space) (full_block)
+needs_three w =
     let k = w % entries in
     let l = w / entries % entries in
-    let x = bit_and w needsOfThree in
-    let e0 : x % entries ≡ bit_and k zeroBits = and_mod w needsOfThree byteBits in
-    let e1 : x / entries % entries ≡ bit_and l oneBits = byte-and w needsOfThree 1 in
-    test-ext (eqb x needsOfThree) (eqb (k / blockSpace) (fullBlock) && eqb (l % blockSpace) (fullBlock))
+    let x = bit_and w needs_of_three in
+    let e0 : x % entries ≡ bit_and k zero_bits = and_mod w needs_of_three byte_bits in
+    let e1 : x / entries % entries ≡ bit_and l one_bits = byte_and w needs_of_three 1 in
+    test_ext (eqb x needs_of_three) (eqb (k / block_space) (full_block) && eqb (l % block_space) (full_block))
     (λ t.
-    let h = eqb→eq x needsOfThree t in
-    and_intro (eqb (k / blockSpace) (fullBlock)) (eqb (l % blockSpace) (fullBlock))
-    (eq_test (zeros-all k (omega arith) (omega (arith, h, e0)))) (eq_test (ones-all l (omega (arith, h, e1)))))
+    let h = eqb→eq x needs_of_three t in
+    and_intro (eqb (k / block_space) (full_block)) (eqb (l % block_space) (full_block))
+    (eq_test (zeros_all k (omega arith) (omega (arith, h, e0)))) (eq_test (ones_all l (omega (arith, h, e1)))))
     (λ t.
-    let a = all-zeros k (eqb→eq (k / blockSpace) (fullBlock) (and_left (eqb (k / blockSpace) (fullBlock)) (eqb (l % blockSpace) (fullBlock)) t)) in
-    let b = all_ones l (eqb→eq (l % blockSpace) (fullBlock) (and_right (eqb (k / blockSpace) (fullBlock)) (eqb (l % blockSpace) (fullBlock)) t)) in
-    let d : x ≡ needsOfThree = omega (arith, e0, e1, a, b, and_le_r w needsOfThree) in
+    let a = all_zeros k (eqb→eq (k / block_space) (full_block) (and_left (eqb (k / block_space) (full_block)) (eqb (l % block_space) (full_block)) t)) in
+    let b = all_ones_lem l (eqb→eq (l % block_space) (full_block) (and_right (eqb (k / block_space) (full_block)) (eqb (l % block_space) (full_block)) t)) in
+    let d : x ≡ needs_of_three = omega (arith, e0, e1, a, b, and_le_r w needs_of_three) in
     eq_test d)
 
 -- three inputs: the blocks at two places, and at both together, and the line that these places admit
-pub three-places : (w a b c : ℕ) → a ≡ block_at (w % entries) → b ≡ block_at (w / entries % entries) → c ≡ block_at (bit_and (w % entries) (w / entries % entries))
-    → HalvesShow (w % entries) (w / entries % entries) (min (min c (lineBy w needsOfThree (threeSpace + line 2) noEntry)) (twoBlocks a b))
+pub three_places : (w a b c : ℕ) → a ≡ block_at (w % entries) → b ≡ block_at (w / entries % entries) → c ≡ block_at (bit_and (w % entries) (w / entries % entries))
+    → HalvesShow (w % entries) (w / entries % entries) (min (min c (line_by w needs_of_three (three_space + line 2) no_entry)) (two_blocks a b))
 unfolding Cells.low Cells.high full
-three-places w a b c ea eb ec =
+three_places w a b c ea eb ec =
     let low = w % entries in
     let high = w / entries % entries in
-    let h : low / blockSpace < blockSpace = omega arith in
-    let g : low % blockSpace < blockSpace = omega arith in
-    let zl = digits_mod (high / blockSpace) h in
-    let zh = digits_div (high / blockSpace) h in
-    let ol = digits_mod (high % blockSpace) g in
-    let oh = digits_div (high % blockSpace) g in
-    three-shown (zerosAt low high) (onesAt low high) a b c (lineBy w needsOfThree (threeSpace + line 2) noEntry) (omega arith)
+    let h : low / block_space < block_space = omega arith in
+    let g : low % block_space < block_space = omega arith in
+    let zl = digits_mod (high / block_space) h in
+    let zh = digits_div (high / block_space) h in
+    let ol = digits_mod (high % block_space) g in
+    let oh = digits_div (high % block_space) g in
+    three_shown (zeros_at low high) (ones_at low high) a b c (line_by w needs_of_three (three_space + line 2) no_entry) (omega arith)
     (ea ∙ ap₂ block_of (sym zl) (sym ol))
     (eb ∙ ap₂ block_of (sym zh) (sym oh))
-    (ec ∙ ap₂ block_of (and_shr low high blockPatterns ∙ sym (ap₂ bit_and zl zh)) (and_mod low high blockPatterns ∙ sym (ap₂ bit_and ol oh)))
-    (ap (λ t. cond t (threeSpace + line 2) noEntry) (needs-three w)
-    ∙ ap₂ (λ x y. cond (eqb x (fullBlock) && eqb y (fullBlock)) (threeSpace + line 2) noEntry) (sym zl) (sym oh))
+    (ec ∙ ap₂ block_of (and_shr low high block_patterns ∙ sym (ap₂ bit_and zl zh)) (and_mod low high block_patterns ∙ sym (ap₂ bit_and ol oh)))
+    (ap (λ t. cond t (three_space + line 2) no_entry) (needs_three w)
+    ∙ ap₂ (λ x y. cond (eqb x (full_block) && eqb y (full_block)) (three_space + line 2) no_entry) (sym zl) (sym oh))
 
 -- the lower half of a mask of four inputs and its upper half, bit by bit together, are what the halves have in common
-common-low : (x : ℕ) → x < narrowSpace → bit_and x (x / threeSpace) % threeSpace ≡ bit_and (x % threeSpace) (x / threeSpace)
-common-low x l = and_mod x (x / threeSpace) (2 ^ 3) ∙ ap (bit_and (x % threeSpace)) (mod-eq_of_lt (omega arith))
+common_low : (x : ℕ) → x < narrow_space → bit_and x (x / three_space) % three_space ≡ bit_and (x % three_space) (x / three_space)
+common_low x l = and_mod x (x / three_space) (2 ^ 3) ∙ ap (bit_and (x % three_space)) (mod-eq_of_lt (omega arith))
 
 -- a pair of three inputs tells its masks by its two bytes
-pub pair-told : (w x : ℕ) → w < entries * entries → zerosIn w < threeSpace → ones_in w < threeSpace → HalvesShow (w % entries) (w / entries % entries) x
-    → PickShown 3 threeSpace (zerosIn w) (ones_in w) x
-pair-told w x l lz lo s =
-    places-told (zerosIn w) (ones_in w) (zerosIn w) (ones_in w) (w % entries) (w / entries % entries) x (mod-eq_of_lt lz) (mod-eq_of_lt lo) (first-place w)
-    (byte-place w 1 (omega arith)) s
+pub pair_told : (w x : ℕ) → w < entries * entries → zeros_in w < three_space → ones_in w < three_space → HalvesShow (w % entries) (w / entries % entries) x
+    → PickShown 3 three_space (zeros_in w) (ones_in w) x
+pair_told w x l lz lo s =
+    places_told (zeros_in w) (ones_in w) (zeros_in w) (ones_in w) (w % entries) (w / entries % entries) x (mod-eq_of_lt lz) (mod-eq_of_lt lo) (first_place w)
+    (byte_place w 1 (omega arith)) s
 
 -- what both halves of a pair have stands in the bytes of one number
-halves-both : (w : ℕ) → w < 2 ^ pairBits
+halves_both : (w : ℕ) → w < 2 ^ pair_bits
     → (bit_and w (from_byte 2 w) % entries ≡ bit_and (w % entries) (from_byte 2 w % entries))
     × (bit_and w (from_byte 2 w) / entries % entries ≡ bit_and (from_byte 1 w % entries) (from_byte 3 w))
-halves-both w l =
+halves_both w l =
     let e : from_byte 1 (from_byte 2 w) % entries ≡ from_byte 3 w = omega arith in
-    (and_mod w (from_byte 2 w) byteBits, byte-and w (from_byte 2 w) 1 ∙ ap (bit_and (from_byte 1 w % entries)) e)
+    (and_mod w (from_byte 2 w) byte_bits, byte_and w (from_byte 2 w) 1 ∙ ap (bit_and (from_byte 1 w % entries)) e)
 
 -- a mask of three inputs is full where its blocks are
-blocks-full : (m : ℕ) → m % blockSpace ≡ fullBlock → m / blockSpace % blockSpace ≡ fullBlock → m % threeSpace ≡ threeSpace - 1
-blocks-full m a b = omega (arith, mod-mul m {m = blockSpace} {c = blockSpace} (omega arith) (omega arith))
+blocks_full : (m : ℕ) → m % block_space ≡ full_block → m / block_space % block_space ≡ full_block → m % three_space ≡ three_space - 1
+blocks_full m a b = omega (arith, mod-mul m {m = block_space} {c = block_space} (omega arith) (omega arith))
 
-full-blocks : (m : ℕ) → m % threeSpace ≡ threeSpace - 1 → (m % blockSpace ≡ fullBlock) × (m / blockSpace % blockSpace ≡ fullBlock)
-full-blocks m h = (omega arith, omega arith)
+full_blocks : (m : ℕ) → m % three_space ≡ three_space - 1 → (m % block_space ≡ full_block) × (m / block_space % block_space ≡ full_block)
+full_blocks m h = (omega arith, omega arith)
 
-four_bytes : (x : ℕ) → x ≤ needsOfFour → x % entries ≡ zeroBits → from_byte 1 x % entries ≡ zeroBits → from_byte 2 x % entries ≡ oneBits → from_byte 3 x % entries ≡ oneBits
-    → x ≡ needsOfFour
+four_bytes : (x : ℕ) → x ≤ needs_of_four → x % entries ≡ zero_bits → from_byte 1 x % entries ≡ zero_bits → from_byte 2 x % entries ≡ one_bits → from_byte 3 x % entries ≡ one_bits
+    → x ≡ needs_of_four
 four_bytes x l a b c d = omega arith
 
 -- what the line of four inputs needs, by the masks of the lower half and of the upper
-needs-four : (w z o : ℕ) → w < 2 ^ pairBits → Place (w % entries) z o → Place (from_byte 1 w % entries) (z / blockSpace) (o / blockSpace) → (z' o' : ℕ)
-    → Place (from_byte 2 w % entries) z' o' → Place (from_byte 3 w) (z' / blockSpace) (o' / blockSpace) → o' < threeSpace
-    → eqb (bit_and w needsOfFour) needsOfFour ≡ eqb (z % threeSpace) (threeSpace - 1) && eqb o' (threeSpace - 1)
-needs-four w z o lw pk pl z' o' pm pn lo =
+needs_four : (w z o : ℕ) → w < 2 ^ pair_bits → Place (w % entries) z o → Place (from_byte 1 w % entries) (z / block_space) (o / block_space) → (z' o' : ℕ)
+    → Place (from_byte 2 w % entries) z' o' → Place (from_byte 3 w) (z' / block_space) (o' / block_space) → o' < three_space
+    → eqb (bit_and w needs_of_four) needs_of_four ≡ eqb (z % three_space) (three_space - 1) && eqb o' (three_space - 1)
+needs_four w z o lw pk pl z' o' pm pn lo =
     let k = w % entries in
     let l = from_byte 1 w % entries in
     let m = from_byte 2 w % entries in
     let n = from_byte 3 w in
-    let x = bit_and w needsOfFour in
+    let x = bit_and w needs_of_four in
     let nd : n % entries ≡ n = omega arith in
-    let e0 : x % entries ≡ bit_and k zeroBits = and_mod w needsOfFour byteBits in
-    let e1 : from_byte 1 x % entries ≡ bit_and l zeroBits = byte-and w needsOfFour 1 in
-    let e2 : from_byte 2 x % entries ≡ bit_and m oneBits = byte-and w needsOfFour 2 in
-    let e3 : from_byte 3 x % entries ≡ bit_and n oneBits = byte-and w needsOfFour 3 ∙ ap (λ y. bit_and y oneBits) nd in
-    let lower = eqb (z % threeSpace) (threeSpace - 1) in
-    let upper = eqb o' (threeSpace - 1) in
-    let small : o' % threeSpace ≡ o' = mod-eq_of_lt lo in
-    test-ext (eqb x needsOfFour) (lower && upper)
+    let e0 : x % entries ≡ bit_and k zero_bits = and_mod w needs_of_four byte_bits in
+    let e1 : from_byte 1 x % entries ≡ bit_and l zero_bits = byte_and w needs_of_four 1 in
+    let e2 : from_byte 2 x % entries ≡ bit_and m one_bits = byte_and w needs_of_four 2 in
+    let e3 : from_byte 3 x % entries ≡ bit_and n one_bits = byte_and w needs_of_four 3 ∙ ap (λ y. bit_and y one_bits) nd in
+    let lower = eqb (z % three_space) (three_space - 1) in
+    let upper = eqb o' (three_space - 1) in
+    let small : o' % three_space ≡ o' = mod-eq_of_lt lo in
+    test_ext (eqb x needs_of_four) (lower && upper)
     (λ t.
-    let h = eqb→eq x needsOfFour t in
-    let a = zeros-all k (mod-lt w (omega arith)) (sym e0 ∙ ap (λ y. y % entries) h) in
-    let b = zeros-all l (mod-lt (from_byte 1 w) (omega arith)) (sym e1 ∙ ap (λ y. from_byte 1 y % entries) h) in
-    let c = ones-all m (sym e2 ∙ ap (λ y. from_byte 2 y % entries) h) in
-    let d = ones-all n (sym e3 ∙ ap (λ y. from_byte 3 y % entries) h) in
-    and_intro lower upper (eq_test (blocks-full z (sym pk.0 ∙ a) (sym pl.0 ∙ b)))
-    (eq_test (sym small ∙ blocks-full o' (sym pm.1 ∙ c) (sym pn.1 ∙ d))))
+    let h = eqb→eq x needs_of_four t in
+    let a = zeros_all k (mod-lt w (omega arith)) (sym e0 ∙ ap (λ y. y % entries) h) in
+    let b = zeros_all l (mod-lt (from_byte 1 w) (omega arith)) (sym e1 ∙ ap (λ y. from_byte 1 y % entries) h) in
+    let c = ones_all m (sym e2 ∙ ap (λ y. from_byte 2 y % entries) h) in
+    let d = ones_all n (sym e3 ∙ ap (λ y. from_byte 3 y % entries) h) in
+    and_intro lower upper (eq_test (blocks_full z (sym pk.0 ∙ a) (sym pl.0 ∙ b)))
+    (eq_test (sym small ∙ blocks_full o' (sym pm.1 ∙ c) (sym pn.1 ∙ d))))
     (λ t.
-    let dz = full-blocks z (eqb→eq (z % threeSpace) (threeSpace - 1) (and_left lower upper t)) in
-    let dn = full-blocks o' (small ∙ eqb→eq o' (threeSpace - 1) (and_right lower upper t)) in
-    eq_test (four_bytes x (and_le_r w needsOfFour) (e0 ∙ all-zeros k (pk.0 ∙ dz.0)) (e1 ∙ all-zeros l (pl.0 ∙ dz.1))
-    (e2 ∙ all_ones m (pm.1 ∙ dn.0)) (e3 ∙ all_ones n (pn.1 ∙ dn.1))))
+    let dz = full_blocks z (eqb→eq (z % three_space) (three_space - 1) (and_left lower upper t)) in
+    let dn = full_blocks o' (small ∙ eqb→eq o' (three_space - 1) (and_right lower upper t)) in
+    eq_test (four_bytes x (and_le_r w needs_of_four) (e0 ∙ all_zeros k (pk.0 ∙ dz.0)) (e1 ∙ all_zeros l (pl.0 ∙ dz.1))
+    (e2 ∙ all_ones_lem m (pm.1 ∙ dn.0)) (e3 ∙ all_ones_lem n (pn.1 ∙ dn.1))))
 
 -- a pair of four inputs, which has four bytes: the places of its blocks, and of what the halves have in common
-pub four-places : (w a b c : ℕ) → w < 2 ^ pairBits → HalvesShow (w % entries) (from_byte 1 w % entries) a
+pub four_places : (w a b c : ℕ) → w < 2 ^ pair_bits → HalvesShow (w % entries) (from_byte 1 w % entries) a
     → HalvesShow (from_byte 2 w % entries) (from_byte 1 (from_byte 2 w) % entries) b
     → HalvesShow (bit_and w (from_byte 2 w) % entries) (from_byte 1 (bit_and w (from_byte 2 w)) % entries) c
-    → PickShown 4 narrowSpace (zerosIn w) (ones_in w) (min (min (twiceShown threeSpace c) (lineBy w needsOfFour (narrowSpace + line 3) (noTable * narrowSpace))) (pairShown threeSpace a b))
+    → PickShown 4 narrow_space (zeros_in w) (ones_in w) (min (min (twice_shown three_space c) (line_by w needs_of_four (narrow_space + line 3) (no_table * narrow_space))) (pair_shown three_space a b))
 unfolding Cells.low Cells.high full
-four-places w a b c h sa sb sc =
-    let z = zerosIn w in
+four_places w a b c h sa sb sc =
+    let z = zeros_in w in
     let o = ones_in w in
-    let z' = z / threeSpace in
-    let o' = o / threeSpace in
+    let z' = z / three_space in
+    let o' = o / three_space in
     let k = w % entries in
     let l = from_byte 1 w % entries in
     let m = from_byte 2 w % entries in
     let n = from_byte 3 w in
-    let pk : Place k z o = first-place w in
-    let pl : Place l (z / blockSpace) (o / blockSpace) = byte-place w 1 (omega arith) in
-    let pm : Place m z' o' = byte-place w 2 (omega arith) in
+    let pk : Place k z o = first_place w in
+    let pl : Place l (z / block_space) (o / block_space) = byte_place w 1 (omega arith) in
+    let pm : Place m z' o' = byte_place w 2 (omega arith) in
     let e : from_byte 3 w % entries ≡ n = omega arith in
-    let q : Place n (fromBlock 3 z) (fromBlock 3 o) = rw (← e) (byte-place w 3 (omega arith)) in
-    let pn : Place n (z' / blockSpace) (o' / blockSpace) = rw (shr-shr z (2 ^ 3) blockPatterns, shr-shr o (2 ^ 3) blockPatterns) q in
-    let pc = place-and l n (z / blockSpace) (o / blockSpace) (z' / blockSpace) (o' / blockSpace) pl pn in
-    let high : (x y : ℕ) → bit_and (x / blockSpace) (y / blockSpace) % blockSpace ≡ bit_and x y / blockSpace % blockSpace =
-    λ x y. ap (λ v. v % blockSpace) (sym (and_shr x y blockPatterns)) in
+    let q : Place n (from_block 3 z) (from_block 3 o) = rw (← e) (byte_place w 3 (omega arith)) in
+    let pn : Place n (z' / block_space) (o' / block_space) = rw (shr-shr z (2 ^ 3) block_patterns, shr-shr o (2 ^ 3) block_patterns) q in
+    let pc = place_and l n (z / block_space) (o / block_space) (z' / block_space) (o' / block_space) pl pn in
+    let high : (x y : ℕ) → bit_and (x / block_space) (y / block_space) % block_space ≡ bit_and x y / block_space % block_space =
+    λ x y. ap (λ v. v % block_space) (sym (and_shr x y block_patterns)) in
     let last : from_byte 1 (from_byte 2 w) % entries ≡ n = omega arith in
-    let both = halves-both w h in
-    let lo : o' < threeSpace = omega (arith, ones_lt w) in
-    four-shown z o a b c (lineBy w needsOfFour (narrowSpace + line 3) (noTable * narrowSpace)) (ones_lt w)
-    (places-told z o (z % threeSpace) (o % threeSpace) k l a refl refl pk pl sa)
-    (places-told z' o' z' o' m n b (mod-eq_of_lt (omega (arith, zeros-lt w))) (mod-eq_of_lt lo) pm pn (places_same refl last b sb))
-    (places-told (bit_and z z') (bit_and o o') (bit_and (z % threeSpace) z') (bit_and (o % threeSpace) o') (bit_and k m) (bit_and l n) c
-    (common-low z (zeros-lt w)) (common-low o (ones_lt w)) (place-and k m z o z' o' pk pm) (pc.0 ∙ high z z', pc.1 ∙ high o o')
+    let both = halves_both w h in
+    let lo : o' < three_space = omega (arith, ones_lt w) in
+    four_shown z o a b c (line_by w needs_of_four (narrow_space + line 3) (no_table * narrow_space)) (ones_lt w)
+    (places_told z o (z % three_space) (o % three_space) k l a refl refl pk pl sa)
+    (places_told z' o' z' o' m n b (mod-eq_of_lt (omega (arith, zeros_lt w))) (mod-eq_of_lt lo) pm pn (places_same refl last b sb))
+    (places_told (bit_and z z') (bit_and o o') (bit_and (z % three_space) z') (bit_and (o % three_space) o') (bit_and k m) (bit_and l n) c
+    (common_low z (zeros_lt w)) (common_low o (ones_lt w)) (place_and k m z o z' o' pk pm) (pc.0 ∙ high z z', pc.1 ∙ high o o')
     (places_same both.0 both.1 c sc))
-    (ap (λ t. cond t (narrowSpace + line 3) (noTable * narrowSpace)) (needs-four w z o h pk pl z' o' pm pn lo))
+    (ap (λ t. cond t (narrow_space + line 3) (no_table * narrow_space)) (needs_four w z o h pk pl z' o' pm pn lo))

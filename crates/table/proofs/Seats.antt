@@ -9,18 +9,18 @@ use native.Mathlib.Omega.{arith}
 use native.Mathlib.Nat.{zero-add, lt_of_le_of_lt}
 use lib.Bits.{bit_and, bit_or, and_le_l, and_le_r}
 use lib.Dec.{T, T_not, eqb, eqb→eq}
-use Rattle.base.proofs.Tests.{eq_test, test-ext, or_cases}
+use Rattle.base.proofs.Tests.{eq_test, test_ext, or_cases}
 use Rattle.table.specs.Bits.{bit, all}
 use Rattle.table.specs.Cells.{full}
-use Rattle.table.specs.Pick.{Proj, suits, least, leastOf}
-use Rattle.table.specs.Inner.Ranks.{narrowSpace, masked}
-use Rattle.table.specs.Inner.Pairs.{narrowPatterns, blockPatterns, byteBits, pairBits, upperHalf, seat, zerosIn, ones_in}
+use Rattle.table.specs.Pick.{Proj, suits, least, least_of}
+use Rattle.table.specs.Inner.Ranks.{narrow_space, masked}
+use Rattle.table.specs.Inner.Pairs.{narrow_patterns, block_patterns, byte_bits, pair_bits, upper_half, seat, zeros_in, ones_in}
 use Rattle.table.specs.Inner.Blocks.{Covered}
-use Rattle.table.specs.Inner.Wide.{zeroSeats, oneSeats, hasSeats, allCovered}
-use Rattle.table.proofs.Bits.{bit-lt, bit-and, bit-or, bit-div, bit-ext, all-at}
-use Rattle.table.proofs.Least.{Least, least-is}
-use Rattle.table.proofs.Wired.{full-lt, full-bit}
-use Rattle.table.proofs.Pairs.{ones-at, zeros-at, ones_lt, zeros-lt}
+use Rattle.table.specs.Inner.Wide.{zero_seats, one_seats, has_seats, all_covered}
+use Rattle.table.proofs.Bits.{bit_lt, bit_and_lem, bit_or_lem, bit_div, bit_ext, all_at}
+use Rattle.table.proofs.Least.{Least, least_is}
+use Rattle.table.proofs.Wired.{full_lt, full_bit}
+use Rattle.table.proofs.Pairs.{ones_at_lem, zeros_at_lem, ones_lt, zeros_lt}
 
 and_one : (a b : ℕ) → a < 2 → b ≡ 1 → bit_and a b ≡ a
 and_one a b l e = ap (bit_and a) e ∙ same a l
@@ -34,73 +34,73 @@ and_none : (a b : ℕ) → b ≡ 0 → bit_and a b ≡ 0
 and_none a b e = omega (arith, and_le_r a b)
 
 -- the pattern whose seat, or whose seat half a byte up, a bit is
-abbrev patternAt : ℕ → ℕ
-patternAt i = i / byteBits * blockPatterns + i % blockPatterns
+abbrev pattern_at : ℕ → ℕ
+pattern_at i = i / byte_bits * block_patterns + i % block_patterns
 
 -- `seats` has just the seats `up` above those of the patterns, and they are all in it
 abbrev Seats : (seats up : ℕ) → Type 0
 Seats seats up =
-    T (all narrowPatterns (λ p. eqb (bit seats (seat p + up)) 1)) × T (all pairBits (λ i. eqb (bit seats i) 0 || eqb (seat (patternAt i) + up) i))
+    T (all narrow_patterns (λ p. eqb (bit seats (seat p + up)) 1)) × T (all pair_bits (λ i. eqb (bit seats i) 0 || eqb (seat (pattern_at i) + up) i))
 
-one-seats : Seats oneSeats 0
+one_seats_lem : Seats one_seats 0
 unfolding bit seat all
-one-seats = (tt, tt)
+one_seats_lem = (tt, tt)
 
-zero-seats : Seats zeroSeats blockPatterns
+zero_seats_lem : Seats zero_seats block_patterns
 unfolding bit seat all
-zero-seats = (tt, tt)
+zero_seats_lem = (tt, tt)
 
-module _ (seats up : ℕ) (told : Seats seats up) (small : seats < 2 ^ pairBits) where
+module _ (seats up : ℕ) (told : Seats seats up) (small : seats < 2 ^ pair_bits) where
   -- a number has all seats exactly where it has the one of each pattern
-  pub each-seat : (x : ℕ) → T (hasSeats x seats) → (p : ℕ) → p < narrowPatterns → bit x (seat p + up) ≡ 1
-  each-seat x h p l =
+  pub each_seat : (x : ℕ) → T (has_seats x seats) → (p : ℕ) → p < narrow_patterns → bit x (seat p + up) ≡ 1
+  each_seat x h p l =
       let i = seat p + up in
-      let s : bit seats i ≡ 1 = eqb→eq (bit seats i) 1 (all-at narrowPatterns (λ q. eqb (bit seats (seat q + up)) 1) told.0 p l) in
-      sym (and_one (bit x i) (bit seats i) (bit-lt x i) s) ∙ sym (bit-and x seats i) ∙ ap (λ y. bit y i) (eqb→eq (bit_and x seats) seats h) ∙ s
+      let s : bit seats i ≡ 1 = eqb→eq (bit seats i) 1 (all_at narrow_patterns (λ q. eqb (bit seats (seat q + up)) 1) told.0 p l) in
+      sym (and_one (bit x i) (bit seats i) (bit_lt x i) s) ∙ sym (bit_and_lem x seats i) ∙ ap (λ y. bit y i) (eqb→eq (bit_and x seats) seats h) ∙ s
 
-  pub all-seats : (x : ℕ) → ((p : ℕ) → p < narrowPatterns → bit x (seat p + up) ≡ 1) → T (hasSeats x seats)
-  all-seats x h =
-      eq_test (bit-ext pairBits (bit_and x seats) seats (lt_of_le_of_lt (and_le_r x seats) small) small
-      (λ i l. bit-and x seats i ∙ ⊎_elim
+  pub all_seats : (x : ℕ) → ((p : ℕ) → p < narrow_patterns → bit x (seat p + up) ≡ 1) → T (has_seats x seats)
+  all_seats x h =
+      eq_test (bit_ext pair_bits (bit_and x seats) seats (lt_of_le_of_lt (and_le_r x seats) small) small
+      (λ i l. bit_and_lem x seats i ∙ ⊎_elim
       (λ e. let z = eqb→eq (bit seats i) 0 e in and_none (bit x i) (bit seats i) z ∙ sym z)
       (λ e.
-      let d : seat (patternAt i) + up ≡ i = eqb→eq (seat (patternAt i) + up) i e in
-      let lp : patternAt i < narrowPatterns = omega arith in
-      let x1 : bit x i ≡ 1 = ap (bit x) (sym d) ∙ h (patternAt i) lp in
-      let s : bit seats i ≡ 1 = ap (bit seats) (sym d) ∙ eqb→eq (bit seats (seat (patternAt i) + up)) 1 (all-at narrowPatterns (λ q. eqb (bit seats (seat q + up)) 1) told.0 (patternAt i) lp) in
-      and_one (bit x i) (bit seats i) (bit-lt x i) s ∙ x1 ∙ sym s)
-      (or_cases (eqb (bit seats i) 0) (eqb (seat (patternAt i) + up) i) (all-at pairBits (λ k. eqb (bit seats k) 0 || eqb (seat (patternAt k) + up) k) told.1 i l))))
+      let d : seat (pattern_at i) + up ≡ i = eqb→eq (seat (pattern_at i) + up) i e in
+      let lp : pattern_at i < narrow_patterns = omega arith in
+      let x1 : bit x i ≡ 1 = ap (bit x) (sym d) ∙ h (pattern_at i) lp in
+      let s : bit seats i ≡ 1 = ap (bit seats) (sym d) ∙ eqb→eq (bit seats (seat (pattern_at i) + up)) 1 (all_at narrow_patterns (λ q. eqb (bit seats (seat q + up)) 1) told.0 (pattern_at i) lp) in
+      and_one (bit x i) (bit seats i) (bit_lt x i) s ∙ x1 ∙ sym s)
+      (or_cases (eqb (bit seats i) 0) (eqb (seat (pattern_at i) + up) i) (all_at pair_bits (λ k. eqb (bit seats k) 0 || eqb (seat (pattern_at k) + up) k) told.1 i l))))
 
 -- so a mask is full where the pair has all seats of it
-full-mask : (m : ℕ) → m < narrowSpace → ((p : ℕ) → p < narrowPatterns → bit m p ≡ 1) → m ≡ full 4
-full-mask m l h = bit-ext narrowPatterns m (full 4) l (full-lt 4) (λ p lp. h p lp ∙ sym (full-bit 4 p lp))
+full_mask : (m : ℕ) → m < narrow_space → ((p : ℕ) → p < narrow_patterns → bit m p ≡ 1) → m ≡ full 4
+full_mask m l h = bit_ext narrow_patterns m (full 4) l (full_lt 4) (λ p lp. h p lp ∙ sym (full_bit 4 p lp))
 
-pub zeros-full : (x : ℕ) → hasSeats x zeroSeats ≡ eqb (zerosIn x) (full 4)
-zeros-full x =
-    test-ext (hasSeats x zeroSeats) (eqb (zerosIn x) (full 4))
-    (λ h. eq_test (full-mask (zerosIn x) (zeros-lt x) (λ p l. zeros-at x p l ∙ each-seat zeroSeats blockPatterns zero-seats (omega arith) x h p l)))
-    (λ e. all-seats zeroSeats blockPatterns zero-seats (omega arith) x
-    (λ p l. sym (zeros-at x p l) ∙ ap (λ m. bit m p) (eqb→eq (zerosIn x) (full 4) e) ∙ full-bit 4 p l))
+pub zeros_full : (x : ℕ) → has_seats x zero_seats ≡ eqb (zeros_in x) (full 4)
+zeros_full x =
+    test_ext (has_seats x zero_seats) (eqb (zeros_in x) (full 4))
+    (λ h. eq_test (full_mask (zeros_in x) (zeros_lt x) (λ p l. zeros_at_lem x p l ∙ each_seat zero_seats block_patterns zero_seats_lem (omega arith) x h p l)))
+    (λ e. all_seats zero_seats block_patterns zero_seats_lem (omega arith) x
+    (λ p l. sym (zeros_at_lem x p l) ∙ ap (λ m. bit m p) (eqb→eq (zeros_in x) (full 4) e) ∙ full_bit 4 p l))
 
-plain-seat : (x p : ℕ) → bit x (seat p + 0) ≡ bit x (seat p)
-plain-seat x p = ap (bit x) (omega arith)
+plain_seat : (x p : ℕ) → bit x (seat p + 0) ≡ bit x (seat p)
+plain_seat x p = ap (bit x) (omega arith)
 
-pub ones-full : (x : ℕ) → hasSeats x oneSeats ≡ eqb (ones_in x) (full 4)
-ones-full x =
-    test-ext (hasSeats x oneSeats) (eqb (ones_in x) (full 4))
-    (λ h. eq_test (full-mask (ones_in x) (ones_lt x) (λ p l. ones-at x p l ∙ sym (plain-seat x p) ∙ each-seat oneSeats 0 one-seats (omega arith) x h p l)))
-    (λ e. all-seats oneSeats 0 one-seats (omega arith) x
-    (λ p l. plain-seat x p ∙ sym (ones-at x p l) ∙ ap (λ m. bit m p) (eqb→eq (ones_in x) (full 4) e) ∙ full-bit 4 p l))
+pub ones_full : (x : ℕ) → has_seats x one_seats ≡ eqb (ones_in x) (full 4)
+ones_full x =
+    test_ext (has_seats x one_seats) (eqb (ones_in x) (full 4))
+    (λ h. eq_test (full_mask (ones_in x) (ones_lt x) (λ p l. ones_at_lem x p l ∙ sym (plain_seat x p) ∙ each_seat one_seats 0 one_seats_lem (omega arith) x h p l)))
+    (λ e. all_seats one_seats 0 one_seats_lem (omega arith) x
+    (λ p l. plain_seat x p ∙ sym (ones_at_lem x p l) ∙ ap (λ m. bit m p) (eqb→eq (ones_in x) (full 4) e) ∙ full_bit 4 p l))
 
 -- and every pattern is covered where the pair and itself half a byte down have all seats for 1 between them
-pub covers-all : (x : ℕ) → Covered 4 (zerosIn x) (ones_in x) → T (allCovered x)
-covers-all x h =
-    all-seats oneSeats 0 one-seats (omega arith) (bit_or x (x / upperHalf))
+pub covers_all : (x : ℕ) → Covered 4 (zeros_in x) (ones_in x) → T (all_covered x)
+covers_all x h =
+    all_seats one_seats 0 one_seats_lem (omega arith) (bit_or x (x / upper_half))
     (λ p l.
     let i = seat p in
-    plain-seat (bit_or x (x / upperHalf)) p
-    ∙ some_one (bit x i) (bit (x / upperHalf) i) (bit (bit_or x (x / upperHalf)) i) (bit-lt x i) (bit-lt (x / upperHalf) i) (bit-or x (x / upperHalf) i)
-    (above (x / upperHalf) p (bit-div x blockPatterns i ∙ ap (bit x) (omega arith)) l))
+    plain_seat (bit_or x (x / upper_half)) p
+    ∙ some_one (bit x i) (bit (x / upper_half) i) (bit (bit_or x (x / upper_half)) i) (bit_lt x i) (bit_lt (x / upper_half) i) (bit_or_lem x (x / upper_half) i)
+    (above (x / upper_half) p (bit_div x block_patterns i ∙ ap (bit x) (omega arith)) l))
   where
     some_one : (a b c : ℕ) → a < 2 → b < 2 → c ≡ bit_or a b → 1 ≤ a + b → c ≡ 1
     some_one a b c la lb e s = e ∙ go a b la lb s
@@ -114,23 +114,23 @@ covers-all x h =
         go (suc zero) (suc (suc b)) la lb s = absurd (omega arith)
         go (suc (suc a)) b la lb s = absurd (omega arith)
 
-    above : (y p : ℕ) → bit y (seat p) ≡ bit x (seat p + blockPatterns) → p < narrowPatterns → 1 ≤ bit x (seat p) + bit y (seat p)
-    above y p e l = omega (arith, h p l, zeros-at x p l, ones-at x p l)
+    above : (y p : ℕ) → bit y (seat p) ≡ bit x (seat p + block_patterns) → p < narrow_patterns → 1 ≤ bit x (seat p) + bit y (seat p)
+    above y p e l = omega (arith, h p l, zeros_at_lem x p l, ones_at_lem x p l)
 
 -- where a table suits, every pattern is covered
-pub suits-covered : (zeros ones t p : ℕ) → T (masked zeros ones p (bit t p)) → 1 ≤ bit zeros p + bit ones p
+pub suits_covered : (zeros ones t p : ℕ) → T (masked zeros ones p (bit t p)) → 1 ≤ bit zeros p + bit ones p
 unfolding masked
-suits-covered zeros ones t p h = go (eqb (bit t p) 0) (eqb→eq (bit (cond (eqb (bit t p) 0) zeros ones) p) 1 h)
+suits_covered zeros ones t p h = go (eqb (bit t p) 0) (eqb→eq (bit (cond (eqb (bit t p) 0) zeros ones) p) 1 h)
   where
     go : (c : Bool) → bit (cond c zeros ones) p ≡ 1 → 1 ≤ bit zeros p + bit ones p
     go true e = omega (arith, e)
     go false e = omega (arith, e)
 
 -- no table suits where one of the pairs leaves a pattern neither 0 nor 1: the patterns of pair x stand from d on among those of the masks
-pub none-wide : (key : ℕ → ℕ) (n zeros ones x d : ℕ) → narrowPatterns + d ≤ 2 ^ n → ((p : ℕ) → p < narrowPatterns → bit zeros (d + p) ≡ bit (zerosIn x) p)
-    → ((p : ℕ) → p < narrowPatterns → bit ones (d + p) ≡ bit (ones_in x) p) → T (not (allCovered x)) → leastOf key n (masked zeros ones) ≡ none
-unfolding leastOf suits
-none-wide key n zeros ones x d inside ez eo h = go (least key fit space) (least-is key fit space)
+pub none_wide : (key : ℕ → ℕ) (n zeros ones x d : ℕ) → narrow_patterns + d ≤ 2 ^ n → ((p : ℕ) → p < narrow_patterns → bit zeros (d + p) ≡ bit (zeros_in x) p)
+    → ((p : ℕ) → p < narrow_patterns → bit ones (d + p) ≡ bit (ones_in x) p) → T (not (all_covered x)) → least_of key n (masked zeros ones) ≡ none
+unfolding least_of suits
+none_wide key n zeros ones x d inside ez eo h = go (least key fit space) (least_is key fit space)
   where
     P : Proj
     P = masked zeros ones
@@ -144,22 +144,22 @@ none-wide key n zeros ones x d inside ez eo h = go (least key fit space) (least-
     go : (o : Option ℕ) → Least key fit space o → o ≡ none
     go none g = refl
     go (some t) g =
-        absurd (T_not (allCovered x) h (covers-all x (λ p l.
-        let s = suits-covered zeros ones t (d + p) (all-at (2 ^ n) (λ q. P q (bit t q)) g.1 (d + p) (omega arith)) in
+        absurd (T_not (all_covered x) h (covers_all x (λ p l.
+        let s = suits_covered zeros ones t (d + p) (all_at (2 ^ n) (λ q. P q (bit t q)) g.1 (d + p) (omega arith)) in
         omega (arith, s, ez p l, eo p l))))
 
 -- the pair by itself, at four inputs
-pub none_between : (key : ℕ → ℕ) (x : ℕ) → T (not (allCovered x)) → leastOf key 4 (masked (zerosIn x) (ones_in x)) ≡ none
+pub none_between : (key : ℕ → ℕ) (x : ℕ) → T (not (all_covered x)) → least_of key 4 (masked (zeros_in x) (ones_in x)) ≡ none
 none_between key x =
-    none-wide key 4 (zerosIn x) (ones_in x) x 0 (omega arith) (λ p l. ap (bit (zerosIn x)) (zero-add p)) (λ p l. ap (bit (ones_in x)) (zero-add p))
+    none_wide key 4 (zeros_in x) (ones_in x) x 0 (omega arith) (λ p l. ap (bit (zeros_in x)) (zero-add p)) (λ p l. ap (bit (ones_in x)) (zero-add p))
 
 -- what two pairs have in common
-pub zeros-and : (x y : ℕ) → zerosIn (bit_and x y) ≡ bit_and (zerosIn x) (zerosIn y)
-zeros-and x y =
-    bit-ext narrowPatterns (zerosIn (bit_and x y)) (bit_and (zerosIn x) (zerosIn y)) (zeros-lt (bit_and x y)) (lt_of_le_of_lt (and_le_l (zerosIn x) (zerosIn y)) (zeros-lt x))
-    (λ p l. zeros-at (bit_and x y) p l ∙ bit-and x y (seat p + blockPatterns) ∙ ap₂ bit_and (sym (zeros-at x p l)) (sym (zeros-at y p l)) ∙ sym (bit-and (zerosIn x) (zerosIn y) p))
+pub zeros_and : (x y : ℕ) → zeros_in (bit_and x y) ≡ bit_and (zeros_in x) (zeros_in y)
+zeros_and x y =
+    bit_ext narrow_patterns (zeros_in (bit_and x y)) (bit_and (zeros_in x) (zeros_in y)) (zeros_lt (bit_and x y)) (lt_of_le_of_lt (and_le_l (zeros_in x) (zeros_in y)) (zeros_lt x))
+    (λ p l. zeros_at_lem (bit_and x y) p l ∙ bit_and_lem x y (seat p + block_patterns) ∙ ap₂ bit_and (sym (zeros_at_lem x p l)) (sym (zeros_at_lem y p l)) ∙ sym (bit_and_lem (zeros_in x) (zeros_in y) p))
 
 pub ones_and : (x y : ℕ) → ones_in (bit_and x y) ≡ bit_and (ones_in x) (ones_in y)
 ones_and x y =
-    bit-ext narrowPatterns (ones_in (bit_and x y)) (bit_and (ones_in x) (ones_in y)) (ones_lt (bit_and x y)) (lt_of_le_of_lt (and_le_l (ones_in x) (ones_in y)) (ones_lt x))
-    (λ p l. ones-at (bit_and x y) p l ∙ bit-and x y (seat p) ∙ ap₂ bit_and (sym (ones-at x p l)) (sym (ones-at y p l)) ∙ sym (bit-and (ones_in x) (ones_in y) p))
+    bit_ext narrow_patterns (ones_in (bit_and x y)) (bit_and (ones_in x) (ones_in y)) (ones_lt (bit_and x y)) (lt_of_le_of_lt (and_le_l (ones_in x) (ones_in y)) (ones_lt x))
+    (λ p l. ones_at_lem (bit_and x y) p l ∙ bit_and_lem x y (seat p) ∙ ap₂ bit_and (sym (ones_at_lem x p l)) (sym (ones_at_lem y p l)) ∙ sym (bit_and_lem (ones_in x) (ones_in y) p))

@@ -26,6 +26,6 @@ unfoldable pub of_bits : ℕ → (ℕ → ℕ) → ℕ
 of_bits k f = sum k (λ i. f i * 2 ^ i)
 
 -- a test as a number
-unfoldable pub isOne : Bool → ℕ
-isOne true = 1
-isOne false = 0
+unfoldable pub is_one : Bool → ℕ
+is_one true = 1
+is_one false = 0

@@ -15,19 +15,19 @@ unfoldable pub full : ℕ → ℕ
 full n = 2 ^ (2 ^ n) - 1
 
 -- a table of n + 1 inputs that is the first of them (the projection function of that input): 0 throughout its lower half and 1 throughout its upper half
-unfoldable pub wiredTable : ℕ → ℕ → Bool
-wiredTable n t = eqb (low n t) 0 && eqb (high n t) (full n)
+unfoldable pub wired_table : ℕ → ℕ → Bool
+wired_table n t = eqb (low n t) 0 && eqb (high n t) (full n)
 
 -- the cells of one selector, by whether it is soldered through (E4): then it is none
-unfoldable pub selectorCells : Bool → ℕ
-selectorCells wired = cond wired 0 1
+unfoldable pub selector_cells : Bool → ℕ
+selector_cells wired = cond wired 0 1
 
 -- a selector where the halves differ, and the cells below it; none of its own where they are the same
 unfoldable pub cells : ℕ → ℕ → ℕ
 cells zero t = zero
 cells (suc n) t =
     let a = cells n (low n t) in
-    let b = selectorCells (wiredTable n t) + (a + cells n (high n t)) in
+    let b = selector_cells (wired_table n t) + (a + cells n (high n t)) in
     cond (eqb (low n t) (high n t)) a b
 
 -- the tables of a list, in the order of the wires; 0 past its end

@@ -8,7 +8,7 @@ use Rattle.table.specs.Bits.{of_bits}
 -- what a stage sheet holds: its sizes and one drawing for each wire; or the refusal
 pub data StageSheet (A : Type 0) : Type 0 where
   got : ℕ → ℕ → List A → StageSheet A
-  noStage : Refusal → StageSheet A
+  no_stage : Refusal → StageSheet A
 
 pub record Drawing : Type 1 where
   -- what is drawn
@@ -20,7 +20,7 @@ pub record Drawing : Type 1 where
   -- its cells
   pub cells : Shape → ℕ
   -- the bytes of a stage sheet, read
-  pub readBytes : List ℕ → StageSheet Shape
+  pub read_bytes : List ℕ → StageSheet Shape
 
 -- a stage drawn: one well-formed drawing for each of m wires
 pub record Drawn (D : Drawing) (n m : ℕ) (stage : List D.Shape) : Type 0 where
@@ -29,14 +29,14 @@ pub record Drawn (D : Drawing) (n m : ℕ) (stage : List D.Shape) : Type 0 where
 
 module _ (D : Drawing) where
   -- the truth table of a drawing: bit p is what it drives on pattern p
-  unfoldable pub drawnTable : (n : ℕ) → D.Shape → ℕ
-  drawnTable n x = of_bits (2 ^ n) (λ p. D.follow n p x)
+  unfoldable pub drawn_table : (n : ℕ) → D.Shape → ℕ
+  drawn_table n x = of_bits (2 ^ n) (λ p. D.follow n p x)
 
   -- the value of a stage on pattern p: bit j is what the drawing of wire j drives
-  unfoldable pub drawnValue : (n : ℕ) → List D.Shape → (p : ℕ) → ℕ
-  drawnValue n stage p = of_bits (length stage) (λ j. get_or (map (D.follow n p) stage) j 0)
+  unfoldable pub drawn_value : (n : ℕ) → List D.Shape → (p : ℕ) → ℕ
+  drawn_value n stage p = of_bits (length stage) (λ j. get_or (map (D.follow n p) stage) j 0)
 
   -- the cells of a stage, over all its drawings
-  unfoldable pub drawnCells : List D.Shape → ℕ
-  drawnCells [] = zero
-  drawnCells (x ∷ stage) = D.cells x + drawnCells stage
+  unfoldable pub drawn_cells : List D.Shape → ℕ
+  drawn_cells [] = zero
+  drawn_cells (x ∷ stage) = D.cells x + drawn_cells stage

@@ -31,5 +31,5 @@ or_zero none = zero
 or_zero (some t) = t
 
 -- among all tables of n inputs that suit the projection
-unfoldable pub leastOf : (ℕ → ℕ) → ℕ → Proj → Option ℕ
-leastOf key n P = least key (suits n P) (2 ^ (2 ^ n))
+unfoldable pub least_of : (ℕ → ℕ) → ℕ → Proj → Option ℕ
+least_of key n P = least key (suits n P) (2 ^ (2 ^ n))

@@ -1,7 +1,7 @@
 -- Decision trees (document 01, "Stage sheet"): ordered, with their selectors, and which of these are cells (document 02, E4).
 use Rattle.std.specs.Prelude.{ℕ, zero, suc, ◌+◌, ◌-◌, ◌<◌, ◌≤◌, Bool, false, cond, ◌&&◌, eqb}
 use Rattle.table.specs.Bits.{bit}
-use Rattle.table.specs.Cells.{low, high, selectorCells}
+use Rattle.table.specs.Cells.{low, high, selector_cells}
 
 -- a constant (bytes 23 and 24), or a selector (22) with its input and two subtrees, first the one for 0
 pub data Tree : Type 0 where
@@ -24,18 +24,18 @@ selectors (con b) = zero
 selectors (sel i z o) = suc (selectors z + selectors o)
 
 -- a tree is the constant b itself, and no larger one that is worth as much
-unfoldable pub isCon : ℕ → Tree → Bool
-isCon b (con a) = eqb a b
-isCon b (sel i z o) = false
+unfoldable pub is_con : ℕ → Tree → Bool
+is_con b (con a) = eqb a b
+is_con b (sel i z o) = false
 
 -- a selector with these two trees is soldered through (E4)
-unfoldable pub wiredTrees : (z o : Tree) → Bool
-wiredTrees z o = isCon 0 z && isCon 1 o
+unfoldable pub wired_trees : (z o : Tree) → Bool
+wired_trees z o = is_con 0 z && is_con 1 o
 
 -- the cells of a tree: its selectors but for those that are soldered through
-unfoldable pub treeCells : Tree → ℕ
-treeCells (con b) = zero
-treeCells (sel i z o) = selectorCells (wiredTrees z o) + (treeCells z + treeCells o)
+unfoldable pub tree_cells : Tree → ℕ
+tree_cells (con b) = zero
+tree_cells (sel i z o) = selector_cells (wired_trees z o) + (tree_cells z + tree_cells o)
 
 -- the tree that the writer emits: of a table of r inputs, which stand after k others; no selector where both halves are the same
 unfoldable pub reduced : ℕ → ℕ → ℕ → Tree

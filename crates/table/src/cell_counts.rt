@@ -2,7 +2,7 @@
 // No other function calls these now: the search has its cells from the picks, and the writer counts selectors. They stand in the form that document 01 names.
 ghost use Rattle.std.specs.Prelude.{◌≡◌, ◌<◌, ◌≤◌, ◌^◌};
 ghost use Rattle.table.specs.Cells.{cells};
-ghost use Rattle.table.specs.Inner.Pairs.{narrowInputs};
+ghost use Rattle.table.specs.Inner.Pairs.{narrow_inputs};
 
 use crate::picks::THREE_SPACE;
 
@@ -39,7 +39,7 @@ pub fn count8(t: u8) -> u8
 // The cells of a table of one to four inputs, and no more. Four inputs take two look-ups, one for each half, and none where the table is input 1, whose line
 // is soldered through; a smaller table is repeated up to three inputs, which adds no cell. An inner function: who calls it has tested the size and the table.
 pub fn count(n: u8, t: u16) -> u8
-    requires { (1 ≤ n) × (n ≤ narrowInputs) × (t < 2 ^ (2 ^ n)) }
+    requires { (1 ≤ n) × (n ≤ narrow_inputs) × (t < 2 ^ (2 ^ n)) }
     ensures { result ≡ cells n t }
 {
     if n == 1 {

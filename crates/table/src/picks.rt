@@ -5,10 +5,10 @@
 // table, so no place has to be made.
 ghost use Rattle.std.specs.Prelude.{◌≡◌, ◌+◌, ◌*◌, ◌/◌, ◌%◌, ◌^◌, ◌<◌, ◌≤◌, min};
 ghost use Rattle.table.specs.Cells.{cells};
-ghost use Rattle.table.specs.Inner.Ranks.{pick_of, rank, narrowSpace};
-ghost use Rattle.table.specs.Inner.Blocks.{entries, threeSpace, noTable, noEntry, block_at, Blocks, HalvesShow, PickShown, Covered};
-ghost use Rattle.table.specs.Inner.Lines.{lineBy};
-ghost use Rattle.table.specs.Inner.Pairs.{narrowInputs, zerosIn, ones_in};
+ghost use Rattle.table.specs.Inner.Ranks.{pick_of, rank, narrow_space};
+ghost use Rattle.table.specs.Inner.Blocks.{entries, three_space, no_table, no_entry, block_at, Blocks, HalvesShow, PickShown, Covered};
+ghost use Rattle.table.specs.Inner.Lines.{line_by};
+ghost use Rattle.table.specs.Inner.Pairs.{narrow_inputs, zeros_in, ones_in};
 
 use crate::cell_counts::INPUT_ONE;
 
@@ -106,14 +106,14 @@ pub fn lesser(a: u32, b: u32) -> u32
 // Two inputs: an entry of the table.
 fn block(e: &[u32; LENT], at: u32) -> u32
     requires { Blocks e.now × (at < entries) }
-    ensures { (result ≡ block_at at) × (threeSpace ≤ result) × (result ≤ noEntry) }
+    ensures { (result ≡ block_at at) × (three_space ≤ result) × (result ≤ no_entry) }
 {
     e[at as usize]
 }
 
 // The line of an input where a pair has what it needs, and another number where it does not.
 fn line_or(pair: u32, needed: u32, line: u32, other: u32) -> u32
-    ensures { result ≡ lineBy pair needed line other }
+    ensures { result ≡ line_by pair needed line other }
 {
     if pair & needed == needed { line } else { other }
 }
@@ -123,7 +123,7 @@ fn line_or(pair: u32, needed: u32, line: u32, other: u32) -> u32
 // Where the line suits it is less than any two halves.
 fn pick3(e: &[u32; LENT], pair: u32) -> u32
     requires { Blocks e.now }
-    ensures { HalvesShow (pair % entries) (pair / entries % entries) result × (threeSpace ≤ result) × (result ≤ noEntry) }
+    ensures { HalvesShow (pair % entries) (pair / entries % entries) result × (three_space ≤ result) × (result ≤ no_entry) }
 {
     let low = pair % PLACES;
     let high = pair / PLACES % PLACES;
@@ -138,7 +138,7 @@ fn pick3(e: &[u32; LENT], pair: u32) -> u32
 // fill NARROW_SPACE.
 pub fn pick4(e: &[u32; LENT], pair: u32) -> u32
     requires { Blocks e.now }
-    ensures { PickShown 4 narrowSpace (zerosIn pair) (ones_in pair) result × (narrowSpace ≤ result) × (result ≤ noTable * narrowSpace) }
+    ensures { PickShown 4 narrow_space (zeros_in pair) (ones_in pair) result × (narrow_space ≤ result) × (result ≤ no_table * narrow_space) }
 {
     let upper = pair / THIRD_BYTE;
     let a = pick3(e, pair);
@@ -155,9 +155,9 @@ pub fn pick4(e: &[u32; LENT], pair: u32) -> u32
 // pattern. There is an arm for each number of inputs up to four. The cells are one less than the key.
 // One input is looked up as two, the patterns of each mask beside themselves.
 pub fn pick(e: &[u32; LENT], n: u8, pair: u32) -> u32
-    requires { Blocks e.now × (1 ≤ n) × (n ≤ narrowInputs) × (zerosIn pair < 2 ^ (2 ^ n)) × (ones_in pair < 2 ^ (2 ^ n))
+    requires { Blocks e.now × (1 ≤ n) × (n ≤ narrow_inputs) × (zeros_in pair < 2 ^ (2 ^ n)) × (ones_in pair < 2 ^ (2 ^ n))
         × Covered n (zerosIn pair) (ones_in pair) }
-    ensures { result ≡ rank (cells n) (pick_of (cells n) n (zerosIn pair) (ones_in pair)) }
+    ensures { result ≡ rank (cells n) (pick_of (cells n) n (zeros_in pair) (ones_in pair)) }
 {
     match n {
         1 => {

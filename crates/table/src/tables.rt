@@ -1,6 +1,6 @@
 // Tables of up to six inputs as numbers of 64 bits: the one that is 1 on every pattern, and whether a number is a table.
 ghost use Rattle.std.specs.Prelude.{◌≡◌, ◌≤◌, ◌^◌};
-ghost use Rattle.sheet.specs.Limits.{maxInputs, isBeyond};
+ghost use Rattle.sheet.specs.Limits.{max_inputs, is_beyond};
 ghost use Rattle.table.specs.Cells.{full};
 
 use sheet::Sheet;
@@ -11,7 +11,7 @@ const TABLE_BITS: u8 = Sheet::MAX_PATTERNS as u8;
 
 // The table of n inputs that is 1 on every pattern. Inner: its callers have tested the size.
 pub fn full_table(n: u8) -> u64
-    requires { n ≤ maxInputs }
+    requires { n ≤ max_inputs }
     ensures { result ≡ full n }
 {
     u64::MAX >> (TABLE_BITS - patterns_of(n))
@@ -19,7 +19,7 @@ pub fn full_table(n: u8) -> u64
 
 // t has bits past the patterns of n inputs.
 pub fn table_out(n: u8, t: u64) -> bool
-    ensures { result ≡ isBeyond (2 ^ n) t }
+    ensures { result ≡ is_beyond (2 ^ n) t }
 {
     let bits = patterns_of(n);
     if bits < TABLE_BITS {

@@ -3,12 +3,12 @@
 // Of five inputs the key and the table stand in one number; a table of six inputs fills a number by itself.
 // Inner functions: the parts of a search meet what they require.
 ghost use Rattle.std.specs.Prelude.{◌≡◌, cond, ◌+◌, ◌*◌, ◌/◌, ◌%◌, ◌^◌, ◌<◌, ◌≤◌, min};
-ghost use Rattle.sheet.specs.Limits.{maxInputs};
+ghost use Rattle.sheet.specs.Limits.{max_inputs};
 ghost use Rattle.table.specs.Cells.{cells};
-ghost use Rattle.table.specs.Inner.Ranks.{pick_of, narrowSpace};
-ghost use Rattle.table.specs.Inner.Blocks.{noTable, Blocks, PickShown, Covered};
-ghost use Rattle.table.specs.Inner.Pairs.{narrowInputs, zerosIn, ones_in};
-ghost use Rattle.table.specs.Inner.Wide.{fiveSpace, sixSpace, fourMasks, hasSeats, allCovered, lineFits, lineOfFive, lineOfSix, FiveShown, SixShown};
+ghost use Rattle.table.specs.Inner.Ranks.{pick_of, narrow_space};
+ghost use Rattle.table.specs.Inner.Blocks.{no_table, Blocks, PickShown, Covered};
+ghost use Rattle.table.specs.Inner.Pairs.{narrow_inputs, zeros_in, ones_in};
+ghost use Rattle.table.specs.Inner.Wide.{five_space, six_space, four_masks, has_seats, all_covered, line_fits, line_of_five, line_of_six, FiveShown, SixShown};
 
 use crate::picks::{
     BLOCK_SPACE, LENT, NARROW_INPUTS, NARROW_PATTERNS, NARROW_SPACE, NO_TABLE, pick4,
@@ -60,21 +60,21 @@ fn lesser_of(a: u64, b: u64) -> u64
 
 // A pair has all of some seats.
 fn has_seats(pair: u32, seats: u32) -> bool
-    ensures { result ≡ hasSeats pair seats }
+    ensures { result ≡ has_seats pair seats }
 {
     pair & seats == seats
 }
 
 // Every pattern can be 0 or 1: the seats for 0 come down beside those for 1.
 fn all_covered(pair: u32) -> bool
-    ensures { result ≡ allCovered pair }
+    ensures { result ≡ all_covered pair }
 {
     has_seats(pair | (pair / BLOCK_SPACE), ONE_SEATS)
 }
 
 // All of the lower half can be 0, and all of the upper half can be 1.
 fn line_fits(low: u32, high: u32) -> bool
-    ensures { result ≡ lineFits low high }
+    ensures { result ≡ line_fits low high }
 {
     if has_seats(low, ZERO_SEATS) {
         has_seats(high, ONE_SEATS)
@@ -86,7 +86,7 @@ fn line_fits(low: u32, high: u32) -> bool
 // Four inputs. What two halves have in common often leaves a pattern neither 0 nor 1: then nothing is looked up.
 fn common_four(e: &[u32; LENT], pair: u32) -> u64
     requires { Blocks e.now }
-    ensures { PickShown narrowInputs narrowSpace (zerosIn pair) (ones_in pair) result × (narrowSpace ≤ result) × (result ≤ noTable * narrowSpace) }
+    ensures { PickShown narrow_inputs narrow_space (zeros_in pair) (ones_in pair) result × (narrow_space ≤ result) × (result ≤ no_table * narrow_space) }
 {
     if all_covered(pair) {
         pick4(e, pair) as u64
@@ -97,7 +97,7 @@ fn common_four(e: &[u32; LENT], pair: u32) -> u64
 
 // The line of five inputs where it suits, and another number where it does not.
 fn five_line_or(low: u32, high: u32, other: u64) -> u64
-    ensures { result ≡ cond (lineFits low high) lineOfFive other }
+    ensures { result ≡ cond (line_fits low high) line_of_five other }
 {
     if line_fits(low, high) {
         LINE_OF_FIVE
@@ -109,7 +109,7 @@ fn five_line_or(low: u32, high: u32, other: u64) -> u64
 // Five inputs: key * FIVE_SPACE + table. Keys have one more than the cells, so that those of two halves add up (`picks`).
 fn pick5(e: &[u32; LENT], low: u32, high: u32) -> u64
     requires { Blocks e.now }
-    ensures { FiveShown low high result × (fiveSpace ≤ result) × (result ≤ noTable * fiveSpace) }
+    ensures { FiveShown low high result × (five_space ≤ result) × (result ≤ no_table * five_space) }
 {
     let a = pick4(e, low) as u64;
     let b = pick4(e, high) as u64;
@@ -124,7 +124,7 @@ fn pick5(e: &[u32; LENT], low: u32, high: u32) -> u64
 // The same, where some pattern may be left neither 0 nor 1.
 fn common_five(e: &[u32; LENT], low: u32, high: u32) -> u64
     requires { Blocks e.now }
-    ensures { FiveShown low high result × (fiveSpace ≤ result) × (result ≤ noTable * fiveSpace) }
+    ensures { FiveShown low high result × (five_space ≤ result) × (result ≤ no_table * five_space) }
 {
     if !all_covered(low) {
         return NONE_OF_FIVE;
@@ -137,7 +137,7 @@ fn common_five(e: &[u32; LENT], low: u32, high: u32) -> u64
 
 // A pick by its key, which is one more than its cells.
 fn pick_by_key(key: u64, table: u64) -> Pick
-    requires { (1 ≤ key) × (key ≤ 2 * noTable) }
+    requires { (1 ≤ key) × (key ≤ 2 * no_table) }
     ensures { (1 + result.cells ≡ key) × (result.table ≡ table) }
 {
     Pick {
@@ -148,8 +148,8 @@ fn pick_by_key(key: u64, table: u64) -> Pick
 
 // The lesser of two picks of six inputs, told by key and table.
 fn lesser_pick(key: u64, table: u64, cost: u64, other: u64) -> Pick
-    requires { (1 ≤ key) × (key ≤ 2 * noTable) × (1 ≤ cost) × (cost ≤ 2 * noTable) }
-    ensures { (1 + result.cells) * sixSpace + result.table ≡ min (key * sixSpace + table) (cost * sixSpace + other) }
+    requires { (1 ≤ key) × (key ≤ 2 * no_table) × (1 ≤ cost) × (cost ≤ 2 * no_table) }
+    ensures { (1 + result.cells) * six_space + result.table ≡ min (key * six_space + table) (cost * six_space + other) }
 {
     if key < cost {
         return pick_by_key(key, table);
@@ -165,8 +165,8 @@ fn lesser_pick(key: u64, table: u64, cost: u64, other: u64) -> Pick
 
 // Two halves of five inputs under a selector, or the line in their place; beside what both have in common, twice.
 fn join6(low: u64, high: u64, both: u64, line: bool) -> Pick
-    requires { (fiveSpace ≤ low) × (low ≤ noTable * fiveSpace) × (fiveSpace ≤ high) × (high ≤ noTable * fiveSpace) × (fiveSpace ≤ both) × (both ≤ noTable * fiveSpace) }
-    ensures { (1 + result.cells) * sixSpace + result.table
+    requires { (five_space ≤ low) × (low ≤ no_table * five_space) × (five_space ≤ high) × (high ≤ no_table * five_space) × (five_space ≤ both) × (both ≤ no_table * five_space) }
+    ensures { (1 + result.cells) * six_space + result.table
         ≡ min (both / fiveSpace * sixSpace + (both % fiveSpace * fiveSpace + both % fiveSpace))
         (cond line lineOfSix ((low / fiveSpace + high / fiveSpace) * sixSpace + (high % fiveSpace * fiveSpace + low % fiveSpace))) }
 {
@@ -187,7 +187,7 @@ fn join6(low: u64, high: u64, both: u64, line: bool) -> Pick
 // Six inputs. What two pairs have in common stands in one pair, bit by bit together.
 fn pick6(e: &[u32; LENT], a: u32, b: u32, c: u32, d: u32) -> Pick
     requires { Blocks e.now }
-    ensures { SixShown a b c d ((1 + result.cells) * sixSpace + result.table) }
+    ensures { SixShown a b c d ((1 + result.cells) * six_space + result.table) }
 {
     let low = pick5(e, a, b);
     let high = pick5(e, c, d);
@@ -198,10 +198,10 @@ fn pick6(e: &[u32; LENT], a: u32, b: u32, c: u32, d: u32) -> Pick
 // The pick between the masks of four pairs, among the tables of n inputs, five or six; with five inputs the last two pairs are empty. The search calls it with
 // the masks of a wire, which cover every pattern.
 pub fn wide_pick(e: &[u32; LENT], n: u8, a: u32, b: u32, c: u32, d: u32) -> Pick
-    requires { Blocks e.now × (narrowInputs < n) × (n ≤ maxInputs)
+    requires { Blocks e.now × (narrow_inputs < n) × (n ≤ max_inputs)
         × (fourMasks (zerosIn a) (zerosIn b) (zerosIn c) (zerosIn d) < 2 ^ (2 ^ n)) × (fourMasks (ones_in a) (ones_in b) (ones_in c) (ones_in d) < 2 ^ (2 ^ n))
         × Covered n (fourMasks (zerosIn a) (zerosIn b) (zerosIn c) (zerosIn d)) (fourMasks (ones_in a) (ones_in b) (ones_in c) (ones_in d)) }
-    ensures { (result.table ≡ pick_of (cells n) n (fourMasks (zerosIn a) (zerosIn b) (zerosIn c) (zerosIn d)) (fourMasks (ones_in a) (ones_in b) (ones_in c) (ones_in d)))
+    ensures { (result.table ≡ pick_of (cells n) n (four_masks (zeros_in a) (zeros_in b) (zeros_in c) (zeros_in d)) (four_masks (ones_in a) (ones_in b) (ones_in c) (ones_in d)))
         × (result.cells ≡ cells n result.table) }
 {
     if n == FIVE_INPUTS {

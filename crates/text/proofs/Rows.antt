@@ -9,19 +9,19 @@ unfoldable printing : ℕ
 unfolding digits decimal
 printing = 0
 
-pub decimal-0 : decimal 0 ≡ 0x30 ∷ []
+pub decimal_0 : decimal 0 ≡ 0x30 ∷ []
 unfolding printing
-decimal-0 = refl
+decimal_0 = refl
 
-pub decimal-7 : decimal 7 ≡ 0x37 ∷ []
+pub decimal_7 : decimal 7 ≡ 0x37 ∷ []
 unfolding printing
-decimal-7 = refl
+decimal_7 = refl
 
-pub decimal-10 : decimal 10 ≡ 0x31 ∷ 0x30 ∷ []
+pub decimal_10 : decimal 10 ≡ 0x31 ∷ 0x30 ∷ []
 unfolding printing
-decimal-10 = refl
+decimal_10 = refl
 
 -- the largest budget
-pub decimal-most : decimal 4294967295 ≡ 0x34 ∷ 0x32 ∷ 0x39 ∷ 0x34 ∷ 0x39 ∷ 0x36 ∷ 0x37 ∷ 0x32 ∷ 0x39 ∷ 0x35 ∷ []
+pub decimal_most : decimal 4294967295 ≡ 0x34 ∷ 0x32 ∷ 0x39 ∷ 0x34 ∷ 0x39 ∷ 0x36 ∷ 0x37 ∷ 0x32 ∷ 0x39 ∷ 0x35 ∷ []
 unfolding printing
-decimal-most = refl
+decimal_most = refl

@@ -19,26 +19,26 @@ unfoldable pub decimal : ℕ → List ℕ
 decimal x = digits (suc x) x
 
 -- no number below 2 to the power 64 has more digits
-abbrev pub longestDecimal : ℕ
-longestDecimal = 20
+abbrev pub longest_decimal : ℕ
+longest_decimal = 20
 
 -- a number after its name
 unfoldable pub named : List ℕ → ℕ → List ℕ
 named name x = name ++ decimal x
 
 -- the hexadecimal digits: above 9 the capital letters from A on
-unfoldable pub hexDigit : ℕ → ℕ
-hexDigit d = cond (ltb d 10) (digit d) (0x41 + (d - 10))
+unfoldable pub hex_digit : ℕ → ℕ
+hex_digit d = cond (ltb d 10) (digit d) (0x41 + (d - 10))
 
 -- a byte: its high digit and its low digit, always both
-unfoldable pub hexPair : ℕ → List ℕ
-hexPair b = hexDigit (b / 16) ∷ hexDigit (b % 16) ∷ []
+unfoldable pub hex_pair : ℕ → List ℕ
+hex_pair b = hex_digit (b / 16) ∷ hex_digit (b % 16) ∷ []
 
 -- the pairs of several bytes have one space between them, and none at either end: the pairs after the first, each after its space
-unfoldable pub furtherPairs : List ℕ → List ℕ
-furtherPairs [] = []
-furtherPairs (b ∷ bs) = space ∷ hexPair b ++ furtherPairs bs
+unfoldable pub further_pairs : List ℕ → List ℕ
+further_pairs [] = []
+further_pairs (b ∷ bs) = space ∷ hex_pair b ++ further_pairs bs
 
-unfoldable pub hexPairs : List ℕ → List ℕ
-hexPairs [] = []
-hexPairs (b ∷ bs) = hexPair b ++ furtherPairs bs
+unfoldable pub hex_pairs : List ℕ → List ℕ
+hex_pairs [] = []
+hex_pairs (b ∷ bs) = hex_pair b ++ further_pairs bs

@@ -1,9 +1,9 @@
 // Text put into a lent buffer at a place, each call with the place after it. Bytes that find no room are dropped: the place moves on all the same, so that the
-// last place is the length that the whole text needs. What is required is there for the sums alone: no text ends past `lastPlace`.
+// last place is the length that the whole text needs. What is required is there for the sums alone: no text ends past `last_place`.
 // Inner functions: the report and the drawn cases' program stay below it.
 ghost use Rattle.std.specs.Prelude.{◌≡◌, [], ◌∷◌, ◌+◌, ◌*◌, ◌≤◌, ◌<◌, length, take};
-ghost use Rattle.base.specs.Inner.Put.{Put, PutWithin, lastPlace};
-ghost use Rattle.text.specs.Text.{decimal, hexDigit, hexPair, hexPairs, longestDecimal, named};
+ghost use Rattle.base.specs.Inner.Put.{Put, PutWithin, last_place};
+ghost use Rattle.text.specs.Text.{decimal, hex_digit, hex_pair, hex_pairs, longest_decimal, named};
 
 use base::{byte_at, put};
 
@@ -12,7 +12,7 @@ pub const LONGEST_DECIMAL: usize = 20;
 
 // Puts one byte.
 pub fn put_byte(out: &mut [u8], at: usize, b: u8) -> usize
-    requires { at < lastPlace }
+    requires { at < last_place }
     ensures { Put out.old at (b ∷ []) out.new result }
 {
     put(out, at, b);
@@ -21,7 +21,7 @@ pub fn put_byte(out: &mut [u8], at: usize, b: u8) -> usize
 
 // Puts a text as it stands.
 pub fn put_text(out: &mut [u8], at: usize, text: &[u8]) -> usize
-    requires { at + length text.now ≤ lastPlace }
+    requires { at + length text.now ≤ last_place }
     ensures { Put out.old at text.now out.new result }
 {
     let mut next = at;
@@ -35,8 +35,8 @@ pub fn put_text(out: &mut [u8], at: usize, text: &[u8]) -> usize
 
 // Puts a number in decimal digits: those of a tenth of it, and the last one.
 pub fn put_decimal(out: &mut [u8], at: usize, x: u64) -> usize
-    requires { at + longestDecimal ≤ lastPlace }
-    ensures { PutWithin longestDecimal out.old at (decimal x) out.new result }
+    requires { at + longest_decimal ≤ last_place }
+    ensures { PutWithin longest_decimal out.old at (decimal x) out.new result }
 {
     if x < 10 {
         return put_byte(out, at, 0x30 + (x as u8));
@@ -47,8 +47,8 @@ pub fn put_decimal(out: &mut [u8], at: usize, x: u64) -> usize
 
 // Puts a number after its name.
 pub fn put_named(out: &mut [u8], at: usize, name: &[u8], x: u64) -> usize
-    requires { at + length name.now + longestDecimal ≤ lastPlace }
-    ensures { PutWithin (length name.now + longestDecimal) out.old at (named name.now x) out.new result }
+    requires { at + length name.now + longest_decimal ≤ last_place }
+    ensures { PutWithin (length name.now + longest_decimal) out.old at (named name.now x) out.new result }
 {
     let next = put_text(out, at, name);
     put_decimal(out, next, x)
@@ -57,15 +57,15 @@ pub fn put_named(out: &mut [u8], at: usize, name: &[u8], x: u64) -> usize
 // A hexadecimal digit.
 fn hex_digit(d: u8) -> u8
     requires { d < 16 }
-    ensures { result ≡ hexDigit d }
+    ensures { result ≡ hex_digit d }
 {
     if d < 10 { 0x30 + d } else { 0x41 + (d - 10) }
 }
 
 // Puts a byte as two hexadecimal digits.
 fn put_hex_pair(out: &mut [u8], at: usize, b: u8) -> usize
-    requires { at + 2 ≤ lastPlace }
-    ensures { Put out.old at (hexPair b) out.new result }
+    requires { at + 2 ≤ last_place }
+    ensures { Put out.old at (hex_pair b) out.new result }
 {
     put(out, at, hex_digit(b / 16));
     put(out, at + 1, hex_digit(b % 16));
@@ -85,8 +85,8 @@ fn available(bytes: &[u8], count: usize) -> usize
 
 // Puts the first `count` bytes of a slice, or all where it has fewer, as hexadecimal pairs parted by single spaces.
 pub fn put_hex_pairs(out: &mut [u8], at: usize, bytes: &[u8], count: usize) -> usize
-    requires { at + 3 * count ≤ lastPlace }
-    ensures { PutWithin (3 * count) out.old at (hexPairs (take count bytes.now)) out.new result }
+    requires { at + 3 * count ≤ last_place }
+    ensures { PutWithin (3 * count) out.old at (hex_pairs (take count bytes.now)) out.new result }
 {
     let n = available(bytes, count);
     if n == 0 {

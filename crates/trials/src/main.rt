@@ -2,7 +2,7 @@
 // What it prints is compared with the replies of a solver that was written apart from the library, and is not proved here; that the program is safe and
 // ends is. What the bytes of a record say and what the parts of a reply put is proved in `samples` and `report`.
 ghost use Rattle.std.specs.Prelude.{◌≤◌, length};
-ghost use Rattle.trials.specs.Inner.Window.{nearlyFull, window};
+ghost use Rattle.trials.specs.Inner.Window.{nearly_full, window};
 
 use libc::{STDIN_FILENO, STDOUT_FILENO};
 
@@ -20,7 +20,7 @@ fn write_first(out: &[u8], count: usize) {
 
 // Writes the replies out where they nearly fill the buffer, and hands back the place for the next.
 fn make_room(out: &[u8], used: usize) -> usize
-    ensures { result ≤ nearlyFull }
+    ensures { result ≤ nearly_full }
 {
     if used < NEARLY_FULL {
         return used;

@@ -1,11 +1,11 @@
 // The reply to a record: the library is called on what it holds, and its answer put as text into a lent buffer at a place; the place after it is handed back.
 // Inner functions: the main loop meets what `put_reply` requires, and the functions here what the others do: bounds that are there for the sums alone.
 ghost use Rattle.std.specs.Prelude.{◌+◌, ◌≤◌, length};
-ghost use Rattle.base.specs.Inner.Put.{lastPlace};
-ghost use Rattle.diagram.specs.Bytes.{longestWritten};
-ghost use Rattle.report.specs.Lines.{longestPairs, longestWord};
-ghost use Rattle.samples.specs.Inner.Lengths.{longestKept, longestNumberLine, longestRecord, longestReply};
-ghost use Rattle.trials.specs.Inner.Window.{mostRoom};
+ghost use Rattle.base.specs.Inner.Put.{last_place};
+ghost use Rattle.diagram.specs.Bytes.{longest_written};
+ghost use Rattle.report.specs.Lines.{longest_pairs, longest_word};
+ghost use Rattle.samples.specs.Inner.Lengths.{longest_kept, longest_number_line, longest_record, longest_reply};
+ghost use Rattle.trials.specs.Inner.Window.{most_room};
 
 use base::{Refusal, Verdict, Written, byte_at};
 use clean::LONGEST_COPY;
@@ -28,8 +28,8 @@ const MOST_ROOM: usize = 800;
 
 // The first `k` bytes of a buffer, a stage or a copy of at most so many, as pairs, and the end of their line.
 fn put_shown(out: &mut [u8], at: usize, buffer: &[u8], k: usize, most: usize) -> usize
-    requires { at + longestPairs most + longestKept ≤ lastPlace }
-    ensures { result ≤ at + longestPairs most + longestKept }
+    requires { at + longest_pairs most + longest_kept ≤ last_place }
+    ensures { result ≤ at + longest_pairs most + longest_kept }
 {
     let next = put_shown_pairs(out, at, buffer, k, most);
     put_kept(out, next, buffer, k)
@@ -37,8 +37,8 @@ fn put_shown(out: &mut [u8], at: usize, buffer: &[u8], k: usize, most: usize) ->
 
 // The line of a refusal by a call with a buffer, after the word for what is refused where several things were handed in.
 fn put_refused(out: &mut [u8], at: usize, whose: &[u8], refusal: Refusal, buffer: &[u8]) -> usize
-    requires { (at + longestReply ≤ lastPlace) × (length whose.now ≤ longestWord) }
-    ensures { result ≤ at + longestReply }
+    requires { (at + longest_reply ≤ last_place) × (length whose.now ≤ longest_word) }
+    ensures { result ≤ at + longest_reply }
 {
     let start = put_text(out, at, whose);
     let next = put_refusal(out, start, refusal);
@@ -47,8 +47,8 @@ fn put_refused(out: &mut [u8], at: usize, whose: &[u8], refusal: Refusal, buffer
 
 // Both lines of a quote with a stage.
 fn put_quote_line(out: &mut [u8], at: usize, q: Quoted, word: &[u8], buffer: &[u8]) -> usize
-    requires { (at + longestReply ≤ lastPlace) × (length word.now ≤ longestWord) }
-    ensures { result ≤ at + longestReply }
+    requires { (at + longest_reply ≤ last_place) × (length word.now ≤ longest_word) }
+    ensures { result ≤ at + longest_reply }
 {
     let counts = put_counts(out, at, q.cells, q.floor, q.visits);
     let line = put_text(out, counts, word);
@@ -57,8 +57,8 @@ fn put_quote_line(out: &mut [u8], at: usize, q: Quoted, word: &[u8], buffer: &[u
 
 // The lines of a quote.
 fn put_quoted(out: &mut [u8], at: usize, q: Quoted, buffer: &[u8]) -> usize
-    requires { at + longestReply ≤ lastPlace }
-    ensures { result ≤ at + longestReply }
+    requires { at + longest_reply ≤ last_place }
+    ensures { result ≤ at + longest_reply }
 {
     let mark = q.mark;
     match mark {
@@ -77,8 +77,8 @@ fn put_quote_into(
     budget: u32,
     buffer: &mut [u8],
 ) -> usize
-    requires { at + longestReply ≤ lastPlace }
-    ensures { result ≤ at + longestReply }
+    requires { at + longest_reply ≤ last_place }
+    ensures { result ≤ at + longest_reply }
 {
     let q = quote::quote_on(kind, sheet, budget, buffer);
     put_quoted(out, at, q, buffer)
@@ -86,16 +86,16 @@ fn put_quote_into(
 
 // The bytes of a buffer that is to be lent, told by a number of two bytes.
 fn room_at(s: &[u8], at: usize) -> usize
-    requires { at + 2 ≤ lastPlace }
-    ensures { result ≤ mostRoom }
+    requires { at + 2 ≤ last_place }
+    ensures { result ≤ most_room }
 {
     lower_of(length_at(s, at), MOST_ROOM)
 }
 
 // Quote: budget (4 bytes), buffer length (2), sheet length (2), sheet.
 fn put_quote(kind: BoardKind, out: &mut [u8], at: usize, s: &[u8], from: usize) -> usize
-    requires { (at + longestReply ≤ lastPlace) × (from + longestRecord ≤ lastPlace) }
-    ensures { result ≤ at + longestReply }
+    requires { (at + longest_reply ≤ last_place) × (from + longest_record ≤ last_place) }
+    ensures { result ≤ at + longest_reply }
 {
     let budget = u32_at(s, from + 1);
     let room = room_at(s, from + 5);
@@ -106,8 +106,8 @@ fn put_quote(kind: BoardKind, out: &mut [u8], at: usize, s: &[u8], from: usize) 
 
 // The lines of a joint quote: a refusal names the sheet.
 fn put_joint(out: &mut [u8], at: usize, q: JointQuoted, buffer: &[u8]) -> usize
-    requires { at + longestReply ≤ lastPlace }
-    ensures { result ≤ at + longestReply }
+    requires { at + longest_reply ≤ last_place }
+    ensures { result ≤ at + longest_reply }
 {
     let mark = q.mark;
     match mark {
@@ -127,8 +127,8 @@ fn put_joined_into(
     budget: u32,
     buffer: &mut [u8],
 ) -> usize
-    requires { at + longestReply ≤ lastPlace }
-    ensures { result ≤ at + longestReply }
+    requires { at + longest_reply ≤ last_place }
+    ensures { result ≤ at + longest_reply }
 {
     let q = joined::quote_joined(first, second, budget, buffer);
     put_joint(out, at, q, buffer)
@@ -136,8 +136,8 @@ fn put_joined_into(
 
 // Joint quote: budget (4 bytes), buffer length (2), first sheet's length (2), second sheet's length (2), first sheet, second sheet.
 fn put_joined(out: &mut [u8], at: usize, s: &[u8], from: usize) -> usize
-    requires { (at + longestReply ≤ lastPlace) × (from + longestRecord ≤ lastPlace) }
-    ensures { result ≤ at + longestReply }
+    requires { (at + longest_reply ≤ last_place) × (from + longest_record ≤ last_place) }
+    ensures { result ≤ at + longest_reply }
 {
     let budget = u32_at(s, from + 1);
     let room = room_at(s, from + 5);
@@ -150,8 +150,8 @@ fn put_joined(out: &mut [u8], at: usize, s: &[u8], from: usize) -> usize
 
 // The line of a stage that was judged: the word of the judgement, and the stage's cells.
 fn put_audit_line(out: &mut [u8], at: usize, word: &[u8], cells: u32) -> usize
-    requires { (at + longestNumberLine ≤ lastPlace) × (length word.now ≤ longestWord) }
-    ensures { result ≤ at + longestNumberLine }
+    requires { (at + longest_number_line ≤ last_place) × (length word.now ≤ longest_word) }
+    ensures { result ≤ at + longest_number_line }
 {
     let next = put_named(out, at, word, cells as u64);
     put_byte(out, next, b'\n')
@@ -159,8 +159,8 @@ fn put_audit_line(out: &mut [u8], at: usize, word: &[u8], cells: u32) -> usize
 
 // The line of an audit.
 fn put_audited(out: &mut [u8], at: usize, audited: Audited) -> usize
-    requires { at + longestReply ≤ lastPlace }
-    ensures { result ≤ at + longestReply }
+    requires { at + longest_reply ≤ last_place }
+    ensures { result ≤ at + longest_reply }
 {
     match audited {
         Audited::Fits(cells) => put_audit_line(out, at, b"fits ", cells),
@@ -172,8 +172,8 @@ fn put_audited(out: &mut [u8], at: usize, audited: Audited) -> usize
 
 // Audit: sheet length (2), stage length (2), sheet, stage.
 fn put_audit(kind: BoardKind, out: &mut [u8], at: usize, s: &[u8], from: usize) -> usize
-    requires { (at + longestReply ≤ lastPlace) × (from + longestRecord ≤ lastPlace) }
-    ensures { result ≤ at + longestReply }
+    requires { (at + longest_reply ≤ last_place) × (from + longest_record ≤ last_place) }
+    ensures { result ≤ at + longest_reply }
 {
     let sheet_length = length_at(s, from + 1);
     let sheet = part(s, from + 5, sheet_length);
@@ -183,8 +183,8 @@ fn put_audit(kind: BoardKind, out: &mut [u8], at: usize, s: &[u8], from: usize) 
 
 // The line of a search that found tables.
 fn put_found(out: &mut [u8], at: usize, answer: search::Answer, word: &[u8]) -> usize
-    requires { (at + longestReply ≤ lastPlace) × (length word.now ≤ longestWord) }
-    ensures { result ≤ at + longestReply }
+    requires { (at + longest_reply ≤ last_place) × (length word.now ≤ longest_word) }
+    ensures { result ≤ at + longest_reply }
 {
     let tables = answer.tables;
     let counts = put_tables(out, at, tables);
@@ -194,8 +194,8 @@ fn put_found(out: &mut [u8], at: usize, answer: search::Answer, word: &[u8]) -> 
 
 // Search: n (1), m (1), budget (4), 64 sets (2 each).
 fn put_search(kind: BoardKind, out: &mut [u8], at: usize, s: &[u8], from: usize) -> usize
-    requires { (at + longestReply ≤ lastPlace) × (from + longestRecord ≤ lastPlace) }
-    ensures { result ≤ at + longestReply }
+    requires { (at + longest_reply ≤ last_place) × (from + longest_record ≤ last_place) }
+    ensures { result ≤ at + longest_reply }
 {
     let n = byte_at(s, from + 1);
     let m = byte_at(s, from + 2);
@@ -211,8 +211,8 @@ fn put_search(kind: BoardKind, out: &mut [u8], at: usize, s: &[u8], from: usize)
 
 // The line of what was written to a buffer, a stage or a copy of at most so many bytes, or of the refusal.
 fn put_written(out: &mut [u8], at: usize, written: Written, buffer: &[u8], most: usize) -> usize
-    requires { (at + longestReply ≤ lastPlace) × (most ≤ longestWritten) }
-    ensures { result ≤ at + longestReply }
+    requires { (at + longest_reply ≤ last_place) × (most ≤ longest_written) }
+    ensures { result ≤ at + longest_reply }
 {
     match written {
         Written::Length(k) => {
@@ -233,8 +233,8 @@ fn put_write_into(
     tables: [u64; Sheet::WIRES],
     buffer: &mut [u8],
 ) -> usize
-    requires { at + longestReply ≤ lastPlace }
-    ensures { result ≤ at + longestReply }
+    requires { at + longest_reply ≤ last_place }
+    ensures { result ≤ at + longest_reply }
 {
     let written = write_on(kind, n, m, tables, buffer);
     put_written(out, at, written, buffer, LONGEST_WRITTEN)
@@ -242,8 +242,8 @@ fn put_write_into(
 
 // Write a stage: n (1), m (1), buffer length (2), four tables (8 each).
 fn put_write(kind: BoardKind, out: &mut [u8], at: usize, s: &[u8], from: usize) -> usize
-    requires { (at + longestReply ≤ lastPlace) × (from + longestRecord ≤ lastPlace) }
-    ensures { result ≤ at + longestReply }
+    requires { (at + longest_reply ≤ last_place) × (from + longest_record ≤ last_place) }
+    ensures { result ≤ at + longest_reply }
 {
     let room = room_at(s, from + 3);
     let tables = tables_at(s, from + 5);
@@ -261,8 +261,8 @@ fn put_write(kind: BoardKind, out: &mut [u8], at: usize, s: &[u8], from: usize) 
 
 // The line of a stage that was read.
 fn put_stage_read(out: &mut [u8], at: usize, read: StageRead) -> usize
-    requires { at + longestReply ≤ lastPlace }
-    ensures { result ≤ at + longestReply }
+    requires { at + longest_reply ≤ last_place }
+    ensures { result ≤ at + longest_reply }
 {
     let tables = read.tables;
     let inputs = put_spaced(out, at, read.n as u64);
@@ -273,8 +273,8 @@ fn put_stage_read(out: &mut [u8], at: usize, read: StageRead) -> usize
 
 // Read a stage: length (2), stage.
 fn put_read(kind: BoardKind, out: &mut [u8], at: usize, s: &[u8], from: usize) -> usize
-    requires { (at + longestReply ≤ lastPlace) × (from + longestRecord ≤ lastPlace) }
-    ensures { result ≤ at + longestReply }
+    requires { (at + longest_reply ≤ last_place) × (from + longest_record ≤ last_place) }
+    ensures { result ≤ at + longest_reply }
 {
     let stage = part(s, from + 3, length_at(s, from + 1));
     let read = read_on(kind, stage);
@@ -287,8 +287,8 @@ fn put_read(kind: BoardKind, out: &mut [u8], at: usize, s: &[u8], from: usize) -
 
 // The line of a clean copy that is yet to be written.
 fn put_clean_into(out: &mut [u8], at: usize, sheet: &[u8], buffer: &mut [u8]) -> usize
-    requires { at + longestReply ≤ lastPlace }
-    ensures { result ≤ at + longestReply }
+    requires { at + longest_reply ≤ last_place }
+    ensures { result ≤ at + longest_reply }
 {
     let written = clean::clean(sheet, buffer);
     put_written(out, at, written, buffer, LONGEST_COPY)
@@ -296,8 +296,8 @@ fn put_clean_into(out: &mut [u8], at: usize, sheet: &[u8], buffer: &mut [u8]) ->
 
 // Clean a sheet: buffer length (2), sheet length (2), sheet.
 fn put_clean(out: &mut [u8], at: usize, s: &[u8], from: usize) -> usize
-    requires { (at + longestReply ≤ lastPlace) × (from + longestRecord ≤ lastPlace) }
-    ensures { result ≤ at + longestReply }
+    requires { (at + longest_reply ≤ last_place) × (from + longest_record ≤ last_place) }
+    ensures { result ≤ at + longest_reply }
 {
     let room = room_at(s, from + 1);
     let sheet = part(s, from + 5, length_at(s, from + 3));
@@ -316,8 +316,8 @@ fn kind_of(letter: u8) -> BoardKind {
 
 // The reply to the record at a place.
 pub fn put_reply(out: &mut [u8], at: usize, s: &[u8], from: usize) -> usize
-    requires { (at + longestReply ≤ lastPlace) × (from + longestRecord ≤ lastPlace) }
-    ensures { result ≤ at + longestReply }
+    requires { (at + longest_reply ≤ last_place) × (from + longest_record ≤ last_place) }
+    ensures { result ≤ at + longest_reply }
 {
     let letter = byte_at(s, from);
     let kind = kind_of(letter);

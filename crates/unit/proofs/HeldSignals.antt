@@ -5,59 +5,59 @@ use mathlib.Core.List.{List}
 use native.Mathlib.Nat.{lt_of_lt_of_le}
 use native.Mathlib.Omega.{arith}
 use lib.ListN.{length, get_or}
-use Rattle.sheet.specs.Limits.{maxWires, maxGates, maxOutputs}
+use Rattle.sheet.specs.Limits.{max_wires, max_gates, max_outputs}
 use Rattle.table.specs.Bits.{bit, tabulate}
 use Rattle.sheet.specs.declared.Command.{Command}
 use Rattle.sheet.specs.declared.Sheet.{Sheet}
-use Rattle.sheet.specs.Commands.{noGate, wiresOf, gatesOf, signalsMade}
+use Rattle.sheet.specs.Commands.{no_gate, wires_of, gates_of, signals_made}
 use Rattle.sheet.specs.Gathered.{gathered}
-use Rattle.sheet.proofs.Fields.{wires-field, gates-field}
+use Rattle.sheet.proofs.Fields.{wires_field, gates_field}
 use Rattle.reader.specs.Inner.WasRead.{WasRead}
 use Rattle.reader.proofs.Sound.{Sound}
-use Rattle.reader.proofs.Placed.{gateOf, gate-held, held-sound, placed}
-use Rattle.unit.specs.Gates.{signalsOn}
-use Rattle.unit.proofs.Signals.{up_to, upTo-cong, gates-upTo}
+use Rattle.reader.proofs.Placed.{gate_of, gate_held_lem, held_sound, placed}
+use Rattle.unit.specs.Gates.{signals_on}
+use Rattle.unit.proofs.Signals.{up_to, up_to_cong, gates_up_to}
 
 -- room for a signal of each wire and of each gate
-abbrev pub maxSignals : ℕ
-maxSignals = maxWires + maxGates
+abbrev pub max_signals : ℕ
+max_signals = max_wires + max_gates
 
 module _ (cs : List Command) (s : Sound cs) where
   -- the signals of the commands are those of the sheet's lists
-  signals-all : (v : ℕ) → signalsOn cs v ≡ up_to (tabulate (gathered cs).m (bit v)) (gateOf (gathered cs)) (gathered cs).gate_count
-  unfolding signalsOn
-  signals-all v =
-      rw (wires-field cs, gates-field cs)
-      (gates-upTo (tabulate (wiresOf cs) (bit v)) (gatesOf cs)
-      ∙ upTo-cong (tabulate (wiresOf cs) (bit v)) (λ i. get_or (gatesOf cs) i noGate) (gateOf (gathered cs)) (length (gatesOf cs))
-      (λ i l. sym (gate-held cs s i l)))
+  signals_all : (v : ℕ) → signals_on cs v ≡ up_to (tabulate (gathered cs).m (bit v)) (gate_of (gathered cs)) (gathered cs).gate_count
+  unfolding signals_on
+  signals_all v =
+      rw (wires_field cs, gates_field cs)
+      (gates_up_to (tabulate (wires_of cs) (bit v)) (gates_of cs)
+      ∙ up_to_cong (tabulate (wires_of cs) (bit v)) (λ i. get_or (gates_of cs) i no_gate) (gate_of (gathered cs)) (length (gates_of cs))
+      (λ i l. sym (gate_held_lem cs s i l)))
 
 module _ {sheet : Sheet} (h : WasRead sheet) where
   -- each gate and each output, and the signals that they name, have room
-  pub gate-room : (i : ℕ) → i < sheet.gate_count → i < maxGates
-  gate-room i l = lt_of_lt_of_le l (placed h).few-gates
+  pub gate_room : (i : ℕ) → i < sheet.gate_count → i < max_gates
+  gate_room i l = lt_of_lt_of_le l (placed h).few_gates
 
-  signal-room : {s : ℕ} (i : ℕ) → i ≤ sheet.gate_count → s < sheet.m + i → s < maxSignals
-  signal-room i l b = omega (arith, (placed h).few-wires, (placed h).few-gates)
+  signal_room : {s : ℕ} (i : ℕ) → i ≤ sheet.gate_count → s < sheet.m + i → s < max_signals
+  signal_room i l b = omega (arith, (placed h).few_wires, (placed h).few_gates)
 
-  pub sources-room : (i : ℕ) → i < sheet.gate_count → ((gateOf sheet i).left < maxSignals) × ((gateOf sheet i).right < maxSignals)
-  sources-room i l =
+  pub sources_room : (i : ℕ) → i < sheet.gate_count → ((gate_of sheet i).left < max_signals) × ((gate_of sheet i).right < max_signals)
+  sources_room i l =
       let w = (placed h).wired i l in
       let b : i ≤ sheet.gate_count = omega arith in
-      (signal-room i b w.left-made, signal-room i b w.right-made)
+      (signal_room i b w.left_made, signal_room i b w.right_made)
 
-  pub output-room : (i : ℕ) → i < sheet.output_count → i < maxOutputs
-  output-room i l = lt_of_lt_of_le l (placed h).few-outputs
+  pub output_room : (i : ℕ) → i < sheet.output_count → i < max_outputs
+  output_room i l = lt_of_lt_of_le l (placed h).few_outputs
 
-  pub output-made : (i : ℕ) → i < sheet.output_count → get_or sheet.signals i 0 < maxSignals
-  output-made i l = signal-room sheet.gate_count (omega arith) ((placed h).made i l)
+  pub output_made : (i : ℕ) → i < sheet.output_count → get_or sheet.signals i 0 < max_signals
+  output_made i l = signal_room sheet.gate_count (omega arith) ((placed h).made i l)
 
-  pub signals-is : (v : ℕ) → signalsOn h.commands v ≡ up_to (tabulate sheet.m (bit v)) (gateOf sheet) sheet.gate_count
-  signals-is v =
-      subst (λ x. signalsOn h.commands v ≡ up_to (tabulate x.m (bit v)) (gateOf x) x.gate_count) (sym h.gathers)
-      (signals-all h.commands (held-sound h) v)
+  pub signals_is : (v : ℕ) → signals_on h.commands v ≡ up_to (tabulate sheet.m (bit v)) (gate_of sheet) sheet.gate_count
+  signals_is v =
+      subst (λ x. signals_on h.commands v ≡ up_to (tabulate x.m (bit v)) (gate_of x) x.gate_count) (sym h.gathers)
+      (signals_all h.commands (held_sound h) v)
 
-  pub signals-made : signalsMade h.commands ≡ sheet.m + sheet.gate_count
-  signals-made =
-      subst (λ x. signalsMade h.commands ≡ x.m + x.gate_count) (sym h.gathers)
-      (sym (rw (wires-field h.commands, gates-field h.commands)))
+  pub signals_made_lem : signals_made h.commands ≡ sheet.m + sheet.gate_count
+  signals_made_lem =
+      subst (λ x. signals_made h.commands ≡ x.m + x.gate_count) (sym h.gathers)
+      (sym (rw (wires_field h.commands, gates_field h.commands)))

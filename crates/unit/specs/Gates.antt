@@ -2,42 +2,42 @@
 use Rattle.std.specs.Prelude.{ℕ, ◌+◌, ◌*◌, ◌%◌, ◌-◌, max, cond, List, [], ◌∷◌, ◌++◌, map, eqb, get_or}
 use Rattle.table.specs.Bits.{bit, tabulate}
 use Rattle.sheet.specs.declared.Command.{Command}
-use Rattle.sheet.specs.Commands.{LogicGate, wiresOf, gatesOf, outputsOf}
+use Rattle.sheet.specs.Commands.{LogicGate, wires_of, gates_of, outputs_of}
 
 -- two bits under each of the three plain kinds, and a bit inverted
-abbrev pub andBit : ℕ → ℕ → ℕ
-andBit a b = a * b
+abbrev pub and_bit : ℕ → ℕ → ℕ
+and_bit a b = a * b
 
-abbrev pub orBit : ℕ → ℕ → ℕ
-orBit a b = max a b
+abbrev pub or_bit : ℕ → ℕ → ℕ
+or_bit a b = max a b
 
-abbrev pub xorBit : ℕ → ℕ → ℕ
-xorBit a b = (a + b) % 2
+abbrev pub xor_bit : ℕ → ℕ → ℕ
+xor_bit a b = (a + b) % 2
 
 abbrev pub inverted : ℕ → ℕ
 inverted x = 1 - x
 
 -- what a gate of each kind makes of two bits: the three plain kinds, then the same inverted
-unfoldable pub gateBit : ℕ → ℕ → ℕ → ℕ
-gateBit k a b =
-    cond (eqb k 0) (andBit a b)
-    (cond (eqb k 1) (orBit a b)
-    (cond (eqb k 2) (xorBit a b)
-    (cond (eqb k 3) (inverted (andBit a b)) (cond (eqb k 4) (inverted (orBit a b)) (inverted (xorBit a b))))))
+unfoldable pub gate_bit : ℕ → ℕ → ℕ → ℕ
+gate_bit k a b =
+    cond (eqb k 0) (and_bit a b)
+    (cond (eqb k 1) (or_bit a b)
+    (cond (eqb k 2) (xor_bit a b)
+    (cond (eqb k 3) (inverted (and_bit a b)) (cond (eqb k 4) (inverted (or_bit a b)) (inverted (xor_bit a b))))))
 
 -- the signals so far, with one gate more
-abbrev pub withGate : List ℕ → LogicGate → List ℕ
-withGate s g = s ++ gateBit g.kind (get_or s g.left 0) (get_or s g.right 0) ∷ []
+abbrev pub with_gate : List ℕ → LogicGate → List ℕ
+with_gate s g = s ++ gate_bit g.kind (get_or s g.left 0) (get_or s g.right 0) ∷ []
 
 -- the same with all gates, each of which may use those before it
-unfoldable pub withGates : List ℕ → List LogicGate → List ℕ
-withGates s [] = s
-withGates s (g ∷ gs) = withGates (withGate s g) gs
+unfoldable pub with_gates : List ℕ → List LogicGate → List ℕ
+with_gates s [] = s
+with_gates s (g ∷ gs) = with_gates (with_gate s g) gs
 
 -- all signals for a wire value: its bits, wire by wire, then the gates
-unfoldable pub signalsOn : List Command → ℕ → List ℕ
-signalsOn cs v = withGates (tabulate (wiresOf cs) (bit v)) (gatesOf cs)
+unfoldable pub signals_on : List Command → ℕ → List ℕ
+signals_on cs v = with_gates (tabulate (wires_of cs) (bit v)) (gates_of cs)
 
 -- what the unit answers for a wire value: G of document 01's "Relation"
-unfoldable pub outputsFor : List Command → ℕ → List ℕ
-outputsFor cs v = map (λ s. get_or (signalsOn cs v) s 0) (outputsOf cs)
+unfoldable pub outputs_for : List Command → ℕ → List ℕ
+outputs_for cs v = map (λ s. get_or (signals_on cs v) s 0) (outputs_of cs)

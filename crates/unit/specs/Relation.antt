@@ -4,8 +4,8 @@ use Rattle.std.specs.Prelude.{ℕ, Bool, true, false, ◌&&◌, List, [], ◌∷
 use Rattle.table.specs.Bits.{bit}
 use Rattle.relation.specs.Source.{Rel}
 use Rattle.sheet.specs.declared.Command.{Command}
-use Rattle.sheet.specs.Commands.{rowsOn, limitsOn}
-use Rattle.unit.specs.Gates.{outputsFor}
+use Rattle.sheet.specs.Commands.{rows_on, limits_on}
+use Rattle.unit.specs.Gates.{outputs_for}
 
 -- value v is in each of the sets; every value is where there are none (document 01, "Unit sheet", command 06)
 unfoldable pub permits : List ℕ → ℕ → Bool
@@ -21,7 +21,7 @@ same_list (x ∷ xs) (y ∷ ys) = eqb x y && same_list xs ys
 -- the unit answers on v as on each of the present values; an impossible pattern has none
 unfoldable pub alike : List Command → List ℕ → ℕ → Bool
 alike cs [] v = true
-alike cs (u ∷ us) v = same_list (outputsFor cs v) (outputsFor cs u) && alike cs us v
+alike cs (u ∷ us) v = same_list (outputs_for cs v) (outputs_for cs u) && alike cs us v
 
-unfoldable pub unitRelation : List Command → Rel
-unitRelation cs p v = permits (limitsOn p cs) v && alike cs (rowsOn p cs) v
+unfoldable pub unit_relation : List Command → Rel
+unit_relation cs p v = permits (limits_on p cs) v && alike cs (rows_on p cs) v

@@ -1,10 +1,10 @@
 // The soldered second stage for all wire values at once: a signal is one word, whose bit v is the signal for value v (bit-parallel simulation).
 ghost use Rattle.std.specs.Prelude.{◌≡◌, ℕ, ◌<◌, ◌≤◌, get_or};
-ghost use Rattle.sheet.specs.Limits.{maxWires, maxValues};
+ghost use Rattle.sheet.specs.Limits.{max_wires, max_values};
 ghost use Rattle.table.specs.Bits.{bit};
-ghost use Rattle.reader.specs.Reader.{lastKind};
+ghost use Rattle.reader.specs.Reader.{last_kind};
 ghost use Rattle.reader.specs.Inner.WasRead.{WasRead};
-ghost use Rattle.unit.specs.Gates.{gateBit};
+ghost use Rattle.unit.specs.Gates.{gate_bit};
 ghost use Rattle.unit.specs.Inner.Forming.{SignalWords, OutputWords};
 
 use reader::Reader;
@@ -26,7 +26,7 @@ pub(crate) const ALL_VALUES: u16 = ((1u32 << Sheet::MAX_VALUES) - 1) as u16;
 // and inverting adds 1 (the algebraic normal form of a gate). So every gate is the same three terms, and the kind says by arithmetic how often each is taken: the
 // sum 0, 1, 1 times for AND, OR, XOR, the product 1, 1, 0 times. The remainder by the kinds keeps the third term within a word for any kind.
 fn gate_word(kind: u8, a: u16, b: u16) -> u16
-    ensures { kind ≤ lastKind → (v : ℕ) → v < maxValues → bit result v ≡ gateBit kind (bit a v) (bit b v) }
+    ensures { kind ≤ last_kind → (v : ℕ) → v < max_values → bit result v ≡ gate_bit kind (bit a v) (bit b v) }
 {
     let plain = (kind % PLAIN_KINDS) as u16;
     let sums = (plain + 1) / 2;
@@ -37,7 +37,7 @@ fn gate_word(kind: u8, a: u16, b: u16) -> u16
 
 // The wires' signals. All that a sheet may have are there, four of them; those past the last wire give way to gates.
 fn wire_words() -> [u16; MAX_SIGNALS]
-    ensures { (j v : ℕ) → j < maxWires → v < maxValues → bit (get_or result j 0) v ≡ bit v j }
+    ensures { (j v : ℕ) → j < max_wires → v < max_values → bit (get_or result j 0) v ≡ bit v j }
 {
     let mut signals = [0; MAX_SIGNALS];
     signals[0] = column(0, 1);

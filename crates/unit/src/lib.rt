@@ -1,10 +1,10 @@
 // The second stage of a unit: its gates, its outputs for all wire values, and the relation that its sheet leaves to the first stage.
 ghost use Rattle.std.specs.Prelude.{◌≡◌};
-ghost use Rattle.sheet.specs.Limits.{maxInputs};
-ghost use Rattle.relation.specs.Handed.{checkOf};
-ghost use Rattle.unit.specs.Cases.{formedReply};
-ghost use Rattle.unit.specs.Formed.{turnedAway, relatedOf, formedOf};
-ghost use Rattle.unit.specs.Inner.Forming.{checkedReply};
+ghost use Rattle.sheet.specs.Limits.{max_inputs};
+ghost use Rattle.relation.specs.Handed.{check_of};
+ghost use Rattle.unit.specs.Cases.{formed_reply};
+ghost use Rattle.unit.specs.Formed.{turned_away, related_of, formed_of};
+ghost use Rattle.unit.specs.Inner.Forming.{checked_reply};
 
 use crate::sets::relation_of;
 use base::{Refusal, Verdict};
@@ -22,7 +22,7 @@ pub struct Formed {
 }
 
 fn turned_away(f: Refusal) -> Formed
-    ensures { formedReply result ≡ turnedAway f }
+    ensures { formed_reply result ≡ turned_away f }
 {
     let relation = Relation {
         n: 0,
@@ -37,7 +37,7 @@ fn turned_away(f: Refusal) -> Formed
 
 // A relation with an empty pattern is refused: 10. Its inputs are those of a sheet.
 fn judge(relation: Relation) -> Formed
-    ensures { formedReply result ≡ checkedReply relation (checkOf maxInputs relation) }
+    ensures { formed_reply result ≡ checked_reply relation (check_of max_inputs relation) }
 {
     let checked = relation.check(Sheet::MAX_INPUTS);
     match checked {
@@ -51,7 +51,7 @@ fn judge(relation: Relation) -> Formed
 
 // Reads a whole sheet and hands back its relation, whether or not every pattern has a value; or the refusal of the reading (document 02, E6).
 pub fn relate(s: &[u8]) -> Formed
-    ensures { formedReply result ≡ relatedOf s.now }
+    ensures { formed_reply result ≡ related_of s.now }
 {
     let reply = reader::read_sheet(s);
     let answer = reply.answer;
@@ -69,7 +69,7 @@ pub fn relate(s: &[u8]) -> Formed
 
 // Reads a whole sheet and forms its relation: any refusal of the reading, else 10 or the relation.
 pub fn form(s: &[u8]) -> Formed
-    ensures { formedReply result ≡ formedOf s.now }
+    ensures { formed_reply result ≡ formed_of s.now }
 {
     let related = relate(s);
     let answer = related.answer;

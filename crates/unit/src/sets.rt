@@ -1,10 +1,10 @@
 // The relation of a sheet that was read, pattern by pattern.
 ghost use Rattle.std.specs.Prelude.{◌≡◌, ◌<◌, ◌^◌};
-ghost use Rattle.table.specs.Bits.{of_bits, isOne};
-ghost use Rattle.sheet.specs.Limits.{maxValues};
+ghost use Rattle.table.specs.Bits.{of_bits, is_one};
+ghost use Rattle.sheet.specs.Limits.{max_values};
 ghost use Rattle.reader.specs.Inner.WasRead.{WasRead};
-ghost use Rattle.unit.specs.Inner.Forming.{OutputWords, sameBit, sameOutputs};
-ghost use Rattle.unit.specs.Formed.{setOn, relationIn};
+ghost use Rattle.unit.specs.Inner.Forming.{OutputWords, same_bit, same_outputs};
+ghost use Rattle.unit.specs.Formed.{set_on, relation_in};
 
 use crate::gates::{ALL_VALUES, output_words};
 use relation::Relation;
@@ -13,8 +13,8 @@ use sheet::limits::patterns_of;
 
 // The values for which one signal is what it is for value u: of its word the ones or, where it is 0 for u, the zeros. `alike` has a value that there is.
 fn alike_on(word: u16, u: u8) -> u16
-    requires { u < maxValues }
-    ensures { result ≡ of_bits maxValues (λ v. isOne (sameBit word u v)) }
+    requires { u < max_values }
+    ensures { result ≡ of_bits max_values (λ v. is_one (same_bit word u v)) }
 {
     let zero = 1 - (word >> u) % 2;
     word ^ (zero * ALL_VALUES)
@@ -22,8 +22,8 @@ fn alike_on(word: u16, u: u8) -> u16
 
 // The values for which every output is what it is for value u. `set_on` asks for a present value, which a sheet that was read has in range.
 fn alike(outputs: [u16; Sheet::MAX_OUTPUTS as usize], u: u8) -> u16
-    requires { u < maxValues }
-    ensures { result ≡ of_bits maxValues (λ v. isOne (sameOutputs outputs u v)) }
+    requires { u < max_values }
+    ensures { result ≡ of_bits max_values (λ v. is_one (same_outputs outputs u v)) }
 {
     let mut found = ALL_VALUES;
     for i in 0..Sheet::MAX_OUTPUTS {
@@ -36,7 +36,7 @@ fn alike(outputs: [u16; Sheet::MAX_OUTPUTS as usize], u: u8) -> u16
 // `relation_of` goes through the patterns that there are.
 fn set_on(sheet: Sheet, outputs: [u16; Sheet::MAX_OUTPUTS as usize], p: u8) -> u16
     requires { WasRead sheet × (p < 2 ^ sheet.n) }
-    ensures { (h : WasRead sheet) → OutputWords h.commands outputs → result ≡ setOn h.commands p }
+    ensures { (h : WasRead sheet) → OutputWords h.commands outputs → result ≡ set_on h.commands p }
 {
     let at = p as usize;
     let allowed = sheet.limits[at];
@@ -49,7 +49,7 @@ fn set_on(sheet: Sheet, outputs: [u16; Sheet::MAX_OUTPUTS as usize], p: u8) -> u
 // The relation, with empty sets past the last pattern. `form` has the sheet from its reader.
 pub(crate) fn relation_of(sheet: Sheet) -> Relation
     requires { WasRead sheet }
-    ensures { (h : WasRead sheet) → result ≡ relationIn h.commands }
+    ensures { (h : WasRead sheet) → result ≡ relation_in h.commands }
 {
     let n = sheet.n;
     let m = sheet.m;

@@ -1,18 +1,18 @@
 // The pattern and wire to split at.
 // Inner functions: the cycle and the entry of the search meet what they require.
 ghost use Rattle.std.specs.Prelude.{◌≡◌, ◌<◌, ◌≤◌, ◌^◌};
-ghost use Rattle.sheet.specs.Limits.{maxPatterns};
+ghost use Rattle.sheet.specs.Limits.{max_patterns};
 ghost use Rattle.table.specs.Cells.{wires};
 ghost use Rattle.table.specs.Inner.Wide.{sections};
-ghost use Rattle.table.specs.Inner.Pairs.{narrowPatterns};
-ghost use Rattle.nodes.specs.Counts.{mostInputs};
-ghost use Rattle.relation.specs.Tests.{ofSets};
+ghost use Rattle.table.specs.Inner.Pairs.{narrow_patterns};
+ghost use Rattle.nodes.specs.Counts.{most_inputs};
+ghost use Rattle.relation.specs.Tests.{of_sets};
 ghost use Rattle.sheet.specs.Inner.Sized.{Sized};
-ghost use Rattle.parts.specs.Inner.Boards.{lentKind, lentInputs, lentWires, lentWide, Lent};
+ghost use Rattle.parts.specs.Inner.Boards.{lent_kind, lent_inputs, lent_wires, lent_wide, Lent};
 ghost use Rattle.parts.specs.Inner.Parts.{PartSets};
 ghost use Rattle.parts.specs.Inner.Picks.{tables_of};
-ghost use Rattle.parts.specs.Inner.States.{sideAt, AtHand};
-ghost use Rattle.visits.specs.Inner.Conflicts.{Settled, splitPlace, ClearedBy, AllowedLater, AllowedBelow};
+ghost use Rattle.parts.specs.Inner.States.{side_at, AtHand};
+ghost use Rattle.visits.specs.Inner.Conflicts.{Settled, split_place, ClearedBy, AllowedLater, AllowedBelow};
 
 use crate::SplitPlace;
 use by_value::{SECTION_WORDS, allowing, first_refused};
@@ -27,7 +27,7 @@ use table::wide::{SECTION, SECTIONS};
 // The tables of the part at hand on section q.
 pub fn word_of(state: &[u64; STATE], low: u64, q: u8) -> u64
     requires { q < sections }
-    ensures { result ≡ sideAt low state.now q }
+    ensures { result ≡ side_at low state.now q }
 {
     if q == 0 {
         low
@@ -40,7 +40,7 @@ pub fn word_of(state: &[u64; STATE], low: u64, q: u8) -> u64
 // than that it is allowed below, and `first_open` goes on from there.
 fn refused_on(state: &[u64; STATE], q: u8, tables: u64) -> u8
     requires { q < sections }
-    ensures { (result ≤ narrowPatterns) × ClearedBy state.now q tables result }
+    ensures { (result ≤ narrow_patterns) × ClearedBy state.now q tables result }
 {
     let at = WHOLE + SECTION_WORDS * q as usize;
     first_refused(allowing(
@@ -54,7 +54,7 @@ fn refused_on(state: &[u64; STATE], q: u8, tables: u64) -> u8
 
 // A pattern below which the later sections are without conflict: the lowest in conflict there, or the number of patterns.
 fn later_conflict(state: &[u64; STATE], count: u8) -> u8
-    requires { count ≤ maxPatterns }
+    requires { count ≤ max_patterns }
     ensures { AllowedLater state.now count result }
 {
     let mut q: u8 = 1;
@@ -72,7 +72,7 @@ fn later_conflict(state: &[u64; STATE], count: u8) -> u8
 // the whole is no value of the picks, so that it is the lowest in conflict with the part too.
 pub fn first_conflict(e: &[u32; LENT], state: &[u64; STATE], low: u64) -> u8
     requires { Lent e.now }
-    ensures { AllowedBelow (lentWide e.now) (lentInputs e.now) low state.now result }
+    ensures { AllowedBelow (lent_wide e.now) (lent_inputs e.now) low state.now result }
 {
     let p = refused_on(state, 0, low);
     if p < SECTION {
@@ -94,10 +94,10 @@ pub fn first_open(
     state: &[u64; STATE],
     low: u64,
 ) -> SplitPlace
-    requires { Lent e.now × Sized (mostInputs (lentKind e.now)) (lentInputs e.now) (lentWires e.now) × PartSets (lentInputs e.now) (lentWires e.now) sets.now
+    requires { Lent e.now × Sized (most_inputs (lent_kind e.now)) (lent_inputs e.now) (lent_wires e.now) × PartSets (lent_inputs e.now) (lent_wires e.now) sets.now
         × AtHand low state.now (tables_of (lentKind e.now) (lentInputs e.now) sets.now) × (from ≤ 2 ^ lentInputs e.now)
         × Settled (lentWires e.now) sets.now (tables_of (lentKind e.now) (lentInputs e.now) sets.now) from }
-    ensures { result ≡ splitPlace (lentInputs e.now) (lentWires e.now) (ofSets sets.now)
+    ensures { result ≡ split_place (lent_inputs e.now) (lent_wires e.now) (of_sets sets.now)
         (wires (tables_of (lentKind e.now) (lentInputs e.now) sets.now)) }
 {
     let count = e[COUNT_PLACE] as u8;

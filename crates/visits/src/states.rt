@@ -1,9 +1,9 @@
 // The changes of the state that the search lends down. What stands where is of `parts`.
 // Inner functions: the cycle and the entry of the search meet what they require.
 ghost use Rattle.std.specs.Prelude.{◌≡◌, not, cond, ◌+◌, ◌<◌, length, get_or, set};
-ghost use Rattle.sheet.specs.Limits.{maxWires};
-ghost use Rattle.parts.specs.Inner.States.{leftPlace, visitsPlace, stateLength};
-ghost use Rattle.visits.specs.Inner.States.{joinedOf, state_of, spentIn, Held, keptBest, rest_of, withRest, Begun};
+ghost use Rattle.sheet.specs.Limits.{max_wires};
+ghost use Rattle.parts.specs.Inner.States.{left_place, visits_place, state_length};
+ghost use Rattle.visits.specs.Inner.States.{joined_of, state_of, spent_in, Held, kept_best, rest_of, with_rest, Begun};
 
 use lanes::lane;
 use parts::states::{BUDGET, CELLS, LEFT, REST, STATE, VISITS, WHOLE};
@@ -22,8 +22,8 @@ const FOURTH: u64 = THIRD * SECTION_SPACE;
 
 // A part is left: the search is stopped.
 pub fn leave(state: &mut [u64; STATE])
-    requires { length state.old ≡ stateLength }
-    ensures { state.new ≡ set state.old leftPlace 1 }
+    requires { length state.old ≡ state_length }
+    ensures { state.new ≡ set state.old left_place 1 }
 {
     state[LEFT] = 1;
 }
@@ -31,7 +31,7 @@ pub fn leave(state: &mut [u64; STATE])
 // One visit more, if the budget has one; whether it has.
 pub fn charge(state: &mut [u64; STATE]) -> bool
     requires { Held state.old }
-    ensures { (result ≡ not (spentIn state.old))
+    ensures { (result ≡ not (spent_in state.old))
         × (state.new ≡ cond (spentIn state.old) state.old (set state.old visitsPlace (get_or state.old visitsPlace 0 + 1))) }
 {
     let visits = state[VISITS];
@@ -44,8 +44,8 @@ pub fn charge(state: &mut [u64; STATE]) -> bool
 
 // The best so far are the tables of the part at hand, with so many cells.
 pub fn keep(state: &mut [u64; STATE], low: u64, cells: u64)
-    requires { length state.old ≡ stateLength }
-    ensures { state.new ≡ keptBest state.old low cells }
+    requires { length state.old ≡ state_length }
+    ensures { state.new ≡ kept_best state.old low cells }
 {
     let second = state[REST + 1];
     let third = state[REST + 2];
@@ -66,8 +66,8 @@ pub fn rest_of(state: &[u64; STATE]) -> [u64; RESTS]
 
 // These put back.
 pub fn put_back(state: &mut [u64; STATE], rest: [u64; RESTS])
-    requires { length state.old ≡ stateLength }
-    ensures { state.new ≡ withRest state.old rest }
+    requires { length state.old ≡ state_length }
+    ensures { state.new ≡ with_rest state.old rest }
 {
     state[REST + 1] = rest[0];
     state[REST + 2] = rest[1];
@@ -76,8 +76,8 @@ pub fn put_back(state: &mut [u64; STATE], rest: [u64; RESTS])
 
 // Wire j's table from its lanes on the four sections.
 pub fn joined(a: u64, b: u64, c: u64, d: u64, j: u8) -> u64
-    requires { j < maxWires }
-    ensures { result ≡ joinedOf a b c d j }
+    requires { j < max_wires }
+    ensures { result ≡ joined_of a b c d j }
 {
     lane(a, j) + lane(b, j) * SECOND + lane(c, j) * THIRD + lane(d, j) * FOURTH
 }
@@ -100,7 +100,7 @@ pub fn tables_in(state: &[u64; STATE]) -> [u64; Sheet::WIRES]
 
 // The search begins: no visit was charged and no part left, and the budget and the relation by value are these.
 pub fn begin(state: &mut [u64; STATE], budget: u32, whole: &[u64; by_value::VALUE_WORDS])
-    requires { length state.old ≡ stateLength }
+    requires { length state.old ≡ state_length }
     ensures { Begun budget whole.now state.old state.new }
 {
     state[VISITS] = 0;

@@ -2,8 +2,8 @@
 // Inner functions: who writes a sheet stays at places that a usize holds.
 ghost use Rattle.std.specs.Prelude.{◌≡◌, ◌+◌, ◌/◌, ◌%◌, ◌<◌, ◌≤◌, length, take};
 ghost use Rattle.base.specs.Inner.Put.{PutWithin};
-ghost use Rattle.sheet.specs.Bytes.{commandBytes};
-ghost use Rattle.writer.specs.Inner.Widths.{longestCommand, placeRange};
+ghost use Rattle.sheet.specs.Bytes.{command_bytes};
+ghost use Rattle.writer.specs.Inner.Widths.{longest_command, place_range};
 
 use base::put;
 use sheet::Command;
@@ -47,7 +47,7 @@ fn high_byte(w: u16) -> u8
 
 // The bytes of a command.
 fn encode(c: Command) -> Encoded
-    ensures { (take result.length result.bytes ≡ commandBytes c) × (result.length ≡ length (commandBytes c)) × (result.length ≤ longestCommand) }
+    ensures { (take result.length result.bytes ≡ command_bytes c) × (result.length ≡ length (command_bytes c)) × (result.length ≤ longest_command) }
 {
     match c {
         Command::End => Encoded {
@@ -87,8 +87,8 @@ fn encode(c: Command) -> Encoded
 
 // Puts a command, and hands back the place after it. Bytes that find no room are dropped.
 pub fn put_command(out: &mut [u8], at: usize, c: Command) -> usize
-    requires { at + length (commandBytes c) < placeRange }
-    ensures { PutWithin longestCommand out.old at (commandBytes c) out.new result }
+    requires { at + length (command_bytes c) < place_range }
+    ensures { PutWithin longest_command out.old at (command_bytes c) out.new result }
 {
     let encoded = encode(c);
     let bytes = encoded.bytes;

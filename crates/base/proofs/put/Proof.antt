@@ -16,8 +16,8 @@ same_length c = search rules
 returns : tie.Need-returns
 returns c = refl
 
-returns-2 : tie.Need-returns-2
-returns-2 c = let a = c.before.args in sym (set_out a.s.now a.at a.b c.if1.false)
+returns_2 : tie.Need-returns-2
+returns_2 c = let a = c.before.args in sym (set_out a.s.now a.at a.b c.if1.false)
 
 pub put_spec : {M : Type 1} → statement M
-put_spec = tie.close (tie.spec slice-write-s same_length returns returns-2)
+put_spec = tie.close (tie.spec slice-write-s same_length returns returns_2)

@@ -13,5 +13,5 @@ pub record PutWithin (most : ℕ) (before : List ℕ) (at : ℕ) (text after : L
   pub short : next ≤ at + most
 
 -- no text ends past this place: far more than any buffer here holds, and small enough that a sum of two such places wraps around nowhere
-abbrev pub lastPlace : ℕ
-lastPlace = 1000000
+abbrev pub last_place : ℕ
+last_place = 1000000

@@ -1,6 +1,6 @@
 -- `allowing` meets its contract: two choices find the word, two the lane.
 use native.Mathlib.Omega.{arith}
-use Rattle.by_value.proofs.Chosen.{chosen-allowed}
+use Rattle.by_value.proofs.Chosen.{chosen_allowed}
 use borrow.Author.Rules.{rules}
 use Rattle.by_value.proofs.allowing.Statement.{statement}
 use Rattle.by_value.proofs.allowing.Tie as tie
@@ -46,15 +46,15 @@ returns c =
     let w = c.before.before.before.before.before in
     let a = w.before.before.before.args in (
       omega arith,
-      λ p lp. chosen-allowed a.a a.b a.c a.d a.tables p lp w.before.before.lane-in-lanes.result w.before.lane-in-lanes2.result
+      λ p lp. chosen_allowed a.a a.b a.c a.d a.tables p lp w.before.before.lane-in-lanes.result w.before.lane-in-lanes2.result
           w.lane-in-lanes3.result c.before.before.before.before.choose.result c.before.before.before.choose2.result
           c.before.before.choose3.result c.before.choose4.result c.choose5.result w.before.before.lane-in-lanes.ensures w.before.lane-in-lanes2.ensures
           w.lane-in-lanes3.ensures c.before.before.before.before.choose.ensures c.before.before.before.choose2.ensures
           c.before.before.choose3.ensures c.before.choose4.ensures c.choose5.ensures,
     )
 
-pub allowing-spec : {M : Type 1} → statement M
-allowing-spec =
+pub allowing_spec : {M : Type 1} → statement M
+allowing_spec =
     tie.close
     (tie.spec
     lane-in-lanes-requires

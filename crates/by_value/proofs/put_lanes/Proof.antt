@@ -4,7 +4,7 @@ use mathlib.Core.Path.{ap, ◌∙◌}
 use Rattle.table.specs.Bits.{bit}
 use Rattle.lanes.specs.Inner.Lanes.{lanes_of}
 use Rattle.by_value.specs.Inner.ByValue.{added}
-use Rattle.by_value.proofs.Spreads.{moved, moved-fits}
+use Rattle.by_value.proofs.Spreads.{moved, moved_fits}
 use borrow.Author.Rules.{rules}
 use Rattle.by_value.proofs.put_lanes.Statement.{statement}
 use Rattle.by_value.proofs.put_lanes.Tie as tie
@@ -21,7 +21,7 @@ shl-result c = search rules
 add-result : tie.Need-overflow-add-result
 add-result c =
     let i = c.before.before in
-    record { fits = moved-fits i.args.word c.spread.result i.args.p c.spread.ensures.1 i.requires.2 }
+    record { fits = moved_fits i.args.word c.spread.result i.args.p c.spread.ensures.1 i.requires.2 }
 
 returns : tie.Need-returns
 unfolding added
@@ -31,6 +31,6 @@ returns c =
     (moved i.args.word c.spread.result i.args.p c.spread.ensures.1 i.requires.2
     ∙ ap (λ y. y * 2 ^ i.args.p) (c.spread.ensures.0 ∙ ap (λ y. lanes_of (bit y)) c.before.values-in.ensures.0))
 
-pub put-lanes-spec : {M : Type 1} → statement M
-put-lanes-spec =
+pub put_lanes_spec : {M : Type 1} → statement M
+put_lanes_spec =
     tie.close (tie.spec values-in-requires spread-requires shl-result add-result returns)

@@ -3,7 +3,7 @@ use Prim.Native.Nat.{◌+◌, ◌%◌}
 use mathlib.Core.Path.{ap, ap₂, ◌∙◌}
 use native.Mathlib.Omega.{arith}
 use lib.ListN.{get_or, set}
-use Rattle.table.specs.Inner.Pairs.{narrowPatterns}
+use Rattle.table.specs.Inner.Pairs.{narrow_patterns}
 use Rattle.by_value.specs.Inner.ByValue.{added}
 use borrow.Author.Rules.{rules}
 use Rattle.by_value.proofs.put_word.Statement.{statement}
@@ -35,10 +35,10 @@ returns c =
     let i = c.before.before.before in
     let w = i.args.words.now in
     let e = c.before.before.value-word-place.ensures.0 in
-    ap₂ (λ k x. set w k x) e (c.put-lanes.ensures ∙ ap (λ k. get_or w k 0 + added i.args.set i.args.k (i.args.p % narrowPatterns)) e)
+    ap₂ (λ k x. set w k x) e (c.put-lanes.ensures ∙ ap (λ k. get_or w k 0 + added i.args.set i.args.k (i.args.p % narrow_patterns)) e)
 
-pub put-word-spec : {M : Type 1} → statement M
-put-word-spec =
+pub put_word_spec : {M : Type 1} → statement M
+put_word_spec =
     tie.close
     (tie.spec
     value-word-place-requires

@@ -3,9 +3,9 @@ use mathlib.Core.Path.{sym, ap, ◌∙◌}
 use mathlib.Core.Bool.{cond}
 use lib.Dec.{ltb}
 use lib.ListN.{get_or}
-use Rattle.sheet.specs.Limits.{maxPatterns}
-use Rattle.table.proofs.Bits.{tabulate-at}
-use Rattle.by_value.specs.Inner.ByValue.{everyValue, filled}
+use Rattle.sheet.specs.Limits.{max_patterns}
+use Rattle.table.proofs.Bits.{tabulate_at}
+use Rattle.by_value.specs.Inner.ByValue.{every_value, filled}
 use borrow.Author.Tests.{lt-ltb, le-ltb}
 use borrow.Author.Rules.{rules}
 use Rattle.by_value.proofs.set_at.Statement.{statement}
@@ -22,16 +22,16 @@ unfolding filled
 returns c =
     let i = c.before.before in
     let a = i.args in
-    sym (tabulate-at maxPatterns (λ p. cond (ltb p a.count) (get_or a.sets.now p 0) everyValue) a.p i.requires
-    ∙ ap (λ t. cond t (get_or a.sets.now a.p 0) everyValue) (lt-ltb a.p a.count c.before.if1.true))
+    sym (tabulate_at max_patterns (λ p. cond (ltb p a.count) (get_or a.sets.now p 0) every_value) a.p i.requires
+    ∙ ap (λ t. cond t (get_or a.sets.now a.p 0) every_value) (lt-ltb a.p a.count c.before.if1.true))
 
-returns-2 : tie.Need-returns-2
+returns_2 : tie.Need-returns-2
 unfolding filled
-returns-2 c =
+returns_2 c =
     let i = c.before in
     let a = i.args in
-    sym (tabulate-at maxPatterns (λ p. cond (ltb p a.count) (get_or a.sets.now p 0) everyValue) a.p i.requires
-    ∙ ap (λ t. cond t (get_or a.sets.now a.p 0) everyValue) (le-ltb a.p a.count c.if1.false))
+    sym (tabulate_at max_patterns (λ p. cond (ltb p a.count) (get_or a.sets.now p 0) every_value) a.p i.requires
+    ∙ ap (λ t. cond t (get_or a.sets.now a.p 0) every_value) (le-ltb a.p a.count c.if1.false))
 
-pub set-at-spec : {M : Type 1} → statement M
-set-at-spec = tie.close (tie.spec mul-result element-copy-out-result returns returns-2)
+pub set_at_spec : {M : Type 1} → statement M
+set_at_spec = tie.close (tie.spec mul-result element-copy-out-result returns returns_2)

@@ -9,5 +9,5 @@ audit-numbers-requires c κs = search rules
 returns : tie.Need-returns
 returns c = c.audit-numbers.ensures
 
-pub dagmetzi-audit-shared-spec : {M : Type 1} → statement M
-dagmetzi-audit-shared-spec = tie.close (tie.spec audit-numbers-requires returns)
+pub dagmetzi_audit_shared_spec : {M : Type 1} → statement M
+dagmetzi_audit_shared_spec = tie.close (tie.spec audit-numbers-requires returns)

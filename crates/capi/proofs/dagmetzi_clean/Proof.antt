@@ -3,10 +3,10 @@ use Prim.Native.Nat.{ℕ}
 use mathlib.Core.Path.{◌≡◌, ap, ap₂, ◌∙◌}
 use mathlib.Core.List.{List, [], ◌∷◌}
 use Rattle.base.specs.declared.Written.{Written}
-use Rattle.base.specs.Cases.{Case, writtenCase}
+use Rattle.base.specs.Cases.{Case, written_case}
 use Rattle.capi.specs.declared.told.Told.{Told}
 use Rattle.capi.specs.Inner.Told.{told}
-use Rattle.capi.specs.Numbers.{copyNumbers}
+use Rattle.capi.specs.Numbers.{copy_numbers}
 use borrow.Author.Rules.{rules}
 use Rattle.capi.proofs.dagmetzi_clean.Statement.{statement}
 use Rattle.capi.proofs.dagmetzi_clean.Tie as tie
@@ -24,9 +24,9 @@ same_length : tie.Need-same-length
 same_length c = search rules
 
 -- the six numbers, from what was written and what is told of it
-numbers : (w : Written) (t : Told) (k : ℕ) {x : Case} → t ≡ told (writtenCase w) → k ≡ (writtenCase w).value → writtenCase w ≡ x
-    → ◌≡◌ {A = List ℕ} (t.outcome ∷ 0 ∷ 0 ∷ 0 ∷ k ∷ t.place ∷ []) (copyNumbers x)
-numbers w t k et ek e = ap₂ (λ (x : Told) (k : ℕ). x.outcome ∷ 0 ∷ 0 ∷ 0 ∷ k ∷ x.place ∷ []) et ek ∙ ap copyNumbers e
+numbers : (w : Written) (t : Told) (k : ℕ) {x : Case} → t ≡ told (written_case w) → k ≡ (written_case w).value → written_case w ≡ x
+    → ◌≡◌ {A = List ℕ} (t.outcome ∷ 0 ∷ 0 ∷ 0 ∷ k ∷ t.place ∷ []) (copy_numbers x)
+numbers w t k et ek e = ap₂ (λ (x : Told) (k : ℕ). x.outcome ∷ 0 ∷ 0 ∷ 0 ∷ k ∷ x.place ∷ []) et ek ∙ ap copy_numbers e
 
 returns : tie.Need-returns
 returns c =
@@ -41,7 +41,7 @@ returns c =
       ),
     )
 
-pub dagmetzi-clean-spec : {M : Type 1} → statement M
-dagmetzi-clean-spec =
+pub dagmetzi_clean_spec : {M : Type 1} → statement M
+dagmetzi_clean_spec =
     tie.close
     (tie.spec clean-requires written-told-requires written-length-requires same_length returns)

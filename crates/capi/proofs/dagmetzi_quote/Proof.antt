@@ -12,5 +12,5 @@ same_length c = search rules
 returns : tie.Need-returns
 returns c = c.before.before.quote-numbers.ensures
 
-pub dagmetzi-quote-spec : {M : Type 1} → statement M
-dagmetzi-quote-spec = tie.close (tie.spec quote-numbers-requires same_length returns)
+pub dagmetzi_quote_spec : {M : Type 1} → statement M
+dagmetzi_quote_spec = tie.close (tie.spec quote-numbers-requires same_length returns)

@@ -1,9 +1,9 @@
 -- `dagmetzi_quote_joined` meets its contract: what the joint quote ensures, as numbers, and its promise.
 use mathlib.Core.Path.{ap, ◌∙◌}
 use Rattle.quote.specs.Cases.{QuoteReply}
-use Rattle.joined.specs.Cases.{jointCase}
+use Rattle.joined.specs.Cases.{joint_case}
 use Rattle.capi.specs.declared.told.Told.{Told}
-use Rattle.capi.proofs.SixNumbers.{six-numbers}
+use Rattle.capi.proofs.SixNumbers.{six_numbers}
 use borrow.Author.Rules.{rules}
 use Rattle.capi.proofs.dagmetzi_quote_joined.Statement.{statement}
 use Rattle.capi.proofs.dagmetzi_quote_joined.Tie as tie
@@ -25,11 +25,11 @@ returns c =
     let e = q.ensures in (
       ap (λ (x : Told). x.number) t ∙ ap (λ (x : QuoteReply). x.mark.number) e.0,
       (
-        six-numbers r.cells r.floor r.visits r.length (jointCase r.mark) c.before.joint-told.result t e.0,
+        six_numbers r.cells r.floor r.visits r.length (joint_case r.mark) c.before.joint-told.result t e.0,
         (e.1.0, rw (← e.0) e.1.1),
       ),
     )
 
-pub dagmetzi-quote-joined-spec : {M : Type 1} → statement M
-dagmetzi-quote-joined-spec =
+pub dagmetzi_quote_joined_spec : {M : Type 1} → statement M
+dagmetzi_quote_joined_spec =
     tie.close (tie.spec quote-joined-requires joint-told-requires same_length returns)

@@ -9,5 +9,5 @@ search-numbers-requires c κs = search rules
 returns : tie.Need-returns
 returns c = c.search-numbers.ensures
 
-pub dagmetzi-search-spec : {M : Type 1} → statement M
-dagmetzi-search-spec = tie.close (tie.spec search-numbers-requires returns)
+pub dagmetzi_search_spec : {M : Type 1} → statement M
+dagmetzi_search_spec = tie.close (tie.spec search-numbers-requires returns)

@@ -1,14 +1,14 @@
 -- The picks of a part, some of which are made again: those of the wires that are marked, in lanes of 0 or 1.
 use Rattle.std.specs.Prelude.{ℕ, ◌^◌, ◌<◌, ◌≤◌, ◌≡◌, Bool, not, cond, List, T, eqb, get_or}
-use Rattle.sheet.specs.Limits.{maxInputs, maxWires}
+use Rattle.sheet.specs.Limits.{max_inputs, max_wires}
 use Rattle.table.specs.Bits.{sum}
 use Rattle.table.specs.Inner.Wide.{sections}
 use Rattle.relation.specs.Inner.Side.{section}
 use Rattle.lanes.specs.Inner.Lanes.{lane_of, lanes_of}
-use Rattle.parts.specs.Inner.Boards.{lentWide}
-use Rattle.parts.specs.Inner.Cells.{cellSpace, byteIn, packed, cellsSum}
-use Rattle.parts.specs.Inner.Picks.{pickOn, cellsOn}
-use Rattle.parts.specs.Inner.States.{cellsPlace, restPlace, SameBut}
+use Rattle.parts.specs.Inner.Boards.{lent_wide}
+use Rattle.parts.specs.Inner.Cells.{cell_space, byte_in, packed, cells_sum}
+use Rattle.parts.specs.Inner.Picks.{pick_on, cells_on}
+use Rattle.parts.specs.Inner.States.{cells_place, rest_place, SameBut}
 use Rattle.halves.specs.declared.Picks.{Picks}
 
 -- wire j is marked
@@ -17,23 +17,23 @@ marked wires j = eqb (lane_of wires j) 1
 
 -- the cells of all wires, of which no wire has more than a table can have
 abbrev pub FewCells : ℕ → Type 0
-FewCells cells = (cells < cellSpace ^ maxWires) × ((j : ℕ) → j < maxWires → byteIn cells j < 2 ^ maxInputs)
+FewCells cells = (cells < cell_space ^ max_wires) × ((j : ℕ) → j < max_wires → byte_in cells j < 2 ^ max_inputs)
 
 -- wire j's cells once the marked wires are made again
-abbrev pub cellsAgain : (e words : List ℕ) → (wires cells j : ℕ) → ℕ
-cellsAgain e words wires cells j = cond (marked wires j) (cellsOn e words j) (byteIn cells j)
+abbrev pub cells_again : (e words : List ℕ) → (wires cells j : ℕ) → ℕ
+cells_again e words wires cells j = cond (marked wires j) (cells_on e words j) (byte_in cells j)
 
 -- wire j's table on section q once they are, from the tables side by side before
-abbrev pub sideAgain : (e words : List ℕ) → (wires side q j : ℕ) → ℕ
-sideAgain e words wires side q j = cond (marked wires j) (section (pickOn e words j) q) (lane_of side j)
+abbrev pub side_again : (e words : List ℕ) → (wires side q j : ℕ) → ℕ
+side_again e words wires side q j = cond (marked wires j) (section (pick_on e words j) q) (lane_of side j)
 
 -- what is told of picks made again. Where they are kept all are made, and their cells are below the best. Where they are not, the cells of all wires would be as many as the best at
 -- least, if no wire has fewer by being made again
 pub record Remade (e words : List ℕ) (wires tables cells : ℕ) (before after : List ℕ) (r : Picks) : Type 0 where
   pub same : SameBut before after
-  pub low : T r.kept → r.low ≡ lanes_of (sideAgain e words wires tables 0)
+  pub low : T r.kept → r.low ≡ lanes_of (side_again e words wires tables 0)
   pub rest : T r.kept → (q : ℕ) → 1 ≤ q → q < sections
-      → get_or after (restPlace q) 0 ≡ cond (lentWide e) (lanes_of (sideAgain e words wires (get_or before (restPlace q) 0) q)) (get_or before (restPlace q) 0)
-  pub counts : T r.kept → (r.cells ≡ packed (cellsAgain e words wires cells)) × (cellsSum r.cells < get_or before cellsPlace 0)
-  pub narrow : T (not (lentWide e)) → (q : ℕ) → 1 ≤ q → q < sections → get_or after (restPlace q) 0 ≡ get_or before (restPlace q) 0
-  pub over : T (not r.kept) → ((j : ℕ) → j < maxWires → byteIn cells j ≤ cellsOn e words j) → get_or before cellsPlace 0 ≤ sum maxWires (cellsAgain e words wires cells)
+      → get_or after (rest_place q) 0 ≡ cond (lent_wide e) (lanes_of (side_again e words wires (get_or before (rest_place q) 0) q)) (get_or before (rest_place q) 0)
+  pub counts : T r.kept → (r.cells ≡ packed (cells_again e words wires cells)) × (cells_sum r.cells < get_or before cells_place 0)
+  pub narrow : T (not (lent_wide e)) → (q : ℕ) → 1 ≤ q → q < sections → get_or after (rest_place q) 0 ≡ get_or before (rest_place q) 0
+  pub over : T (not r.kept) → ((j : ℕ) → j < max_wires → byte_in cells j ≤ cells_on e words j) → get_or before cells_place 0 ≤ sum max_wires (cells_again e words wires cells)

@@ -1,5 +1,5 @@
 -- `mark_of_both` meets its contract.
-use Rattle.joined.specs.Joint.{asSecond}
+use Rattle.joined.specs.Joint.{as_second}
 use borrow.Author.Rules.{rules}
 use Rattle.joined.proofs.mark_of_both.Statement.{statement}
 use Rattle.joined.proofs.mark_of_both.Tie as tie
@@ -14,17 +14,17 @@ enum-known-mark : tie.Need-enum-known-mark
 enum-known-mark c = search rules
 
 returns : tie.Need-returns
-unfolding asSecond
+unfolding as_second
 returns c = rw c.enum_told.given.1
 
-returns-2 : tie.Need-returns-2
-unfolding asSecond
-returns-2 c = rw c.enum-told2.given.1
+returns_2 : tie.Need-returns-2
+unfolding as_second
+returns_2 c = rw c.enum-told2.given.1
 
-returns-3 : tie.Need-returns-3
-unfolding asSecond
-returns-3 c = rw c.before.mark.given.1
+returns_3 : tie.Need-returns-3
+unfolding as_second
+returns_3 c = rw c.before.mark.given.1
 
-pub mark-of-both-spec : {M : Type 1} → statement M
-mark-of-both-spec =
-    tie.close (tie.spec enum_told enum-told-2 enum-known-mark returns returns-2 returns-3)
+pub mark_of_both_spec : {M : Type 1} → statement M
+mark_of_both_spec =
+    tie.close (tie.spec enum_told enum-told-2 enum-known-mark returns returns_2 returns_3)

@@ -3,9 +3,9 @@ use mathlib.Core.Path.{ap, ◌∙◌}
 use lib.ListN.{length}
 use native.Mathlib.Omega.{arith}
 use Rattle.nodes.specs.declared.BoardKind.TheVariants.{Tree}
-use Rattle.quote.specs.Quote.{searched, bufferSearched}
-use Rattle.joined.specs.Joint.{quotedAsSecond}
-use Rattle.joined.proofs.JointQuoting.{inputs_apart, wires-apart, both-searched}
+use Rattle.quote.specs.Quote.{searched, buffer_searched}
+use Rattle.joined.specs.Joint.{quoted_as_second}
+use Rattle.joined.proofs.JointQuoting.{inputs_apart, wires_apart, both_searched}
 use borrow.Author.Rules.{rules}
 use Rattle.joined.proofs.quote_both.Statement.{statement}
 use Rattle.joined.proofs.quote_both.Tie as tie
@@ -22,12 +22,12 @@ returns c =
 sizes-differ-requires-2 : tie.Need-sizes-differ-requires-2
 sizes-differ-requires-2 c κs = search rules
 
-returns-2 : tie.Need-returns-2
-returns-2 c =
+returns_2 : tie.Need-returns-2
+returns_2 c =
     let i = c.before in
     let j = i.before.before.before in
     let a = j.before.before.before.before.args in
-    wires-apart a.first a.second a.budget a.buffer.now (omega (arith, j.if1.false)) i.if2.true c.sizes-differ2.ensures
+    wires_apart a.first a.second a.budget a.buffer.now (omega (arith, j.if1.false)) i.if2.true c.sizes-differ2.ensures
 
 join-requires : tie.Need-join-requires
 join-requires c κs = search rules
@@ -41,8 +41,8 @@ reply-of-both-requires c κs = search rules
 same_length : tie.Need-same-length
 same_length c = search rules
 
-returns-3 : tie.Need-returns-3
-returns-3 c =
+returns_3 : tie.Need-returns-3
+returns_3 c =
     let k = c.before.before.before in
     let s = k.before.before in
     let i = s.before in
@@ -50,20 +50,20 @@ returns-3 c =
     let a = j.before.before.before.before.args in
     let q = k.quote-relation.ensures in
     let room = length a.buffer.now in
-    both-searched a.first a.second a.budget a.buffer.now (omega (arith, j.if1.false)) (omega (arith, i.if2.false))
-    (c.reply-of-both.ensures ∙ ap quotedAsSecond (q.0 ∙ ap (λ r. searched Tree r a.budget room) s.join.ensures))
-    (q.1 ∙ ap (λ r. bufferSearched Tree r a.budget a.buffer.now) s.join.ensures)
+    both_searched a.first a.second a.budget a.buffer.now (omega (arith, j.if1.false)) (omega (arith, i.if2.false))
+    (c.reply-of-both.ensures ∙ ap quoted_as_second (q.0 ∙ ap (λ r. searched Tree r a.budget room) s.join.ensures))
+    (q.1 ∙ ap (λ r. buffer_searched Tree r a.budget a.buffer.now) s.join.ensures)
 
-pub quote-both-spec : {M : Type 1} → statement M
-quote-both-spec =
+pub quote_both_spec : {M : Type 1} → statement M
+quote_both_spec =
     tie.close
     (tie.spec
     sizes-differ-requires
     returns
     sizes-differ-requires-2
-    returns-2
+    returns_2
     join-requires
     quote-relation-requires
     reply-of-both-requires
     same_length
-    returns-3)
+    returns_3)

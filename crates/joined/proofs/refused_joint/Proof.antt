@@ -6,5 +6,5 @@ use Rattle.joined.proofs.refused_joint.Tie as tie
 returns : tie.Need-returns
 returns c = refl
 
-pub refused-joint-spec : {M : Type 1} → statement M
-refused-joint-spec = tie.close (tie.spec returns)
+pub refused_joint_spec : {M : Type 1} → statement M
+refused_joint_spec = tie.close (tie.spec returns)

@@ -9,5 +9,5 @@ mark-of-both-requires c κs = search rules
 returns : tie.Need-returns
 returns c = rw c.mark-of-both.ensures
 
-pub reply-of-both-spec : {M : Type 1} → statement M
-reply-of-both-spec = tie.close (tie.spec mark-of-both-requires returns)
+pub reply_of_both_spec : {M : Type 1} → statement M
+reply_of_both_spec = tie.close (tie.spec mark-of-both-requires returns)

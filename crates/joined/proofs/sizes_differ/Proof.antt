@@ -13,5 +13,5 @@ refused-joint-requires c κs = search rules
 returns : tie.Need-returns
 returns c = c.refused-joint.ensures ∙ rw c.before.at.ensures
 
-pub sizes-differ-spec : {M : Type 1} → statement M
-sizes-differ-spec = tie.close (tie.spec at-requires refused-joint-requires returns)
+pub sizes_differ_spec : {M : Type 1} → statement M
+sizes_differ_spec = tie.close (tie.spec at-requires refused-joint-requires returns)

@@ -18,17 +18,17 @@ enum-known-mark-2 c = search rules
 returns : tie.Need-returns
 returns c = rw c.enum_told.given.1
 
-returns-2 : tie.Need-returns-2
-returns-2 c = rw c.enum-told2.given.1
+returns_2 : tie.Need-returns-2
+returns_2 c = rw c.enum-told2.given.1
 
-returns-3 : tie.Need-returns-3
-returns-3 c = rw c.before.mark.given.1
+returns_3 : tie.Need-returns-3
+returns_3 c = rw c.before.mark.given.1
 
-returns-4 : tie.Need-returns-4
-returns-4 c = rw c.before.mark2.given.1
+returns_4 : tie.Need-returns-4
+returns_4 c = rw c.before.mark2.given.1
 
-pub unnamed-mark-spec : {M : Type 1} → statement M
-unnamed-mark-spec =
+pub unnamed_mark_spec : {M : Type 1} → statement M
+unnamed_mark_spec =
     tie.close
     (tie.spec
     enum_told
@@ -36,6 +36,6 @@ unnamed-mark-spec =
     enum-known-mark
     enum-known-mark-2
     returns
-    returns-2
-    returns-3
-    returns-4)
+    returns_2
+    returns_3
+    returns_4)

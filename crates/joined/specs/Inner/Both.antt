@@ -3,16 +3,16 @@ use Rattle.std.specs.Prelude.{ℕ, Bool, cond, ◌&&◌, List, eqb}
 use Rattle.nodes.specs.declared.BoardKind.TheVariants.{Tree}
 use Rattle.relation.specs.declared.Relation.{Relation}
 use Rattle.relation.specs.Joined.{join_of}
-use Rattle.quote.specs.Audit.{sizesApart}
+use Rattle.quote.specs.Audit.{sizes_apart}
 use Rattle.quote.specs.Cases.{QuoteReply}
-use Rattle.quote.specs.Quote.{noQuote, searched, bufferSearched}
-use Rattle.joined.specs.Joint.{quotedAsSecond}
+use Rattle.quote.specs.Quote.{no_quote, searched, buffer_searched}
+use Rattle.joined.specs.Joint.{quoted_as_second}
 
-abbrev pub areSame : Relation → Relation → Bool
-areSame r q = eqb r.n q.n && eqb r.m q.m
+abbrev pub are_same : Relation → Relation → Bool
+are_same r q = eqb r.n q.n && eqb r.m q.m
 
-unfoldable pub bothQuoted : Relation → Relation → ℕ → ℕ → QuoteReply
-bothQuoted r q budget room = cond (areSame r q) (quotedAsSecond (searched Tree (join_of r q) budget room)) (noQuote sizesApart)
+unfoldable pub both_quoted : Relation → Relation → ℕ → ℕ → QuoteReply
+both_quoted r q budget room = cond (are_same r q) (quoted_as_second (searched Tree (join_of r q) budget room)) (no_quote sizes_apart)
 
-unfoldable pub bothBuffer : Relation → Relation → ℕ → List ℕ → List ℕ
-bothBuffer r q budget buffer = cond (areSame r q) (bufferSearched Tree (join_of r q) budget buffer) buffer
+unfoldable pub both_buffer : Relation → Relation → ℕ → List ℕ → List ℕ
+both_buffer r q budget buffer = cond (are_same r q) (buffer_searched Tree (join_of r q) budget buffer) buffer

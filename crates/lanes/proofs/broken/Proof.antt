@@ -1,7 +1,7 @@
 -- `broken` meets its contract: in each lane the bit that the wire drives chooses.
 use mir.Val.{Fits}
 use mir.Syntax.{w64}
-use Rattle.lanes.proofs.Chosen.{lane-chosen, chosen-bits, chosen-lt}
+use Rattle.lanes.proofs.Chosen.{lane_chosen, chosen_bits, chosen_lt}
 use borrow.Author.Rules.{rules}
 use Rattle.lanes.proofs.broken.Statement.{statement}
 use Rattle.lanes.proofs.broken.Tie as tie
@@ -15,10 +15,10 @@ returns c =
     let fd : Fits w64 d = search rules in
     let fz : Fits w64 z = search rules in
     let fo : Fits w64 o = search rules in (
-      lane-chosen d z o p.0 p.1 p.2,
-      chosen-bits d z o p.0 p.1 p.2,
-      chosen-lt d z o p.0 p.1 p.2 fd.fits fz.fits fo.fits,
+      lane_chosen d z o p.0 p.1 p.2,
+      chosen_bits d z o p.0 p.1 p.2,
+      chosen_lt d z o p.0 p.1 p.2 fd.fits fz.fits fo.fits,
     )
 
-pub broken-spec : {M : Type 1} → statement M
-broken-spec = tie.close (tie.spec returns)
+pub broken_spec : {M : Type 1} → statement M
+broken_spec = tie.close (tie.spec returns)

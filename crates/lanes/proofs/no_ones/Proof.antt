@@ -3,10 +3,10 @@ use mathlib.Core.Path.{◌∙◌}
 use Prim.Native.Nat.{◌*◌, ◌/◌}
 use mir.Val.{Fits}
 use mir.Syntax.{w16}
-use Rattle.lanes.proofs.Projected.{kept_low, ones-absent}
-use Rattle.table.specs.Bits.{bit, sum, of_bits, isOne, all}
-use Rattle.table.specs.Inner.Columns.{columnOf}
-use Rattle.lanes.specs.Inner.Lanes.{eachLane, lane_of, lanes_of}
+use Rattle.lanes.proofs.Projected.{kept_low, ones_absent}
+use Rattle.table.specs.Bits.{bit, sum, of_bits, is_one, all}
+use Rattle.table.specs.Inner.Columns.{column_of}
+use Rattle.lanes.specs.Inner.Lanes.{each_lane, lane_of, lanes_of}
 use borrow.Author.Rules.{rules}
 use Rattle.lanes.proofs.no_ones.Statement.{statement}
 use Rattle.lanes.proofs.no_ones.Tie as tie
@@ -16,14 +16,14 @@ mul-vacant c = search rules
 
 vacant-requires : tie.Need-vacant-requires
 unfolding all lane_of
-vacant-requires c κs = kept_low (c.args.set * eachLane / 2) _ tt
+vacant-requires c κs = kept_low (c.args.set * each_lane / 2) _ tt
 
 returns : tie.Need-returns
-unfolding lanes_of sum columnOf of_bits bit isOne
+unfolding lanes_of sum column_of of_bits bit is_one
 returns c =
     let s = c.before.args.set in
     let fit : Fits w16 s = search rules in
-    c.vacant.ensures ∙ ones-absent s fit.fits _ tt
+    c.vacant.ensures ∙ ones_absent s fit.fits _ tt
 
-pub no-ones-spec : {M : Type 1} → statement M
-no-ones-spec = tie.close (tie.spec mul-vacant vacant-requires returns)
+pub no_ones_spec : {M : Type 1} → statement M
+no_ones_spec = tie.close (tie.spec mul-vacant vacant-requires returns)

@@ -3,10 +3,10 @@ use mathlib.Core.Path.{◌∙◌}
 use Prim.Native.Nat.{◌*◌}
 use mir.Val.{Fits}
 use mir.Syntax.{w16}
-use Rattle.lanes.proofs.Projected.{kept_low, zeros-absent}
-use Rattle.table.specs.Bits.{bit, sum, of_bits, isOne, all}
-use Rattle.table.specs.Inner.Columns.{columnOf}
-use Rattle.lanes.specs.Inner.Lanes.{eachLane, lane_of, lanes_of}
+use Rattle.lanes.proofs.Projected.{kept_low, zeros_absent}
+use Rattle.table.specs.Bits.{bit, sum, of_bits, is_one, all}
+use Rattle.table.specs.Inner.Columns.{column_of}
+use Rattle.lanes.specs.Inner.Lanes.{each_lane, lane_of, lanes_of}
 use borrow.Author.Rules.{rules}
 use Rattle.lanes.proofs.no_zeros.Statement.{statement}
 use Rattle.lanes.proofs.no_zeros.Tie as tie
@@ -16,14 +16,14 @@ mul-vacant c = search rules
 
 vacant-requires : tie.Need-vacant-requires
 unfolding all lane_of
-vacant-requires c κs = kept_low (c.args.set * eachLane) _ tt
+vacant-requires c κs = kept_low (c.args.set * each_lane) _ tt
 
 returns : tie.Need-returns
-unfolding lanes_of sum columnOf of_bits bit isOne
+unfolding lanes_of sum column_of of_bits bit is_one
 returns c =
     let s = c.before.args.set in
     let fit : Fits w16 s = search rules in
-    c.vacant.ensures ∙ zeros-absent s fit.fits _ tt
+    c.vacant.ensures ∙ zeros_absent s fit.fits _ tt
 
-pub no-zeros-spec : {M : Type 1} → statement M
-no-zeros-spec = tie.close (tie.spec mul-vacant vacant-requires returns)
+pub no_zeros_spec : {M : Type 1} → statement M
+no_zeros_spec = tie.close (tie.spec mul-vacant vacant-requires returns)

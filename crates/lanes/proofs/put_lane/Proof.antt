@@ -2,7 +2,7 @@
 use lib.Bits.{and_le_l}
 use mir.Val.{Fits}
 use mir.Syntax.{w64}
-use Rattle.lanes.proofs.Replaced.{lane-put, lane-fits}
+use Rattle.lanes.proofs.Replaced.{lane_put, lane_fits}
 use borrow.Author.Rules.{rules}
 use Rattle.lanes.proofs.put_lane.Statement.{statement}
 use Rattle.lanes.proofs.put_lane.Tie as tie
@@ -29,16 +29,16 @@ add-result : tie.Need-overflow-add-result
 add-result c =
     let a = c.args in
     let fit : Fits w64 a.x = search rules in
-    record { fits = lane-fits a.x a.j a.y c.requires.0 c.requires.1 fit.fits }
+    record { fits = lane_fits a.x a.j a.y c.requires.0 c.requires.1 fit.fits }
 
 returns : tie.Need-returns
 returns c =
     let a = c.args in
     let fit : Fits w64 a.x = search rules in
-    lane-put a.x a.j a.y c.requires.0 c.requires.1 fit.fits
+    lane_put a.x a.j a.y c.requires.0 c.requires.1 fit.fits
 
-pub put-lane-spec : {M : Type 1} → statement M
-put-lane-spec =
+pub put_lane_spec : {M : Type 1} → statement M
+put_lane_spec =
     tie.close
     (tie.spec
     mul_at

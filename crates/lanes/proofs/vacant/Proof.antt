@@ -1,7 +1,7 @@
 -- `vacant` meets its contract.
 use mir.Val.{Fits}
 use mir.Syntax.{w64}
-use Rattle.lanes.proofs.Empty.{under-highest, empty-lanes}
+use Rattle.lanes.proofs.Empty.{under_highest, empty_lanes}
 use borrow.Author.Rules.{rules}
 use Rattle.lanes.proofs.vacant.Statement.{statement}
 use Rattle.lanes.proofs.vacant.Tie as tie
@@ -9,7 +9,7 @@ use Rattle.lanes.proofs.vacant.Tie as tie
 sub-result : tie.Need-overflow-sub-result
 sub-result c =
     let fit : Fits w64 c.args.x = search rules in
-    under-highest c.args.x fit.fits c.requires
+    under_highest c.args.x fit.fits c.requires
 
 cast-result : tie.Need-overflow-cast-result
 cast-result c = search rules
@@ -20,7 +20,7 @@ shr-result c = search rules
 returns : tie.Need-returns
 returns c =
     let fit : Fits w64 c.args.x = search rules in
-    empty-lanes c.args.x fit.fits c.requires
+    empty_lanes c.args.x fit.fits c.requires
 
-pub vacant-spec : {M : Type 1} → statement M
-vacant-spec = tie.close (tie.spec sub-result cast-result shr-result returns)
+pub vacant_spec : {M : Type 1} → statement M
+vacant_spec = tie.close (tie.spec sub-result cast-result shr-result returns)

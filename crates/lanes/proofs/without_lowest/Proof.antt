@@ -1,7 +1,7 @@
 -- `without_lowest` meets its contract.
 use mir.Val.{Fits}
 use mir.Syntax.{w64}
-use Rattle.lanes.proofs.First.{first-emptied}
+use Rattle.lanes.proofs.First.{first_emptied}
 use borrow.Author.Rules.{rules}
 use Rattle.lanes.proofs.without_lowest.Statement.{statement}
 use Rattle.lanes.proofs.without_lowest.Tie as tie
@@ -13,7 +13,7 @@ returns : tie.Need-returns
 returns c =
     let x = c.args.x in
     let fit : Fits w64 x = search rules in
-    first-emptied x fit.fits c.requires.0 c.requires.1
+    first_emptied x fit.fits c.requires.0 c.requires.1
 
-pub without-lowest-spec : {M : Type 1} → statement M
-without-lowest-spec = tie.close (tie.spec sub-result returns)
+pub without_lowest_spec : {M : Type 1} → statement M
+without_lowest_spec = tie.close (tie.spec sub-result returns)

@@ -3,49 +3,49 @@
 use Rattle.std.specs.Prelude.{ℕ, ◌+◌, ◌%◌, ◌^◌, ◌≤◌, ◌≡◌, Bool, cond, List, ltb, leb, get_or}
 use Rattle.nodes.specs.declared.BoardKind.{BoardKind}
 use Rattle.nodes.specs.declared.BoardKind.TheVariants.{Tree, Sharing}
-use Rattle.nodes.specs.Counts.{mostInputs}
-use Rattle.table.specs.Inner.Pairs.{narrowInputs}
+use Rattle.nodes.specs.Counts.{most_inputs}
+use Rattle.table.specs.Inner.Pairs.{narrow_inputs}
 use Rattle.table.specs.Inner.Blocks.{entries, Blocks}
 use Rattle.nodes.specs.Inner.Tops.{Tops}
 
 -- what marks the board that shares: above the inputs of every board
-abbrev pub sharingMark : ℕ
-sharingMark = 8
+abbrev pub sharing_mark : ℕ
+sharing_mark = 8
 
 -- what marks a board of trees with more inputs than the masks of one number have: above every number of the other boards
-abbrev pub wideMark : ℕ
-wideMark = 16
+abbrev pub wide_mark : ℕ
+wide_mark = 16
 
-unfoldable pub boardNumber : BoardKind → ℕ → ℕ
-boardNumber Tree n = cond (leb n narrowInputs) n (wideMark + n)
-boardNumber Sharing n = sharingMark + n
+unfoldable pub board_number : BoardKind → ℕ → ℕ
+board_number Tree n = cond (leb n narrow_inputs) n (wide_mark + n)
+board_number Sharing n = sharing_mark + n
 
-unfoldable pub kindIn : ℕ → BoardKind
-kindIn board = cond (ltb board sharingMark) Tree (cond (ltb board wideMark) Sharing Tree)
+unfoldable pub kind_in : ℕ → BoardKind
+kind_in board = cond (ltb board sharing_mark) Tree (cond (ltb board wide_mark) Sharing Tree)
 
-unfoldable pub boardInputs : ℕ → ℕ
-boardInputs board = board % sharingMark
+unfoldable pub board_inputs : ℕ → ℕ
+board_inputs board = board % sharing_mark
 
 -- the board of a table that is lent for picks: its number stands behind the entries, and behind that the number of wires
-unfoldable pub boardIn : List ℕ → ℕ
-boardIn e = get_or e entries 0
+unfoldable pub board_in : List ℕ → ℕ
+board_in e = get_or e entries 0
 
-unfoldable pub lentWires : List ℕ → ℕ
-lentWires e = get_or e (entries + 1) 0
+unfoldable pub lent_wires : List ℕ → ℕ
+lent_wires e = get_or e (entries + 1) 0
 
 -- and behind that the number of patterns
-unfoldable pub lentCount : List ℕ → ℕ
-lentCount e = get_or e (entries + 2) 0
+unfoldable pub lent_count : List ℕ → ℕ
+lent_count e = get_or e (entries + 2) 0
 
 -- the board of the table is wide
-abbrev pub lentWide : List ℕ → Bool
-lentWide e = leb wideMark (boardIn e)
+abbrev pub lent_wide : List ℕ → Bool
+lent_wide e = leb wide_mark (board_in e)
 
-abbrev pub lentKind : List ℕ → BoardKind
-lentKind e = kindIn (boardIn e)
+abbrev pub lent_kind : List ℕ → BoardKind
+lent_kind e = kind_in (board_in e)
 
-abbrev pub lentInputs : List ℕ → ℕ
-lentInputs e = boardInputs (boardIn e)
+abbrev pub lent_inputs : List ℕ → ℕ
+lent_inputs e = board_inputs (board_in e)
 
 -- the entries that a board's picks are made from
 abbrev pub LentFor : BoardKind → List ℕ → Type 0
@@ -54,8 +54,8 @@ LentFor Sharing e = Tops e
 
 -- a table that is lent with its board's number
 pub record Lent (e : List ℕ) : Type 0 where
-  pub number : boardIn e ≡ boardNumber (lentKind e) (lentInputs e)
-  pub least : 1 ≤ lentInputs e
-  pub most : lentInputs e ≤ mostInputs (lentKind e)
-  pub table : LentFor (lentKind e) e
-  pub count : lentCount e ≡ 2 ^ lentInputs e
+  pub number : board_in e ≡ board_number (lent_kind e) (lent_inputs e)
+  pub least : 1 ≤ lent_inputs e
+  pub most : lent_inputs e ≤ most_inputs (lent_kind e)
+  pub table : LentFor (lent_kind e) e
+  pub count : lent_count e ≡ 2 ^ lent_inputs e

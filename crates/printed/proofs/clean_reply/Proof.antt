@@ -1,8 +1,8 @@
 -- `clean_reply` meets its contract: the sheet is too long, or its copy says it.
 use mathlib.Core.Path.{ap}
-use Rattle.base.specs.Cases.{refusedCase}
+use Rattle.base.specs.Cases.{refused_case}
 use Rattle.report.proofs.Reports.{printed}
-use Rattle.printed.proofs.Printing.{clean-too-long, clean_line}
+use Rattle.printed.proofs.Printing.{clean_too_long, clean_line}
 use borrow.Author.Rules.{rules}
 use Rattle.printed.proofs.clean_reply.Statement.{statement}
 use Rattle.printed.proofs.clean_reply.Tie as tie
@@ -23,7 +23,7 @@ returns : tie.Need-returns
 returns c =
     let t = c.before.before.before.before.before in
     let a = t.before.before.before.before.args in
-    let e = clean-too-long a.sheet.now _ _ (ap refusedCase t.too_long.ensures) t.before.if1.true in
+    let e = clean_too_long a.sheet.now _ _ (ap refused_case t.too_long.ensures) t.before.if1.true in
     printed _ _ _ c.before.before.report-copy.ensures e
 
 slice-aggregate-clean : tie.Need-slice-aggregate-clean
@@ -41,16 +41,16 @@ report-copy-requires-2 c κs = search rules
 same-length-2 : tie.Need-same-length-2
 same-length-2 c = search rules
 
-returns-2 : tie.Need-returns-2
-returns-2 c =
+returns_2 : tie.Need-returns-2
+returns_2 c =
     let t = c.before.before.before.before.before.before in
     let a = t.before.before.before.before.before.args in
     let w = t.clean.ensures in
     let e = clean_line a.sheet.now _ _ w.0 w.1.0 t.before.before.if1.false in
     printed _ _ _ c.before.before.report-copy2.ensures e
 
-pub clean-reply-spec : {M : Type 1} → statement M
-clean-reply-spec =
+pub clean_reply_spec : {M : Type 1} → statement M
+clean_reply_spec =
     tie.close
     (tie.spec
     too-long-requires
@@ -63,4 +63,4 @@ clean-reply-spec =
     slice-aggregate-report-copy-2
     report-copy-requires-2
     same-length-2
-    returns-2)
+    returns_2)

@@ -1,9 +1,9 @@
 -- `joined_reply` meets its contract: the first sheet is too long, or the second, or the joint quote says it.
 use mathlib.Core.Path.{ap, ◌∙◌}
-use Rattle.base.specs.Cases.{refusing, refusedOutcome}
-use Rattle.quote.specs.Quote.{noQuote}
+use Rattle.base.specs.Cases.{refusing, refused_outcome}
+use Rattle.quote.specs.Quote.{no_quote}
 use Rattle.report.proofs.Reports.{printed}
-use Rattle.printed.proofs.Printing.{joined-first-long, joined-second-long, joined-lines}
+use Rattle.printed.proofs.Printing.{joined_first_long, joined_second_long, joined_lines}
 use borrow.Author.Rules.{rules}
 use Rattle.printed.proofs.joined_reply.Statement.{statement}
 use Rattle.printed.proofs.joined_reply.Tie as tie
@@ -28,8 +28,8 @@ returns c =
     let j = c.before.before.before.before.before in
     let i = j.before.before in
     let a = i.before.before.before.before.args in
-    let e = j.refused-joint.ensures ∙ ap (λ f. noQuote (refusing refusedOutcome f)) j.before.too_long.ensures in
-    printed _ _ _ c.before.before.report-joint.ensures (joined-first-long a.first.now a.second.now _ _ e i.if1.true)
+    let e = j.refused-joint.ensures ∙ ap (λ f. no_quote (refusing refused_outcome f)) j.before.too_long.ensures in
+    printed _ _ _ c.before.before.report-joint.ensures (joined_first_long a.first.now a.second.now _ _ e i.if1.true)
 
 second-too-long-requires : tie.Need-second-too-long-requires
 second-too-long-requires c κs = search rules
@@ -46,13 +46,13 @@ report-joint-requires-2 c κs = search rules
 same-length-2 : tie.Need-same-length-2
 same-length-2 c = search rules
 
-returns-2 : tie.Need-returns-2
-returns-2 c =
+returns_2 : tie.Need-returns-2
+returns_2 c =
     let j = c.before.before.before.before.before in
     let i = j.before.before in
     let a = i.before.before.before.before.before.args in
-    let e = j.refused-joint2.ensures ∙ ap noQuote j.before.second-too-long.ensures in
-    printed _ _ _ c.before.before.report-joint2.ensures (joined-second-long a.first.now a.second.now i.before.if1.false _ _ e i.if2.true)
+    let e = j.refused-joint2.ensures ∙ ap no_quote j.before.second-too-long.ensures in
+    printed _ _ _ c.before.before.report-joint2.ensures (joined_second_long a.first.now a.second.now i.before.if1.false _ _ e i.if2.true)
 
 slice-aggregate-quote-joined : tie.Need-slice-aggregate-quote-joined
 slice-aggregate-quote-joined c = search rules
@@ -69,16 +69,16 @@ report-joint-requires-3 c κs = search rules
 same-length-3 : tie.Need-same-length-3
 same-length-3 c = search rules
 
-returns-3 : tie.Need-returns-3
-returns-3 c =
+returns_3 : tie.Need-returns-3
+returns_3 c =
     let q = c.before.before.before.before.before.before in
     let i = q.before.before in
     let a = i.before.before.before.before.before.args in
     let w = q.quote-joined.ensures in
-    printed _ _ _ c.before.before.report-joint3.ensures (joined-lines a.first.now a.second.now i.before.if1.false _ _ w.0 w.1.0 i.if2.false)
+    printed _ _ _ c.before.before.report-joint3.ensures (joined_lines a.first.now a.second.now i.before.if1.false _ _ w.0 w.1.0 i.if2.false)
 
-pub joined-reply-spec : {M : Type 1} → statement M
-joined-reply-spec =
+pub joined_reply_spec : {M : Type 1} → statement M
+joined_reply_spec =
     tie.close
     (tie.spec
     too-long-requires
@@ -92,10 +92,10 @@ joined-reply-spec =
     slice-aggregate-report-joint-2
     report-joint-requires-2
     same-length-2
-    returns-2
+    returns_2
     slice-aggregate-quote-joined
     quote-joined-requires
     slice-aggregate-report-joint-3
     report-joint-requires-3
     same-length-3
-    returns-3)
+    returns_3)

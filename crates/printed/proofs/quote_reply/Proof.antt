@@ -1,6 +1,6 @@
 -- `quote_reply` meets its contract: the sheet is too long, or the quote says it.
 use Rattle.report.proofs.Reports.{printed}
-use Rattle.printed.proofs.Printing.{quote-too-long, quote-lines}
+use Rattle.printed.proofs.Printing.{quote_too_long, quote_lines}
 use borrow.Author.Rules.{rules}
 use Rattle.printed.proofs.quote_reply.Statement.{statement}
 use Rattle.printed.proofs.quote_reply.Tie as tie
@@ -21,7 +21,7 @@ returns : tie.Need-returns
 returns c =
     let t = c.before.before.before.before.before in
     let a = t.before.before.before.before.args in
-    let e = quote-too-long a.kind a.sheet.now _ _ t.too-long-quote.ensures t.before.if1.true in
+    let e = quote_too_long a.kind a.sheet.now _ _ t.too-long-quote.ensures t.before.if1.true in
     printed _ _ _ c.before.before.report.ensures e
 
 slice-aggregate-quote-on : tie.Need-slice-aggregate-quote-on
@@ -39,15 +39,15 @@ report-requires-2 c κs = search rules
 same-length-2 : tie.Need-same-length-2
 same-length-2 c = search rules
 
-returns-2 : tie.Need-returns-2
-returns-2 c =
+returns_2 : tie.Need-returns-2
+returns_2 c =
     let a = c.before.before.before.before.before.before.before.before.before.before.before.args in
     let q = c.before.before.before.before.before.before.quote-on.ensures in
-    let e = quote-lines a.kind a.sheet.now _ _ q.0 q.1.0 c.before.before.before.before.before.before.before.before.if1.false in
+    let e = quote_lines a.kind a.sheet.now _ _ q.0 q.1.0 c.before.before.before.before.before.before.before.before.if1.false in
     printed _ _ _ c.before.before.report2.ensures e
 
-pub quote-reply-spec : {M : Type 1} → statement M
-quote-reply-spec =
+pub quote_reply_spec : {M : Type 1} → statement M
+quote_reply_spec =
     tie.close
     (tie.spec
     too-long-quote-requires
@@ -60,4 +60,4 @@ quote-reply-spec =
     slice-aggregate-report-2
     report-requires-2
     same-length-2
-    returns-2)
+    returns_2)

@@ -9,5 +9,5 @@ at-requires c κs = search rules
 returns : tie.Need-returns
 returns c = c.at.ensures
 
-pub too-long-spec : {M : Type 1} → statement M
-too-long-spec = tie.close (tie.spec at-requires returns)
+pub too_long_spec : {M : Type 1} → statement M
+too_long_spec = tie.close (tie.spec at-requires returns)

@@ -9,5 +9,5 @@ audit-on-requires c κs = search rules
 returns : tie.Need-returns
 returns c = c.audit-on.ensures
 
-pub audit-spec : {M : Type 1} → statement M
-audit-spec = tie.close (tie.spec audit-on-requires returns)
+pub audit_spec : {M : Type 1} → statement M
+audit_spec = tie.close (tie.spec audit-on-requires returns)

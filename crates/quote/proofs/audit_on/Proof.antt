@@ -1,5 +1,5 @@
 use mathlib.Core.Path.{◌∙◌}
-use Rattle.quote.proofs.Auditing.{formed-audit, turned-audit}
+use Rattle.quote.proofs.Auditing.{formed_audit, turned_audit}
 use borrow.Author.Rules.{rules}
 use Rattle.quote.proofs.audit_on.Statement.{statement}
 use Rattle.quote.proofs.audit_on.Tie as tie
@@ -20,15 +20,15 @@ returns : tie.Need-returns
 returns c =
     let a = c.before.before.before.before.before.before.before.args in
     let f = c.before.before.before.before.form in
-    c.audit-stage.ensures ∙ formed-audit a.kind a.sheet.now a.stage.now f.result f.ensures c.before.enum_told.given.1
+    c.audit-stage.ensures ∙ formed_audit a.kind a.sheet.now a.stage.now f.result f.ensures c.before.enum_told.given.1
 
-returns-2 : tie.Need-returns-2
-returns-2 c =
+returns_2 : tie.Need-returns-2
+returns_2 c =
     let a = c.before.before.before.before.before.before.before.args in
     let f = c.before.before.before.before.form in
-    turned-audit a.kind a.sheet.now a.stage.now f.result f.ensures c.before.answer.given.0.0 c.before.answer.given.1
+    turned_audit a.kind a.sheet.now a.stage.now f.result f.ensures c.before.answer.given.0.0 c.before.answer.given.1
 
-pub audit-on-spec : {M : Type 1} → statement M
-audit-on-spec =
+pub audit_on_spec : {M : Type 1} → statement M
+audit_on_spec =
     tie.close
-    (tie.spec form-requires enum_told audit-stage-requires enum-known-answer returns returns-2)
+    (tie.spec form-requires enum_told audit-stage-requires enum-known-answer returns returns_2)

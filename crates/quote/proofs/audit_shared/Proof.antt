@@ -9,5 +9,5 @@ audit-on-requires c κs = search rules
 returns : tie.Need-returns
 returns c = c.audit-on.ensures
 
-pub audit-shared-spec : {M : Type 1} → statement M
-audit-shared-spec = tie.close (tie.spec audit-on-requires returns)
+pub audit_shared_spec : {M : Type 1} → statement M
+audit_shared_spec = tie.close (tie.spec audit-on-requires returns)

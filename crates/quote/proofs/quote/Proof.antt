@@ -12,5 +12,5 @@ same_length c = search rules
 returns : tie.Need-returns
 returns c = c.before.before.quote-on.ensures
 
-pub quote-spec : {M : Type 1} → statement M
-quote-spec = tie.close (tie.spec quote-on-requires same_length returns)
+pub quote_spec : {M : Type 1} → statement M
+quote_spec = tie.close (tie.spec quote-on-requires same_length returns)

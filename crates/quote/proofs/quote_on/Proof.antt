@@ -1,4 +1,4 @@
-use Rattle.quote.proofs.Quoting.{formed-quote, turned-quote}
+use Rattle.quote.proofs.Quoting.{formed_quote, turned_quote}
 use borrow.Author.Rules.{rules}
 use Rattle.quote.proofs.quote_on.Statement.{statement}
 use Rattle.quote.proofs.quote_on.Tie as tie
@@ -26,17 +26,17 @@ returns c =
     let a = c.before.before.before.before.before.before.before.before.before.before.args in
     let f = c.before.before.before.before.before.before.before.form in
     let q = c.before.before.quote-relation.ensures in
-    formed-quote a.kind a.sheet.now a.budget a.buffer.now f.result f.ensures c.before.before.before.before.enum_told.given.1 q.0 q.1
+    formed_quote a.kind a.sheet.now a.budget a.buffer.now f.result f.ensures c.before.before.before.before.enum_told.given.1 q.0 q.1
 
-returns-2 : tie.Need-returns-2
-returns-2 c =
+returns_2 : tie.Need-returns-2
+returns_2 c =
     let a = c.before.before.before.before.before.before.before.before.args in
     let f = c.before.before.before.before.before.form in
-    turned-quote a.kind a.sheet.now a.budget a.buffer.now f.result f.ensures
+    turned_quote a.kind a.sheet.now a.budget a.buffer.now f.result f.ensures
     c.before.before.answer.given.0.0 c.before.before.answer.given.1 c.refused-quote.ensures
 
-pub quote-on-spec : {M : Type 1} → statement M
-quote-on-spec =
+pub quote_on_spec : {M : Type 1} → statement M
+quote_on_spec =
     tie.close
     (tie.spec
     form-requires
@@ -46,4 +46,4 @@ quote-on-spec =
     refused-quote-requires
     same_length
     returns
-    returns-2)
+    returns_2)

@@ -1,10 +1,10 @@
 use mathlib.Core.Path.{ap, subst, sym, ◌∙◌}
 use mathlib.Core.List.{◌++◌, ◌∷◌, []}
 use Prim.Native.Nat.{◌≤◌}
-use Rattle.sheet.specs.Limits.{maxInputs}
+use Rattle.sheet.specs.Limits.{max_inputs}
 use Rattle.reader.specs.declared.Reader.{Reader}
-use Rattle.reader.specs.Inner.Turns.{doneWith}
-use Rattle.reader.proofs.Turns.{accepted-sheet, follow-end, follow-on, follow-refused}
+use Rattle.reader.specs.Inner.Turns.{done_with}
+use Rattle.reader.proofs.Turns.{accepted_sheet, follow_end, follow_on, follow_refused}
 use borrow.Author.Rules.{rules}
 use Rattle.reader.proofs.lead_on.Statement.{statement}
 use Rattle.reader.proofs.lead_on.Tie as tie
@@ -29,22 +29,22 @@ returns c before s at e f g l =
     let a = c.before.before.before.before.before.before.before.args in
     let yes = c.before.before.before.before.enum_told.given.1 in
     c.done.ensures
-    ∙ ap doneWith
-    (c.before.finish.ensures (before ++ a.c ∷ []) s (accepted-sheet before a.c at a.reply e s yes) (subst (λ (x : Reader). x.n ≤ maxInputs) f g) l)
-    ∙ follow-end before a.c at a.reply e s a.next.at yes (sym c.before.before.before.is-end.ensures ∙ c.before.before.if1.true)
+    ∙ ap done_with
+    (c.before.finish.ensures (before ++ a.c ∷ []) s (accepted_sheet before a.c at a.reply e s yes) (subst (λ (x : Reader). x.n ≤ max_inputs) f g) l)
+    ∙ follow_end before a.c at a.reply e s a.next.at yes (sym c.before.before.before.is-end.ensures ∙ c.before.before.if1.true)
 
-returns-2 : tie.Need-returns-2
-returns-2 c before s at e f g l =
+returns_2 : tie.Need-returns-2
+returns_2 c before s at e f g l =
     let a = c.before.before.before.before.before.args in
-    follow-on before a.c at a.reply e s a.next f c.before.before.enum_told.given.1 (sym c.before.is-end.ensures ∙ c.if1.false)
+    follow_on before a.c at a.reply e s a.next f c.before.before.enum_told.given.1 (sym c.before.is-end.ensures ∙ c.if1.false)
 
-returns-3 : tie.Need-returns-3
-returns-3 c before s at e f g l =
+returns_3 : tie.Need-returns-3
+returns_3 c before s at e f g l =
     let a = c.before.before.before.before.args in
-    follow-refused before a.c at a.reply e s a.next.at _ c.before.answer.given.1
+    follow_refused before a.c at a.reply e s a.next.at _ c.before.answer.given.1
 
-pub lead-on-spec : {M : Type 1} → statement M
-lead-on-spec =
+pub lead_on_spec : {M : Type 1} → statement M
+lead_on_spec =
     tie.close
     (tie.spec
     enum_told
@@ -53,5 +53,5 @@ lead-on-spec =
     done-requires
     enum-known-answer
     returns
-    returns-2
-    returns-3)
+    returns_2
+    returns_3)

@@ -1,8 +1,8 @@
 use mathlib.Core.Path.{ap, sym, refl, ◌∙◌}
-use Rattle.reader.specs.Inner.Turns.{doneWith, turn_of}
-use Rattle.reader.proofs.Steps.{handed-back}
-use Rattle.reader.proofs.InRange.{pattern-fits}
-use Rattle.reader.proofs.Turns.{one-read, one-refused, sizes-first, reader-past, reader-small}
+use Rattle.reader.specs.Inner.Turns.{done_with, turn_of}
+use Rattle.reader.proofs.Steps.{handed_back}
+use Rattle.reader.proofs.InRange.{pattern_fits}
+use Rattle.reader.proofs.Turns.{one_read, one_refused, sizes_first, reader_past, reader_small}
 use borrow.Author.Rules.{rules}
 use Rattle.reader.proofs.take_turn.Statement.{statement}
 use Rattle.reader.proofs.take_turn.Tie as tie
@@ -16,8 +16,8 @@ enum-known-step c = search rules
 add-requires : tie.Need-add-requires
 add-requires c κs =
     let a = c.before.before.before.before.before.args in
-    pattern-fits a.reader.n a.reader.m c.before.step.given.0.0 c.before.before.before.before.before.requires
-    (handed-back a.s.now a.reader _ _ (sym c.before.before.before.next.ensures ∙ c.before.step.given.1)).in-range
+    pattern_fits a.reader.n a.reader.m c.before.step.given.0.0 c.before.before.before.before.before.requires
+    (handed_back a.s.now a.reader _ _ (sym c.before.before.before.next.ensures ∙ c.before.step.given.1)).in_range
 
 lead-on-requires : tie.Need-lead-on-requires
 lead-on-requires c κs = search rules
@@ -35,20 +35,20 @@ returns : tie.Need-returns
 returns c before e f =
     let a = c.before.before.before.before.before.before.before.args in
     let read = sym c.before.before.before.before.before.next.ensures ∙ c.before.before.before.step.given.1 in
-    let b = handed-back _ a.reader _ _ read in
-    c.lead-on.ensures before _ _ (c.before.add.ensures before e (sizes-first _ before a.reader f _ _ b))
-    (reader-past _ before a.reader f _ _ b) (reader-small _ before a.reader f _ _ b c.before.before.before.before.before.before.before.requires) refl
-    ∙ ap turn_of (one-read _ before a.reader f _ _ read)
+    let b = handed_back _ a.reader _ _ read in
+    c.lead-on.ensures before _ _ (c.before.add.ensures before e (sizes_first _ before a.reader f _ _ b))
+    (reader_past _ before a.reader f _ _ b) (reader_small _ before a.reader f _ _ b c.before.before.before.before.before.before.before.requires) refl
+    ∙ ap turn_of (one_read _ before a.reader f _ _ read)
 
-returns-2 : tie.Need-returns-2
-returns-2 c before e f =
+returns_2 : tie.Need-returns-2
+returns_2 c before e f =
     let a = c.before.before.before.before.before.before.before.args in
-    c.done.ensures ∙ ap doneWith c.before.refusal.ensures
-    ∙ ap turn_of (one-refused _ before a.reader f _
+    c.done.ensures ∙ ap done_with c.before.refusal.ensures
+    ∙ ap turn_of (one_refused _ before a.reader f _
     (sym c.before.before.before.before.before.next.ensures ∙ c.before.before.before.step2.given.1))
 
-pub take-turn-spec : {M : Type 1} → statement M
-take-turn-spec =
+pub take_turn_spec : {M : Type 1} → statement M
+take_turn_spec =
     tie.close
     (tie.spec
     next-requires
@@ -59,4 +59,4 @@ take-turn-spec =
     refusal-requires
     done-requires
     returns
-    returns-2)
+    returns_2)

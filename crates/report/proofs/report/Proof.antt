@@ -1,7 +1,7 @@
 -- `report` meets its contract: the lines by the mark of the reply.
 use native.Mathlib.Omega.{arith}
-use Rattle.report.specs.Lines.{countsOf, resultLines, lines_of}
-use Rattle.base.proofs.Stores.{put-start}
+use Rattle.report.specs.Lines.{counts_of, result_lines, lines_of}
+use Rattle.base.proofs.Stores.{put_start}
 use borrow.Author.Rules.{rules}
 use Rattle.report.proofs.report.Statement.{statement}
 use Rattle.report.proofs.report.Tie as tie
@@ -37,25 +37,25 @@ same_length : tie.Need-same-length
 same_length c = search rules
 
 returns : tie.Need-returns
-unfolding lines_of resultLines countsOf
-returns c = rw c.before.before.before.before.before.enum_told.given.1 (put-start c.before.before.put-result.ensures (omega arith))
+unfolding lines_of result_lines counts_of
+returns c = rw c.before.before.before.before.before.enum_told.given.1 (put_start c.before.before.put-result.ensures (omega arith))
 
 same-length-2 : tie.Need-same-length-2
 same-length-2 c = search rules
 
-returns-2 : tie.Need-returns-2
-unfolding lines_of resultLines countsOf
-returns-2 c = rw c.before.before.before.before.before.enum-told2.given.1 (put-start c.before.before.put-result2.ensures (omega arith))
+returns_2 : tie.Need-returns-2
+unfolding lines_of result_lines counts_of
+returns_2 c = rw c.before.before.before.before.before.enum-told2.given.1 (put_start c.before.before.put-result2.ensures (omega arith))
 
 same-length-3 : tie.Need-same-length-3
 same-length-3 c = search rules
 
-returns-3 : tie.Need-returns-3
+returns_3 : tie.Need-returns-3
 unfolding lines_of
-returns-3 c = rw c.before.before.before.before.before.before.mark.given.1 (put-start c.before.before.put-refusal-line.ensures (omega arith))
+returns_3 c = rw c.before.before.before.before.before.before.mark.given.1 (put_start c.before.before.put-refusal-line.ensures (omega arith))
 
-pub report-spec : {M : Type 1} → statement M
-report-spec =
+pub report_spec : {M : Type 1} → statement M
+report_spec =
     tie.close
     (tie.spec
     enum_told
@@ -70,6 +70,6 @@ report-spec =
     same_length
     returns
     same-length-2
-    returns-2
+    returns_2
     same-length-3
-    returns-3)
+    returns_3)

@@ -1,6 +1,6 @@
 -- `report_audit` meets its contract: the line by the case of the reply.
 use native.Mathlib.Omega.{arith}
-use Rattle.base.proofs.Stores.{put-start}
+use Rattle.base.proofs.Stores.{put_start}
 use borrow.Author.Rules.{rules}
 use Rattle.report.proofs.report_audit.Statement.{statement}
 use Rattle.report.proofs.report_audit.Tie as tie
@@ -45,28 +45,28 @@ same_length : tie.Need-same-length
 same_length c = search rules
 
 returns : tie.Need-returns
-returns c = let p = c.before.before in rw p.before.before.before.before.audited.given.1 (put-start p.put-judged.ensures (omega arith))
+returns c = let p = c.before.before in rw p.before.before.before.before.audited.given.1 (put_start p.put-judged.ensures (omega arith))
 
 same-length-2 : tie.Need-same-length-2
 same-length-2 c = search rules
 
-returns-2 : tie.Need-returns-2
-returns-2 c = let p = c.before.before in rw p.before.before.before.before.audited2.given.1 (put-start p.put-judged2.ensures (omega arith))
+returns_2 : tie.Need-returns-2
+returns_2 c = let p = c.before.before in rw p.before.before.before.before.audited2.given.1 (put_start p.put-judged2.ensures (omega arith))
 
 same-length-3 : tie.Need-same-length-3
 same-length-3 c = search rules
 
-returns-3 : tie.Need-returns-3
-returns-3 c = let p = c.before.before in rw p.before.before.before.before.audited3.given.1 (put-start p.put-refusal-line.ensures (omega arith))
+returns_3 : tie.Need-returns-3
+returns_3 c = let p = c.before.before in rw p.before.before.before.before.audited3.given.1 (put_start p.put-refusal-line.ensures (omega arith))
 
 same-length-4 : tie.Need-same-length-4
 same-length-4 c = search rules
 
-returns-4 : tie.Need-returns-4
-returns-4 c = let p = c.before.before in rw p.before.before.before.before.audited4.given.1 (put-start p.put-refusal-line2.ensures (omega arith))
+returns_4 : tie.Need-returns-4
+returns_4 c = let p = c.before.before in rw p.before.before.before.before.audited4.given.1 (put_start p.put-refusal-line2.ensures (omega arith))
 
-pub report-audit-spec : {M : Type 1} → statement M
-report-audit-spec =
+pub report_audit_spec : {M : Type 1} → statement M
+report_audit_spec =
     tie.close
     (tie.spec
     enum-known-audited
@@ -84,8 +84,8 @@ report-audit-spec =
     same_length
     returns
     same-length-2
-    returns-2
+    returns_2
     same-length-3
-    returns-3
+    returns_3
     same-length-4
-    returns-4)
+    returns_4)

@@ -1,6 +1,6 @@
 -- `report_copy` meets its contract: the line by the case of the reply.
 use native.Mathlib.Omega.{arith}
-use Rattle.report.proofs.Reports.{reported, copy_written, copy-refused}
+use Rattle.report.proofs.Reports.{reported, copy_written, copy_refused}
 use borrow.Author.Rules.{rules}
 use Rattle.report.proofs.report_copy.Statement.{statement}
 use Rattle.report.proofs.report_copy.Tie as tie
@@ -32,14 +32,14 @@ returns c =
 same-length-2 : tie.Need-same-length-2
 same-length-2 c = search rules
 
-returns-2 : tie.Need-returns-2
-returns-2 c =
+returns_2 : tie.Need-returns-2
+returns_2 c =
     let w = c.before.before.before.before.before.before in
-    let e = copy-refused w.before.before.before.before.args.copy.now w.written2.given.1 in
+    let e = copy_refused w.before.before.before.before.args.copy.now w.written2.given.1 in
     reported c.before.before.put-refusal-line.ensures (omega arith) e
 
-pub report-copy-spec : {M : Type 1} → statement M
-report-copy-spec =
+pub report_copy_spec : {M : Type 1} → statement M
+report_copy_spec =
     tie.close
     (tie.spec
     enum-known-written
@@ -50,4 +50,4 @@ report-copy-spec =
     same_length
     returns
     same-length-2
-    returns-2)
+    returns_2)

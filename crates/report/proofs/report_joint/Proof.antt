@@ -2,10 +2,10 @@
 use mathlib.Core.Path.{ap}
 use native.Mathlib.Omega.{arith}
 use Rattle.base.specs.Cases.{is_refused}
-use Rattle.joined.specs.Cases.{jointCase}
-use Rattle.report.specs.Lines.{jointLines}
-use Rattle.base.proofs.Stores.{put-start}
-use Rattle.report.proofs.Reports.{printed, joint-lines}
+use Rattle.joined.specs.Cases.{joint_case}
+use Rattle.report.specs.Lines.{joint_lines}
+use Rattle.base.proofs.Stores.{put_start}
+use Rattle.report.proofs.Reports.{printed, joint_lines_lem}
 use borrow.Author.Rules.{rules}
 use Rattle.report.proofs.report_joint.Statement.{statement}
 use Rattle.report.proofs.report_joint.Tie as tie
@@ -53,35 +53,35 @@ returns : tie.Need-returns
 returns c =
     let t = c.before.before.before.before.before in
     let a = t.before.before.before.before.args in
-    let e = joint-lines a.q a.stage.now c.before.before.before.before.unnamed.ensures (ap (λ m. is_refused (jointCase m)) t.enum_told.given.1) in
+    let e = joint_lines_lem a.q a.stage.now c.before.before.before.before.unnamed.ensures (ap (λ m. is_refused (joint_case m)) t.enum_told.given.1) in
     printed _ _ _ c.before.before.report.ensures e
 
 same-length-2 : tie.Need-same-length-2
 same-length-2 c = search rules
 
-returns-2 : tie.Need-returns-2
-returns-2 c =
+returns_2 : tie.Need-returns-2
+returns_2 c =
     let t = c.before.before.before.before.before in
     let a = t.before.before.before.before.args in
-    let e = joint-lines a.q a.stage.now c.before.before.before.before.unnamed2.ensures (ap (λ m. is_refused (jointCase m)) t.enum-told2.given.1) in
+    let e = joint_lines_lem a.q a.stage.now c.before.before.before.before.unnamed2.ensures (ap (λ m. is_refused (joint_case m)) t.enum-told2.given.1) in
     printed _ _ _ c.before.before.report2.ensures e
 
 same-length-3 : tie.Need-same-length-3
 same-length-3 c = search rules
 
-returns-3 : tie.Need-returns-3
-unfolding jointLines
-returns-3 c = rw c.before.before.before.before.before.before.mark.given.1 (put-start c.before.before.put-refusal-line.ensures (omega arith))
+returns_3 : tie.Need-returns-3
+unfolding joint_lines
+returns_3 c = rw c.before.before.before.before.before.before.mark.given.1 (put_start c.before.before.put-refusal-line.ensures (omega arith))
 
 same-length-4 : tie.Need-same-length-4
 same-length-4 c = search rules
 
-returns-4 : tie.Need-returns-4
-unfolding jointLines
-returns-4 c = rw c.before.before.before.before.before.before.mark2.given.1 (put-start c.before.before.put-refusal-line2.ensures (omega arith))
+returns_4 : tie.Need-returns-4
+unfolding joint_lines
+returns_4 c = rw c.before.before.before.before.before.before.mark2.given.1 (put_start c.before.before.put-refusal-line2.ensures (omega arith))
 
-pub report-joint-spec : {M : Type 1} → statement M
-report-joint-spec =
+pub report_joint_spec : {M : Type 1} → statement M
+report_joint_spec =
     tie.close
     (tie.spec
     enum_told
@@ -99,8 +99,8 @@ report-joint-spec =
     same_length
     returns
     same-length-2
-    returns-2
+    returns_2
     same-length-3
-    returns-3
+    returns_3
     same-length-4
-    returns-4)
+    returns_4)

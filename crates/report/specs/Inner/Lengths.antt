@@ -1,15 +1,15 @@
 -- The longest of each line but the longest report: bounds that the sums of places need.
 use Rattle.std.specs.Prelude.{ℕ, ◌+◌, ◌*◌, length}
-use Rattle.text.specs.Text.{longestDecimal}
-use Rattle.report.specs.Lines.{cellsText, refusedText, atText, longestWord}
+use Rattle.text.specs.Text.{longest_decimal}
+use Rattle.report.specs.Lines.{cells_text, refused_text, at_text, longest_word}
 
 -- the line of a stage that was judged
-abbrev pub longestJudged : ℕ
-longestJudged = longestWord + length cellsText + longestDecimal + 1
+abbrev pub longest_judged : ℕ
+longest_judged = longest_word + length cells_text + longest_decimal + 1
 
 -- "refused N at P", and its line
-abbrev pub longestRefusal : ℕ
-longestRefusal = length refusedText + length atText + 2 * longestDecimal
+abbrev pub longest_refusal : ℕ
+longest_refusal = length refused_text + length at_text + 2 * longest_decimal
 
-abbrev pub longestRefusalLine : ℕ
-longestRefusalLine = longestWord + longestRefusal + 1
+abbrev pub longest_refusal_line : ℕ
+longest_refusal_line = longest_word + longest_refusal + 1

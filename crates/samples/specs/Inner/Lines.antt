@@ -4,29 +4,29 @@ use Rattle.text.specs.Text.{space, decimal}
 use Rattle.report.specs.Lines.{newline}
 
 -- a number with a space behind it
-unfoldable pub spacedText : ℕ → List ℕ
-spacedText x = decimal x ++ space ∷ []
+unfoldable pub spaced_text : ℕ → List ℕ
+spaced_text x = decimal x ++ space ∷ []
 
 -- the four tables, each with a space behind it
-unfoldable pub tablesText : List ℕ → List ℕ
-tablesText t = spacedText (get_or t 0 0) ++ spacedText (get_or t 1 0) ++ spacedText (get_or t 2 0) ++ spacedText (get_or t 3 0)
+unfoldable pub tables_text : List ℕ → List ℕ
+tables_text t = spaced_text (get_or t 0 0) ++ spaced_text (get_or t 1 0) ++ spaced_text (get_or t 2 0) ++ spaced_text (get_or t 3 0)
 
 -- what a lent buffer is filled with before a call
 abbrev pub fill : ℕ
 fill = 0xEE
 
 -- every byte is as it was filled
-unfoldable pub allFilled : List ℕ → Bool
-allFilled [] = true
-allFilled (x ∷ xs) = cond (eqb x fill) (allFilled xs) false
+unfoldable pub all_filled : List ℕ → Bool
+all_filled [] = true
+all_filled (x ∷ xs) = cond (eqb x fill) (all_filled xs) false
 
 -- " +" and " -", each with the end of its line
-abbrev pub plusText : List ℕ
-plusText = space ∷ 0x2B ∷ newline ∷ []
+abbrev pub plus_text : List ℕ
+plus_text = space ∷ 0x2B ∷ newline ∷ []
 
-abbrev pub minusText : List ℕ
-minusText = space ∷ 0x2D ∷ newline ∷ []
+abbrev pub minus_text : List ℕ
+minus_text = space ∷ 0x2D ∷ newline ∷ []
 
 -- a plus where every byte of a buffer from a place on is as it was filled, else a minus
-abbrev pub keptText : List ℕ → ℕ → List ℕ
-keptText buffer from = cond (allFilled (drop from buffer)) plusText minusText
+abbrev pub kept_text : List ℕ → ℕ → List ℕ
+kept_text buffer from = cond (all_filled (drop from buffer)) plus_text minus_text

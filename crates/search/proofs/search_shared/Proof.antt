@@ -9,5 +9,5 @@ search-on-requires c κs = search rules
 returns : tie.Need-returns
 returns c = c.search-on.ensures
 
-pub search-shared-spec : {M : Type 1} → statement M
-search-shared-spec = tie.close (tie.spec search-on-requires returns)
+pub search_shared_spec : {M : Type 1} → statement M
+search_shared_spec = tie.close (tie.spec search-on-requires returns)

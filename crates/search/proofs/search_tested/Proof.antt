@@ -1,13 +1,13 @@
 -- `search_tested` meets its contract: the table lent tells the board and its sizes.
-use Rattle.relation.specs.Tests.{ofSets}
-use Rattle.search.proofs.Entry.{entered, answer-on}
+use Rattle.relation.specs.Tests.{of_sets}
+use Rattle.search.proofs.Entry.{entered, answer_on}
 use borrow.Author.Rules.{rules}
 use Rattle.search.proofs.search_tested.Statement.{statement}
 use Rattle.search.proofs.search_tested.Tie as tie
 use Rattle.search.proofs.search_tested.Reads as reads
 use Rattle.search.proofs.search_tested.Lts as lts
-use Rattle.search.proofs.lent_for.Reads as lent-for-reads
-use Rattle.search.proofs.search_sets.Reads as search-sets-reads
+use Rattle.search.proofs.lent_for.Reads as lent_for_reads
+use Rattle.search.proofs.search_sets.Reads as search_sets_reads
 
 lent-for-requires : tie.Need-lent-for-requires
 lent-for-requires c κs = search rules
@@ -23,7 +23,7 @@ returns : tie.Need-returns
 returns c =
     let a = c.before.before.before.args in
     let l = c.before.before.lent-for in
-    answer-on l.result l.ensures.1 l.ensures.2 l.ensures.3 a.budget (ofSets a.sets) c.search-sets.ensures
+    answer_on l.result l.ensures.1 l.ensures.2 l.ensures.3 a.budget (of_sets a.sets) c.search-sets.ensures
 
-pub search-tested-spec : {M : Type 1} → statement M
-search-tested-spec = tie.close (tie.spec lent-for-requires search-sets-requires returns)
+pub search_tested_spec : {M : Type 1} → statement M
+search_tested_spec = tie.close (tie.spec lent-for-requires search-sets-requires returns)

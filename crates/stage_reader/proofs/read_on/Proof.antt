@@ -6,18 +6,18 @@ use mathlib.Core.List.{List}
 use native.Mathlib.Omega.{arith}
 use borrow.Author.Rules.{rules}
 use lib.ListN.{get_or, drop}
-use Rattle.sheet.specs.Limits.{sizesOut}
-use Rattle.sheet.proofs.Sizes.{sizes-in}
+use Rattle.sheet.specs.Limits.{sizes_out}
+use Rattle.sheet.proofs.Sizes.{sizes_in}
 use Rattle.nodes.specs.declared.BoardKind.{BoardKind}
-use Rattle.nodes.specs.Counts.{mostInputs}
-use Rattle.stage.specs.Read.{wiresAt, closed}
-use Rattle.stage.specs.Reply.{replyToStage}
-use Rattle.diagram.specs.Forms.{form_of, drawingOf}
-use Rattle.nodes.proofs.Counts.{most-inputs}
-use Rattle.diagram.proofs.Forms.{form-most}
-use Rattle.stage_reader.specs.Cases.{stageReply}
-use Rattle.stage_reader.proofs.Places.{head-refused, head-cut, head-out, head-goes}
-use Rattle.stage_reader.proofs.Replies.{reply-refused}
+use Rattle.nodes.specs.Counts.{most_inputs}
+use Rattle.stage.specs.Read.{wires_at, closed}
+use Rattle.stage.specs.Reply.{reply_to_stage}
+use Rattle.diagram.specs.Forms.{form_of, drawing_of}
+use Rattle.nodes.proofs.Counts.{most_inputs_lem}
+use Rattle.diagram.proofs.Forms.{form_most}
+use Rattle.stage_reader.specs.Cases.{stage_reply}
+use Rattle.stage_reader.proofs.Places.{head_refused, head_cut, head_out, head_goes}
+use Rattle.stage_reader.proofs.Replies.{reply_refused}
 use Rattle.stage_reader.proofs.read_on.Statement.{statement}
 use Rattle.stage_reader.proofs.read_on.Tie as tie
 
@@ -28,16 +28,16 @@ from c = c.before.before.before.before
 abbrev whole : tie.After-sizes-out → tie.Else2
 whole c = c.before.before.before.before
 
-abbrev outOn : BoardKind → List ℕ → Bool
-outOn kind s = sizesOut (form_of kind).most (get_or s 1 0) (get_or s 2 0)
+abbrev out_on : BoardKind → List ℕ → Bool
+out_on kind s = sizes_out (form_of kind).most (get_or s 1 0) (get_or s 2 0)
 
-tested : (c : tie.After-sizes-out) → c.sizes-out.result ≡ outOn (from (whole c)).args.kind (from (whole c)).args.s.now
+tested : (c : tie.After-sizes-out) → c.sizes-out.result ≡ out_on (from (whole c)).args.kind (from (whole c)).args.s.now
 tested c =
     let s = (from (whole c)).args.s.now in
     let kind = (from (whole c)).args.kind in
-    let most : c.before.most-inputs.result ≡ mostInputs kind = c.before.most-inputs.ensures in
-    let out : c.sizes-out.result ≡ sizesOut c.before.most-inputs.result (get_or s 1 0) (get_or s 2 0) = c.sizes-out.ensures in
-    out ∙ ap (λ k. sizesOut k (get_or s 1 0) (get_or s 2 0)) (most ∙ sym (form-most kind))
+    let most : c.before.most-inputs.result ≡ most_inputs kind = c.before.most-inputs.ensures in
+    let out : c.sizes-out.result ≡ sizes_out c.before.most-inputs.result (get_or s 1 0) (get_or s 2 0) = c.sizes-out.ensures in
+    out ∙ ap (λ k. sizes_out k (get_or s 1 0) (get_or s 2 0)) (most ∙ sym (form_most kind))
 
 due-number-requires : tie.Need-due-number-requires
 due-number-requires c κs = search rules
@@ -52,7 +52,7 @@ returns : tie.Need-returns
 returns c =
     let t = c.before.before in
     let k = t.before.before.before.args.kind in
-    reply-refused (drawingOf k) _ _ _ _ (head-refused (form_of k) _ _ t.before.due-number.ensures _ t.if1.true c.before.at.ensures) refl c.no-stage.ensures
+    reply_refused (drawing_of k) _ _ _ _ (head_refused (form_of k) _ _ t.before.due-number.ensures _ t.if1.true c.before.at.ensures) refl c.no-stage.ensures
 
 at-requires-2 : tie.Need-at-requires-2
 at-requires-2 c κs = search rules
@@ -60,12 +60,12 @@ at-requires-2 c κs = search rules
 no-stage-requires-2 : tie.Need-no-stage-requires-2
 no-stage-requires-2 c κs = search rules
 
-returns-2 : tie.Need-returns-2
-returns-2 c =
+returns_2 : tie.Need-returns-2
+returns_2 c =
     let t = c.before.before in
     let e = t.before in
     let k = e.before.before.before.args.kind in
-    reply-refused (drawingOf k) _ _ _ _ (head-cut (form_of k) _ _ e.before.due-number.ensures e.if1.false t.if2.true) c.before.at2.ensures c.no-stage2.ensures
+    reply_refused (drawing_of k) _ _ _ _ (head_cut (form_of k) _ _ e.before.due-number.ensures e.if1.false t.if2.true) c.before.at2.ensures c.no-stage2.ensures
 
 shared-slice-read-n : tie.Need-shared-slice-read-n
 shared-slice-read-n c = search rules
@@ -85,35 +85,35 @@ at-requires-3 c κs = search rules
 no-stage-requires-3 : tie.Need-no-stage-requires-3
 no-stage-requires-3 c κs = search rules
 
-returns-3 : tie.Need-returns-3
-returns-3 c =
+returns_3 : tie.Need-returns-3
+returns_3 c =
     let t = c.before.before in
     let e2 = whole t.before in
     let e1 = e2.before in
     let k = (from e2).args.kind in
-    let out : outOn k (from e2).args.s.now ≡ true = sym (tested t.before) ∙ t.if3.true in
-    reply-refused (drawingOf k) _ _ _ _ (head-out (form_of k) _ _ e1.before.due-number.ensures e1.if1.left e2.if2.left out) c.before.at3.ensures c.no-stage3.ensures
+    let out : out_on k (from e2).args.s.now ≡ true = sym (tested t.before) ∙ t.if3.true in
+    reply_refused (drawing_of k) _ _ _ _ (head_out (form_of k) _ _ e1.before.due-number.ensures e1.if1.left e2.if2.left out) c.before.at3.ensures c.no-stage3.ensures
 
 read-wires-requires : tie.Need-read-wires-requires
 read-wires-requires c κs =
     let a = (from (whole c.before)).args in
-    let z = sizes-in (form_of a.kind).most (get_or a.s.now 1 0) (get_or a.s.now 2 0) (sym (tested c.before) ∙ c.if3.false) in
-    (omega (arith, z.n-most, form-most a.kind, most-inputs a.kind), z.m-most)
+    let z = sizes_in (form_of a.kind).most (get_or a.s.now 1 0) (get_or a.s.now 2 0) (sym (tested c.before) ∙ c.if3.false) in
+    (omega (arith, z.n_most, form_most a.kind, most_inputs_lem a.kind), z.m_most)
 
-returns-4 : tie.Need-returns-4
-returns-4 c =
+returns_4 : tie.Need-returns-4
+returns_4 c =
     let e2 = whole c.before.before in
     let e1 = e2.before in
     let s = (from e2).args.s.now in
     let k = (from e2).args.kind in
     let n = get_or s 1 0 in
     let m = get_or s 2 0 in
-    let in-range : outOn k s ≡ false = sym (tested c.before.before) ∙ c.before.if3.false in
-    let read : stageReply c.read-wires.result ≡ replyToStage (drawingOf k) (closed (form_of k) n m (wiresAt (form_of k) m n m 0 3 (drop 3 s))) = c.read-wires.ensures in
-    rw (head-goes (form_of k) s _ e1.before.due-number.ensures e1.if1.left e2.if2.left in-range) read
+    let in_range : out_on k s ≡ false = sym (tested c.before.before) ∙ c.before.if3.false in
+    let read : stage_reply c.read-wires.result ≡ reply_to_stage (drawing_of k) (closed (form_of k) n m (wires_at (form_of k) m n m 0 3 (drop 3 s))) = c.read-wires.ensures in
+    rw (head_goes (form_of k) s _ e1.before.due-number.ensures e1.if1.left e2.if2.left in_range) read
 
-pub read-on-spec : {M : Type 1} → statement M
-read-on-spec =
+pub read_on_spec : {M : Type 1} → statement M
+read_on_spec =
     tie.close
     (tie.spec
     due-number-requires
@@ -122,13 +122,13 @@ read-on-spec =
     returns
     at-requires-2
     no-stage-requires-2
-    returns-2
+    returns_2
     shared-slice-read-n
     shared-slice-read-m
     most-inputs-requires
     sizes-out-requires
     at-requires-3
     no-stage-requires-3
-    returns-3
+    returns_3
     read-wires-requires
-    returns-4)
+    returns_4)

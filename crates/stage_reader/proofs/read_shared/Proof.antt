@@ -8,5 +8,5 @@ read-on-requires c κs = search rules
 returns : tie.Need-returns
 returns c = c.read-on.ensures
 
-pub read-shared-spec : {M : Type 1} → statement M
-read-shared-spec = tie.close (tie.spec read-on-requires returns)
+pub read_shared_spec : {M : Type 1} → statement M
+read_shared_spec = tie.close (tie.spec read-on-requires returns)

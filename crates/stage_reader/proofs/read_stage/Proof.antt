@@ -8,5 +8,5 @@ read-on-requires c κs = search rules
 returns : tie.Need-returns
 returns c = c.read-on.ensures
 
-pub read-stage-spec : {M : Type 1} → statement M
-read-stage-spec = tie.close (tie.spec read-on-requires returns)
+pub read_stage_spec : {M : Type 1} → statement M
+read_stage_spec = tie.close (tie.spec read-on-requires returns)

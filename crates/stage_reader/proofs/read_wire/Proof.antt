@@ -17,11 +17,11 @@ read-diagram-wire-requires c κs = search rules
 returns : tie.Need-returns
 returns c = rw c.before.enum_told.given.1 c.read-tree-wire.ensures
 
-returns-2 : tie.Need-returns-2
-returns-2 c = rw c.before.enum-told2.given.1 c.read-diagram-wire.ensures
+returns_2 : tie.Need-returns-2
+returns_2 c = rw c.before.enum-told2.given.1 c.read-diagram-wire.ensures
 
-pub read-wire-spec : {M : Type 1} → statement M
-read-wire-spec =
+pub read_wire_spec : {M : Type 1} → statement M
+read_wire_spec =
     tie.close
     (tie.spec
     enum_told
@@ -29,4 +29,4 @@ read-wire-spec =
     enum-told-2
     read-diagram-wire-requires
     returns
-    returns-2)
+    returns_2)

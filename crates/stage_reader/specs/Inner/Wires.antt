@@ -1,8 +1,8 @@
 -- One wire as the stage reader hands it on, whatever drives it.
 use Rattle.std.specs.Prelude.{ℕ}
-use Rattle.base.specs.Cases.{Case, acceptedCase, refusedCase}
+use Rattle.base.specs.Cases.{Case, accepted_case, refused_case}
 use Rattle.base.specs.declared.Refusal.{Refusal}
-use Rattle.table.specs.Drawing.{Drawing, drawnTable}
+use Rattle.table.specs.Drawing.{Drawing, drawn_table}
 use Rattle.stage.specs.Steps.{Read, taken, fault}
 use Rattle.stage_reader.specs.declared.steps.WireStep.{WireStep}
 use Rattle.stage_reader.specs.declared.steps.WireStep.TheVariants.{Wire, Refused}
@@ -14,17 +14,17 @@ pub record WireReply : Type 0 where
   pub next : ℕ
   pub answer : Case
 
-abbrev pub takenWire : (table cells next : ℕ) → WireReply
-takenWire t c x = record { table = t; cells = c; next = x; answer = acceptedCase }
+abbrev pub taken_wire : (table cells next : ℕ) → WireReply
+taken_wire t c x = record { table = t; cells = c; next = x; answer = accepted_case }
 
-abbrev pub refusedWire : Refusal → WireReply
-refusedWire f = record { table = 0; cells = 0; next = 0; answer = refusedCase f }
+abbrev pub refused_wire : Refusal → WireReply
+refused_wire f = record { table = 0; cells = 0; next = 0; answer = refused_case f }
 
-abbrev pub wireReply : WireStep → WireReply
-wireReply (Wire t c x) = takenWire t c x
-wireReply (Refused f) = refusedWire f
+abbrev pub wire_reply : WireStep → WireReply
+wire_reply (Wire t c x) = taken_wire t c x
+wire_reply (Refused f) = refused_wire f
 
 -- what reading gives, in the same terms
 unfoldable pub step_of : (D : Drawing) → ℕ → Read D.Shape → WireReply
-step_of D n (taken x next rest) = takenWire (drawnTable D n x) (D.cells x) next
-step_of D n (fault f) = refusedWire f
+step_of D n (taken x next rest) = taken_wire (drawn_table D n x) (D.cells x) next
+step_of D n (fault f) = refused_wire f

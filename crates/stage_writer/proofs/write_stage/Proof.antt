@@ -11,5 +11,5 @@ same_length c = search rules
 returns : tie.Need-returns
 returns c = c.before.before.write-on.ensures
 
-pub write-stage-spec : {M : Type 1} → statement M
-write-stage-spec = tie.close (tie.spec write-on-requires same_length returns)
+pub write_stage_spec : {M : Type 1} → statement M
+write_stage_spec = tie.close (tie.spec write-on-requires same_length returns)

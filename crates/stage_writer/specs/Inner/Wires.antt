@@ -4,14 +4,14 @@ use Rattle.nodes.specs.declared.BoardKind.{BoardKind}
 use Rattle.nodes.specs.declared.BoardKind.TheVariants.{Tree, Sharing}
 use Rattle.table.specs.Tree.{selectors, reduced}
 use Rattle.nodes.specs.Nodes.{listing}
-use Rattle.stage.specs.TreeBytes.{treeFrame}
-use Rattle.diagram.specs.Bytes.{diagramFrame}
+use Rattle.stage.specs.TreeBytes.{tree_frame}
+use Rattle.diagram.specs.Bytes.{diagram_frame}
 
 abbrev pub frame_of : BoardKind → ℕ
-frame_of Tree = treeFrame
-frame_of Sharing = diagramFrame
+frame_of Tree = tree_frame
+frame_of Sharing = diagram_frame
 
 -- the selectors of what is written of a table of n inputs
-abbrev pub selectorsOf : BoardKind → ℕ → ℕ → ℕ
-selectorsOf Tree n t = selectors (reduced n 0 t)
-selectorsOf Sharing n t = length (listing n t [])
+abbrev pub selectors_of : BoardKind → ℕ → ℕ → ℕ
+selectors_of Tree n t = selectors (reduced n 0 t)
+selectors_of Sharing n t = length (listing n t [])

@@ -9,8 +9,8 @@ use Rattle.text.proofs.available.Tie as tie
 returns : tie.Need-returns
 returns c = (sym (length-take-le c.before.args.count c.before.args.bytes.now (omega arith)), omega arith)
 
-returns-2 : tie.Need-returns-2
-returns-2 c = (ap length (sym (take_all c.before.args.count c.before.args.bytes.now c.if1.false)), omega arith)
+returns_2 : tie.Need-returns-2
+returns_2 c = (ap length (sym (take_all c.before.args.count c.before.args.bytes.now c.if1.false)), omega arith)
 
-pub available-spec : {M : Type 1} → statement M
-available-spec = tie.close (tie.spec returns returns-2)
+pub available_spec : {M : Type 1} → statement M
+available_spec = tie.close (tie.spec returns returns_2)

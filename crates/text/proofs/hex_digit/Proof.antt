@@ -1,5 +1,5 @@
 use borrow.Author.Tests.{lt-ltb, le-ltb}
-use Rattle.text.specs.Text.{hexDigit}
+use Rattle.text.specs.Text.{hex_digit}
 use borrow.Author.Rules.{rules}
 use Rattle.text.proofs.hex_digit.Statement.{statement}
 use Rattle.text.proofs.hex_digit.Tie as tie
@@ -11,12 +11,12 @@ add-result-2 : tie.Need-overflow-add-result-2
 add-result-2 c = search rules
 
 returns : tie.Need-returns
-unfolding hexDigit
+unfolding hex_digit
 returns c = rw (lt-ltb c.before.args.d 10 c.if1.true)
 
-returns-2 : tie.Need-returns-2
-unfolding hexDigit
-returns-2 c = rw (le-ltb c.before.args.d 10 c.if1.false)
+returns_2 : tie.Need-returns-2
+unfolding hex_digit
+returns_2 c = rw (le-ltb c.before.args.d 10 c.if1.false)
 
-pub hex-digit-spec : {M : Type 1} → statement M
-hex-digit-spec = tie.close (tie.spec add-result add-result-2 returns returns-2)
+pub hex_digit_spec : {M : Type 1} → statement M
+hex_digit_spec = tie.close (tie.spec add-result add-result-2 returns returns_2)

@@ -1,5 +1,5 @@
 use native.Mathlib.Omega.{arith}
-use Rattle.text.specs.Text.{hexPair}
+use Rattle.text.specs.Text.{hex_pair}
 use Prim.Native.Nat.{suc, ◌+◌}
 use mathlib.Core.Path.{◌≡◌}
 use borrow.Author.Rules.{rules}
@@ -28,7 +28,7 @@ same_length : tie.Need-same-length
 same_length c = search rules
 
 returns : tie.Need-returns
-unfolding hexPair
+unfolding hex_pair
 returns c =
     let q = c.before.before in
     let h2 = c.before.before.before in
@@ -42,8 +42,8 @@ returns c =
     let s : suc a.at ≡ a.at + 1 = omega arith in
     record { stored = simp (s, ← d1, ← d2, ← e1) e2; past = omega arith }
 
-pub put-hex-pair-spec : {M : Type 1} → statement M
-put-hex-pair-spec =
+pub put_hex_pair_spec : {M : Type 1} → statement M
+put_hex_pair_spec =
     tie.close
     (tie.spec
     hex-digit-requires

@@ -22,5 +22,5 @@ returns c =
     let name = c.before.before.before.before.before.before.before.before.before.before.args.name.now in
     puts (at_most (length name) c.before.before.before.before.before.before.put-text.ensures (omega arith)) c.before.before.put-decimal.ensures
 
-pub put-named-spec : {M : Type 1} → statement M
-put-named-spec = tie.close (tie.spec put-text-requires put-decimal-requires same_length returns)
+pub put_named_spec : {M : Type 1} → statement M
+put_named_spec = tie.close (tie.spec put-text-requires put-decimal-requires same_length returns)

@@ -5,33 +5,33 @@ use native.Mathlib.Omega.{arith}
 use lib.ListN.{length, take}
 use lib.Seq.{take_all}
 use Rattle.base.specs.Inner.Put.{Put}
-use Rattle.base.proofs.Stores.{put_next, put-none}
+use Rattle.base.proofs.Stores.{put_next, put_none}
 use Rattle.text.proofs.put_text.Statement.{statement}
 use Rattle.text.proofs.put_text.Tie as tie
 
-abbrev invariant-loop : tie.invariant-loop
-invariant-loop out₀ at text next₀ i₀ out next i =
+abbrev invariant_loop : tie.invariant-loop
+invariant_loop out₀ at text next₀ i₀ out next i =
     (i ≤ length text) × (length out ≡ length out₀) × (next ≡ at + i) × Put out₀ at (take i text) out next
 
-abbrev decreases-loop : tie.decreases-loop
-decreases-loop out₀ at text next₀ i₀ out next i = length text - i
+abbrev decreases_loop : tie.decreases-loop
+decreases_loop out₀ at text next₀ i₀ out next i = length text - i
 
-loop-holds : tie.Need-loop-init invariant-loop decreases-loop
-loop-holds c = (omega arith, refl, omega arith, put-none)
+loop-holds : tie.Need-loop-init invariant_loop decreases_loop
+loop-holds c = (omega arith, refl, omega arith, put_none)
 
-shared-slice-read-put-byte : tie.Need-shared-slice-read-put-byte invariant-loop decreases-loop
+shared-slice-read-put-byte : tie.Need-shared-slice-read-put-byte invariant_loop decreases_loop
 shared-slice-read-put-byte c = omega arith
 
-put-byte-requires : tie.Need-put-byte-requires invariant-loop decreases-loop
+put-byte-requires : tie.Need-put-byte-requires invariant_loop decreases_loop
 put-byte-requires c κs = omega arith
 
-add-i : tie.Need-overflow-add-i invariant-loop decreases-loop
+add-i : tie.Need-overflow-add-i invariant_loop decreases_loop
 add-i c = omega arith
 
-loop-less : tie.Need-loop-smaller invariant-loop decreases-loop
+loop-less : tie.Need-loop-smaller invariant_loop decreases_loop
 loop-less c = omega arith
 
-loop-again : tie.Need-loop-preserved invariant-loop decreases-loop
+loop-again : tie.Need-loop-preserved invariant_loop decreases_loop
 loop-again c =
     let p = c.before.before in
     let i = c.before.before.before.before.before in
@@ -43,21 +43,21 @@ loop-again c =
       put_next a.text.now l.i l.invariant.3 p.put_byte.ensures i.loop-test.true,
     )
 
-same_length : tie.Need-same-length invariant-loop decreases-loop
+same_length : tie.Need-same-length invariant_loop decreases_loop
 same_length c = c.before.loop.invariant.1
 
-returns : tie.Need-returns invariant-loop decreases-loop
+returns : tie.Need-returns invariant_loop decreases_loop
 returns c =
     let l = c.before.loop in
     let a = c.before.before.before.before.args in
     rw (take_all l.i a.text.now c.loop-test.false) at l.invariant.3
 
-pub put-text-spec : {M : Type 1} → statement M
-put-text-spec =
+pub put_text_spec : {M : Type 1} → statement M
+put_text_spec =
     tie.close
     (tie.spec
-    invariant-loop
-    decreases-loop
+    invariant_loop
+    decreases_loop
     loop-holds
     shared-slice-read-put-byte
     put-byte-requires

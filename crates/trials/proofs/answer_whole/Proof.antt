@@ -3,55 +3,55 @@
 use Prim.Native.Nat.{◌-◌, ◌≤◌}
 use borrow.Author.Rules.{rules}
 use lib.ListN.{length}
-use Rattle.trials.specs.Inner.Window.{nearlyFull}
+use Rattle.trials.specs.Inner.Window.{nearly_full}
 use Rattle.trials.proofs.answer_whole.Statement.{statement}
 use Rattle.trials.proofs.answer_whole.Tie as tie
 
-abbrev invariant-loop : tie.invariant-loop
-invariant-loop s out₀ used₀ at₀ out used at = (at ≤ length s) × (used ≤ nearlyFull)
+abbrev invariant_loop : tie.invariant-loop
+invariant_loop s out₀ used₀ at₀ out used at = (at ≤ length s) × (used ≤ nearly_full)
 
-abbrev decreases-loop : tie.decreases-loop
-decreases-loop s out₀ used₀ at₀ out used at = length s - at
+abbrev decreases_loop : tie.decreases-loop
+decreases_loop s out₀ used₀ at₀ out used at = length s - at
 
-large-buffer-requires : tie.Need-large-buffer-requires invariant-loop decreases-loop
+large-buffer-requires : tie.Need-large-buffer-requires invariant_loop decreases_loop
 large-buffer-requires c κs = search rules
 
-slice-aggregate-out : tie.Need-slice-aggregate-out invariant-loop decreases-loop
+slice-aggregate-out : tie.Need-slice-aggregate-out invariant_loop decreases_loop
 slice-aggregate-out c = search rules
 
-loop-holds : tie.Need-loop-init invariant-loop decreases-loop
+loop-holds : tie.Need-loop-init invariant_loop decreases_loop
 loop-holds c = search rules
 
-record-length-requires : tie.Need-record-length-requires invariant-loop decreases-loop
+record-length-requires : tie.Need-record-length-requires invariant_loop decreases_loop
 record-length-requires c κs = search rules
 
-add-next : tie.Need-overflow-add-next invariant-loop decreases-loop
+add-next : tie.Need-overflow-add-next invariant_loop decreases_loop
 add-next c = search rules
 
-put-reply-requires : tie.Need-put-reply-requires invariant-loop decreases-loop
+put-reply-requires : tie.Need-put-reply-requires invariant_loop decreases_loop
 put-reply-requires c κs = search rules
 
-make-room-requires : tie.Need-make-room-requires invariant-loop decreases-loop
+make-room-requires : tie.Need-make-room-requires invariant_loop decreases_loop
 make-room-requires c κs = search rules
 
-loop-less : tie.Need-loop-smaller invariant-loop decreases-loop
+loop-less : tie.Need-loop-smaller invariant_loop decreases_loop
 loop-less c = search rules
 
-loop-again : tie.Need-loop-preserved invariant-loop decreases-loop
+loop-again : tie.Need-loop-preserved invariant_loop decreases_loop
 loop-again c = search rules
 
-write-first-requires : tie.Need-write-first-requires invariant-loop decreases-loop
+write-first-requires : tie.Need-write-first-requires invariant_loop decreases_loop
 write-first-requires c κs = search rules
 
-returns : tie.Need-returns invariant-loop decreases-loop
+returns : tie.Need-returns invariant_loop decreases_loop
 returns c = search rules
 
-pub answer-whole-spec : {M : Type 1} → statement M
-answer-whole-spec =
+pub answer_whole_spec : {M : Type 1} → statement M
+answer_whole_spec =
     tie.close
     (tie.spec
-    invariant-loop
-    decreases-loop
+    invariant_loop
+    decreases_loop
     large-buffer-requires
     slice-aggregate-out
     loop-holds

@@ -6,48 +6,48 @@ use lib.ListN.{length}
 use Rattle.trials.proofs.move_to_front.Statement.{statement}
 use Rattle.trials.proofs.move_to_front.Tie as tie
 
-abbrev invariant-loop : tie.invariant-loop
-invariant-loop window₀ from end count i₀ window i = length window ≡ length window₀
+abbrev invariant_loop : tie.invariant-loop
+invariant_loop window₀ from end count i₀ window i = length window ≡ length window₀
 
-abbrev decreases-loop : tie.decreases-loop
-decreases-loop window₀ from end count i₀ window i = count - i
+abbrev decreases_loop : tie.decreases-loop
+decreases_loop window₀ from end count i₀ window i = count - i
 
-sub-count : tie.Need-overflow-sub-count invariant-loop decreases-loop
+sub-count : tie.Need-overflow-sub-count invariant_loop decreases_loop
 sub-count c = search rules
 
-loop-holds : tie.Need-loop-init invariant-loop decreases-loop
+loop-holds : tie.Need-loop-init invariant_loop decreases_loop
 loop-holds c = search rules
 
-add-window : tie.Need-overflow-add-window invariant-loop decreases-loop
+add-window : tie.Need-overflow-add-window invariant_loop decreases_loop
 add-window c = search rules
 
-slice-read-window : tie.Need-slice-read-window invariant-loop decreases-loop
+slice-read-window : tie.Need-slice-read-window invariant_loop decreases_loop
 slice-read-window c = search rules
 
-slice-write-window : tie.Need-slice-write-window invariant-loop decreases-loop
+slice-write-window : tie.Need-slice-write-window invariant_loop decreases_loop
 slice-write-window c = search rules
 
-add-i : tie.Need-overflow-add-i invariant-loop decreases-loop
+add-i : tie.Need-overflow-add-i invariant_loop decreases_loop
 add-i c = search rules
 
-loop-less : tie.Need-loop-smaller invariant-loop decreases-loop
+loop-less : tie.Need-loop-smaller invariant_loop decreases_loop
 loop-less c = search rules
 
-loop-again : tie.Need-loop-preserved invariant-loop decreases-loop
+loop-again : tie.Need-loop-preserved invariant_loop decreases_loop
 loop-again c = search rules
 
-same_length : tie.Need-same-length invariant-loop decreases-loop
+same_length : tie.Need-same-length invariant_loop decreases_loop
 same_length c = search rules
 
-returns : tie.Need-returns invariant-loop decreases-loop
+returns : tie.Need-returns invariant_loop decreases_loop
 returns c = search rules
 
-pub move-to-front-spec : {M : Type 1} → statement M
-move-to-front-spec =
+pub move_to_front_spec : {M : Type 1} → statement M
+move_to_front_spec =
     tie.close
     (tie.spec
-    invariant-loop
-    decreases-loop
+    invariant_loop
+    decreases_loop
     sub-count
     loop-holds
     add-window

@@ -6,9 +6,9 @@ abbrev pub window : ℕ
 window = 65536
 
 -- once the replies come to this many bytes they are written out; the buffer still has room for the longest
-abbrev pub nearlyFull : ℕ
-nearlyFull = 60000
+abbrev pub nearly_full : ℕ
+nearly_full = 60000
 
 -- the bytes of the longest buffer that is lent
-abbrev pub mostRoom : ℕ
-mostRoom = 800
+abbrev pub most_room : ℕ
+most_room = 800

@@ -1,8 +1,8 @@
 -- `relate` meets its contract: the reading decides.
 use mathlib.Core.Path.{ap, sym, ◌∙◌}
-use Rattle.base.specs.Cases.{acceptedCase}
-use Rattle.reader.proofs.Replies.{accepted-held, refused-reply}
-use Rattle.unit.proofs.Relating.{related-refused, related-whole}
+use Rattle.base.specs.Cases.{accepted_case}
+use Rattle.reader.proofs.Replies.{accepted_held, refused_reply_lem}
+use Rattle.unit.proofs.Relating.{related_refused, related_whole}
 use borrow.Author.Rules.{rules}
 use Rattle.unit.proofs.relate.Statement.{statement}
 use Rattle.unit.proofs.relate.Tie as tie
@@ -16,7 +16,7 @@ enum_told c = search rules
 relation-of-requires : tie.Need-relation-of-requires
 relation-of-requires c κs =
     let read = c.before.before.before.read-sheet in
-    accepted-held _ read.result read.ensures c.before.enum_told.given.1
+    accepted_held _ read.result read.ensures c.before.enum_told.given.1
 
 enum-known-answer : tie.Need-enum-known-answer
 enum-known-answer c = search rules
@@ -25,20 +25,20 @@ turned-away-requires : tie.Need-turned-away-requires
 turned-away-requires c κs = search rules
 
 returns : tie.Need-returns
-unfolding accepted-held
+unfolding accepted_held
 returns c =
     let read = c.before.before.before.before.read-sheet in
     let s = c.before.before.before.before.before.before.args.s in
-    let h = accepted-held s.now read.result read.ensures c.before.before.enum_told.given.1 in
-    ap (λ r. record { relation = r; answer = acceptedCase }) (c.relation-of.ensures h) ∙ sym (related-whole s.now h.commands h.held)
+    let h = accepted_held s.now read.result read.ensures c.before.before.enum_told.given.1 in
+    ap (λ r. record { relation = r; answer = accepted_case }) (c.relation-of.ensures h) ∙ sym (related_whole s.now h.commands h.held)
 
-returns-2 : tie.Need-returns-2
-returns-2 c =
+returns_2 : tie.Need-returns-2
+returns_2 c =
     let read = c.before.before.before.before.read-sheet in
-    c.turned-away.ensures ∙ sym (related-refused _ _ (refused-reply read.result _ read.ensures _ c.before.before.answer.given.1))
+    c.turned-away.ensures ∙ sym (related_refused _ _ (refused_reply_lem read.result _ read.ensures _ c.before.before.answer.given.1))
 
-pub relate-spec : {M : Type 1} → statement M
-relate-spec =
+pub relate_spec : {M : Type 1} → statement M
+relate_spec =
     tie.close
     (tie.spec
     read-sheet-requires
@@ -47,4 +47,4 @@ relate-spec =
     enum-known-answer
     turned-away-requires
     returns
-    returns-2)
+    returns_2)

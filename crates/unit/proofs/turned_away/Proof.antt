@@ -8,5 +8,5 @@ returns : tie.Need-returns
 unfolding tabulate
 returns c = refl
 
-pub turned-away-spec : {M : Type 1} → statement M
-turned-away-spec = tie.close (tie.spec returns)
+pub turned_away_spec : {M : Type 1} → statement M
+turned_away_spec = tie.close (tie.spec returns)

@@ -4,28 +4,28 @@ use Rattle.base.specs.Cases.{Case, is_refused}
 use Rattle.table.specs.Bits.{bit, all}
 use Rattle.relation.specs.declared.Relation.{Relation}
 use Rattle.sheet.specs.declared.Command.{Command}
-use Rattle.sheet.specs.Commands.{signalsMade}
-use Rattle.sheet.specs.Limits.{maxOutputs, maxValues}
+use Rattle.sheet.specs.Commands.{signals_made}
+use Rattle.sheet.specs.Limits.{max_outputs, max_values}
 use Rattle.unit.specs.Cases.{FormedReply}
-use Rattle.unit.specs.Gates.{signalsOn, outputsFor}
-use Rattle.unit.specs.Formed.{noRelation}
+use Rattle.unit.specs.Gates.{signals_on, outputs_for}
+use Rattle.unit.specs.Formed.{no_relation}
 
 -- the signals that there are, each in the word at its place: bit v is the signal for value v
 abbrev pub SignalWords : List Command → List ℕ → Type 0
-SignalWords cs words = (s v : ℕ) → s < signalsMade cs → v < maxValues → bit (get_or words s 0) v ≡ get_or (signalsOn cs v) s 0
+SignalWords cs words = (s v : ℕ) → s < signals_made cs → v < max_values → bit (get_or words s 0) v ≡ get_or (signals_on cs v) s 0
 
 -- the outputs in the same way, and 0 past the last
 abbrev pub OutputWords : List Command → List ℕ → Type 0
-OutputWords cs words = (i v : ℕ) → i < maxOutputs → v < maxValues → bit (get_or words i 0) v ≡ get_or (outputsFor cs v) i 0
+OutputWords cs words = (i v : ℕ) → i < max_outputs → v < max_values → bit (get_or words i 0) v ≡ get_or (outputs_for cs v) i 0
 
 -- a word has the same bit for v as for u
-abbrev pub sameBit : ℕ → ℕ → ℕ → Bool
-sameBit word u v = eqb (bit word v) (bit word u)
+abbrev pub same_bit : ℕ → ℕ → ℕ → Bool
+same_bit word u v = eqb (bit word v) (bit word u)
 
 -- so has the word of every output
-unfoldable pub sameOutputs : List ℕ → ℕ → ℕ → Bool
-sameOutputs words u v = all maxOutputs (λ i. sameBit (get_or words i 0) u v)
+unfoldable pub same_outputs : List ℕ → ℕ → ℕ → Bool
+same_outputs words u v = all max_outputs (λ i. same_bit (get_or words i 0) u v)
 
 -- a relation that was tested: refused or whole
-abbrev pub checkedReply : Relation → Case → FormedReply
-checkedReply r c = record { relation = cond (is_refused c) noRelation r; answer = c }
+abbrev pub checked_reply : Relation → Case → FormedReply
+checked_reply r c = record { relation = cond (is_refused c) no_relation r; answer = c }

@@ -1,31 +1,31 @@
 -- Where a part is split.
 use Rattle.std.specs.Prelude.{ℕ, ◌+◌, ◌*◌, ◌^◌, ◌<◌, ◌≤◌, ◌≡◌, ◌⊎◌, Bool, true, cond, List, T, get_or}
 use Rattle.relation.specs.Source.{Rel, Tables, value}
-use Rattle.relation.specs.Tests.{ofSets, compatible, conflict, openWire}
+use Rattle.relation.specs.Tests.{of_sets, compatible, conflict, open_wire}
 use Rattle.table.specs.Cells.{wires}
-use Rattle.table.specs.Inner.Pairs.{narrowPatterns}
+use Rattle.table.specs.Inner.Pairs.{narrow_patterns}
 use Rattle.table.specs.Inner.Wide.{sections}
 use Rattle.relation.specs.Inner.Side.{side_by_side}
-use Rattle.by_value.specs.Inner.ByValue.{valueWordPlace, filled, SectionWords, allowsAt}
-use Rattle.parts.specs.Inner.States.{restPlace, wholePlace, AtHand}
+use Rattle.by_value.specs.Inner.ByValue.{value_word_place, filled, SectionWords, allows_at}
+use Rattle.parts.specs.Inner.States.{rest_place, whole_place, AtHand}
 use Rattle.visits.specs.declared.SplitPlace.{SplitPlace}
 use Rattle.visits.specs.declared.SplitPlace.TheVariants.{Pair, Nowhere}
 
 -- the tables' values are allowed on the patterns below k
 abbrev pub Settled : ℕ → List ℕ → List ℕ → ℕ → Type 0
-Settled m sets tables k = (q : ℕ) → q < k → T (ofSets sets q (value m (wires tables) q))
+Settled m sets tables k = (q : ℕ) → q < k → T (of_sets sets q (value m (wires tables) q))
 
 -- the first pattern in conflict with its first open wire; nowhere where the tables are compatible (document 01, "Search", step 4)
-unfoldable pub splitPlace : ℕ → ℕ → Rel → Tables → SplitPlace
-splitPlace n m R X =
+unfoldable pub split_place : ℕ → ℕ → Rel → Tables → SplitPlace
+split_place n m R X =
     let p = conflict n m R X in
-    cond (compatible n m R X) Nowhere (Pair p (openWire m (R p)))
+    cond (compatible n m R X) Nowhere (Pair p (open_wire m (R p)))
 
 -- the words of section q of the relation by value, in the state, are those of the sets S, with every value past the patterns that there are
 abbrev pub SectionSeen : (n : ℕ) → (S state : List ℕ) → ℕ → Type 0
 SectionSeen n S state q =
-    SectionWords (filled (2 ^ n) S) q (get_or state (wholePlace + valueWordPlace q 0) 0) (get_or state (wholePlace + valueWordPlace q 1) 0) (get_or state (wholePlace + valueWordPlace q 2) 0)
-    (get_or state (wholePlace + valueWordPlace q 3) 0)
+    SectionWords (filled (2 ^ n) S) q (get_or state (whole_place + value_word_place q 0) 0) (get_or state (whole_place + value_word_place q 1) 0) (get_or state (whole_place + value_word_place q 2) 0)
+    (get_or state (whole_place + value_word_place q 3) 0)
 
 -- those of the first section are, and those of all sections where the board is wide
 abbrev pub Seen : (wide : Bool) (n : ℕ) → (S state : List ℕ) → Type 0
@@ -33,12 +33,12 @@ Seen wide n S state = (q : ℕ) → q < sections → (q ≡ 0) ⊎ T wide → Se
 
 -- the tables of the part at hand are these on the sections past the first
 abbrev pub RestAtHand : (state tables : List ℕ) → Type 0
-RestAtHand state tables = (q : ℕ) → 1 ≤ q → q < sections → get_or state (restPlace q) 0 ≡ side_by_side tables q
+RestAtHand state tables = (q : ℕ) → 1 ≤ q → q < sections → get_or state (rest_place q) 0 ≡ side_by_side tables q
 
 -- on section q the tables' values are allowed on the patterns below r, and where r is one of the section it is one that there is
 abbrev pub Cleared : (n q : ℕ) → (S tables : List ℕ) → ℕ → Type 0
 Cleared n q S tables r =
-    ((p : ℕ) → p < r → T (allowsAt (filled (2 ^ n) S) tables (narrowPatterns * q + p))) × (r < narrowPatterns → narrowPatterns * q + r < 2 ^ n)
+    ((p : ℕ) → p < r → T (allows_at (filled (2 ^ n) S) tables (narrow_patterns * q + p))) × (r < narrow_patterns → narrow_patterns * q + r < 2 ^ n)
 
 -- that is what r says of all sets whose words the state has on section q, and of all tables that are side by side there
 abbrev pub ClearedBy : List ℕ → (q tables r : ℕ) → Type 0
@@ -46,12 +46,12 @@ ClearedBy state q tables r = (n : ℕ) → (S ts : List ℕ) → SectionSeen n S
 
 -- the tables' values are allowed by S on the patterns below r from k on, and r is at most the number of patterns
 abbrev pub AllowedFrom : (n k : ℕ) → (S tables : List ℕ) → ℕ → Type 0
-AllowedFrom n k S tables r = (r ≤ 2 ^ n) × ((p : ℕ) → k ≤ p → p < r → T (allowsAt S tables p))
+AllowedFrom n k S tables r = (r ≤ 2 ^ n) × ((p : ℕ) → k ≤ p → p < r → T (allows_at S tables p))
 
 -- that is what r says, from the second section on, of all sets whose words the state has and of the tables of the part at hand
 abbrev pub AllowedLater : List ℕ → (count r : ℕ) → Type 0
 AllowedLater state count r =
-    (n : ℕ) → (S ts : List ℕ) → count ≡ 2 ^ n → Seen true n S state → RestAtHand state ts → AllowedFrom n narrowPatterns S ts r
+    (n : ℕ) → (S ts : List ℕ) → count ≡ 2 ^ n → Seen true n S state → RestAtHand state ts → AllowedFrom n narrow_patterns S ts r
 
 -- and of all patterns below r, where the words of the sections past the first are of a wide board only
 abbrev pub AllowedBelow : (wide : Bool) (n low : ℕ) → List ℕ → ℕ → Type 0

@@ -35,14 +35,14 @@ high-byte-requires c κs = search rules
 returns : tie.Need-returns
 returns c = rw c.enum_told.given.1 (refl, refl, omega arith)
 
-returns-2 : tie.Need-returns-2
-returns-2 c = rw c.before.c.given.1 (refl, refl, omega arith)
+returns_2 : tie.Need-returns-2
+returns_2 c = rw c.before.c.given.1 (refl, refl, omega arith)
 
-returns-3 : tie.Need-returns-3
-returns-3 c = rw c.before.c2.given.1 (refl, refl, omega arith)
+returns_3 : tie.Need-returns-3
+returns_3 c = rw c.before.c2.given.1 (refl, refl, omega arith)
 
-returns-4 : tie.Need-returns-4
-returns-4 c = rw c.before.c3.given.1 (refl, refl, omega arith)
+returns_4 : tie.Need-returns-4
+returns_4 c = rw c.before.c3.given.1 (refl, refl, omega arith)
 
 returns-5 : tie.Need-returns-5
 returns-5 c = rw c.before.c4.given.1 (refl, refl, omega arith)
@@ -54,8 +54,8 @@ returns-7 : tie.Need-returns-7
 returns-7 c =
     rw (c.before.before.before.c6.given.1, ← c.before.low_byte.ensures, ← c.high_byte.ensures) (refl, refl, omega arith)
 
-pub encode-spec : {M : Type 1} → statement M
-encode-spec =
+pub encode_spec : {M : Type 1} → statement M
+encode_spec =
     tie.close
     (tie.spec
     enum_told
@@ -68,9 +68,9 @@ encode-spec =
     low-byte-requires
     high-byte-requires
     returns
-    returns-2
-    returns-3
-    returns-4
+    returns_2
+    returns_3
+    returns_4
     returns-5
     returns-6
     returns-7)

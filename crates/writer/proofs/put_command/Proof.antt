@@ -10,34 +10,34 @@ use Rattle.base.proofs.Stores.{put_next}
 use Rattle.writer.proofs.put_command.Statement.{statement}
 use Rattle.writer.proofs.put_command.Tie as tie
 
-abbrev invariant-loop : tie.invariant-loop
-invariant-loop out₀ at bytes length i₀ out i = (i ≤ length) × (count out ≡ count out₀) × Put out₀ at (take i bytes) out (at + i)
+abbrev invariant_loop : tie.invariant-loop
+invariant_loop out₀ at bytes length i₀ out i = (i ≤ length) × (count out ≡ count out₀) × Put out₀ at (take i bytes) out (at + i)
 
-abbrev decreases-loop : tie.decreases-loop
-decreases-loop out₀ at bytes length i₀ out i = length - i
+abbrev decreases_loop : tie.decreases-loop
+decreases_loop out₀ at bytes length i₀ out i = length - i
 
-encode-requires : tie.Need-encode-requires invariant-loop decreases-loop
+encode-requires : tie.Need-encode-requires invariant_loop decreases_loop
 encode-requires c κs = search rules
 
-loop-holds : tie.Need-loop-init invariant-loop decreases-loop
+loop-holds : tie.Need-loop-init invariant_loop decreases_loop
 loop-holds c = (omega arith, refl, record { stored = refl; past = refl })
 
-add-put : tie.Need-overflow-add-put invariant-loop decreases-loop
+add-put : tie.Need-overflow-add-put invariant_loop decreases_loop
 add-put c = omega arith
 
-array-read-put : tie.Need-array-read-put invariant-loop decreases-loop
+array-read-put : tie.Need-array-read-put invariant_loop decreases_loop
 array-read-put c = omega arith
 
-put-requires : tie.Need-put-requires invariant-loop decreases-loop
+put-requires : tie.Need-put-requires invariant_loop decreases_loop
 put-requires c κs = search rules
 
-add-i : tie.Need-overflow-add-i invariant-loop decreases-loop
+add-i : tie.Need-overflow-add-i invariant_loop decreases_loop
 add-i c = omega arith
 
-loop-less : tie.Need-loop-smaller invariant-loop decreases-loop
+loop-less : tie.Need-loop-smaller invariant_loop decreases_loop
 loop-less c = omega arith
 
-loop-again : tie.Need-loop-preserved invariant-loop decreases-loop
+loop-again : tie.Need-loop-preserved invariant_loop decreases_loop
 loop-again c =
     let p = c.before.before in
     let l = p.before.before.before.loop in
@@ -48,25 +48,25 @@ loop-again c =
     record { stored = p.put.ensures; past = omega arith } in
     (omega arith, p.put.auto.0 ∙ l.invariant.1, put_next e.result.bytes l.i l.invariant.2 one (omega arith))
 
-add-result : tie.Need-overflow-add-result invariant-loop decreases-loop
+add-result : tie.Need-overflow-add-result invariant_loop decreases_loop
 add-result c = omega arith
 
-same_length : tie.Need-same-length invariant-loop decreases-loop
+same_length : tie.Need-same-length invariant_loop decreases_loop
 same_length c = c.before.loop.invariant.1
 
-returns : tie.Need-returns invariant-loop decreases-loop
+returns : tie.Need-returns invariant_loop decreases_loop
 returns c =
     let l = c.before.loop in
     let e = c.before.before.before.encode in
     let whole : l.i ≡ e.result.length = omega arith in
     record { put = rw (← e.ensures.0, ← whole) l.invariant.2; short = omega arith }
 
-pub put-command-spec : {M : Type 1} → statement M
-put-command-spec =
+pub put_command_spec : {M : Type 1} → statement M
+put_command_spec =
     tie.close
     (tie.spec
-    invariant-loop
-    decreases-loop
+    invariant_loop
+    decreases_loop
     encode-requires
     loop-holds
     add-put

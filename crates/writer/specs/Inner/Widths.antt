@@ -2,9 +2,9 @@
 use Rattle.std.specs.Prelude.{ℕ, ◌^◌}
 
 -- no command has more bytes
-abbrev pub longestCommand : ℕ
-longestCommand = 4
+abbrev pub longest_command : ℕ
+longest_command = 4
 
 -- a place that a usize holds is below this
-abbrev pub placeRange : ℕ
-placeRange = 2 ^ 64
+abbrev pub place_range : ℕ
+place_range = 2 ^ 64

@@ -4,7 +4,7 @@ use mathlib.Core.Path.{ap, ap₂, ◌∙◌}
 use mathlib.Core.List.{[], ◌∷◌}
 use Rattle.base.specs.Cases.{Case}
 use Rattle.capi.specs.declared.told.Told.{Told}
-use Rattle.capi.specs.Numbers.{auditNumbers}
+use Rattle.capi.specs.Numbers.{audit_numbers}
 use borrow.Author.Rules.{rules}
 use Rattle.capi.proofs.boards.audit_numbers.Statement.{statement}
 use Rattle.capi.proofs.boards.audit_numbers.Tie as tie
@@ -27,8 +27,8 @@ returns c =
     let t = c.before.before.audit-told.ensures in
     let v = c.before.audited-cells.ensures in
     let numbers = ap₂ (λ (x : Told) (k : ℕ). x.outcome ∷ k ∷ 0 ∷ 0 ∷ 0 ∷ x.place ∷ []) t v in
-    (ap (λ (x : Told). x.number) t ∙ ap (λ (x : Case). x.number) a, numbers ∙ ap auditNumbers a)
+    (ap (λ (x : Told). x.number) t ∙ ap (λ (x : Case). x.number) a, numbers ∙ ap audit_numbers a)
 
-pub audit-numbers-spec : {M : Type 1} → statement M
-audit-numbers-spec =
+pub audit_numbers_spec : {M : Type 1} → statement M
+audit_numbers_spec =
     tie.close (tie.spec audit-on-requires audit-told-requires audited-cells-requires cast-t8 returns)

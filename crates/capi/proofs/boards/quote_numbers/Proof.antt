@@ -1,9 +1,9 @@
 -- `quote_numbers` meets its contract: what the quote ensures, as numbers, and its promise.
 use mathlib.Core.Path.{ap, ◌∙◌}
-use Rattle.search.specs.Cases.{markCase}
+use Rattle.search.specs.Cases.{mark_case}
 use Rattle.quote.specs.Cases.{QuoteReply}
 use Rattle.capi.specs.declared.told.Told.{Told}
-use Rattle.capi.proofs.SixNumbers.{six-numbers}
+use Rattle.capi.proofs.SixNumbers.{six_numbers}
 use borrow.Author.Rules.{rules}
 use Rattle.capi.proofs.boards.quote_numbers.Statement.{statement}
 use Rattle.capi.proofs.boards.quote_numbers.Tie as tie
@@ -25,12 +25,12 @@ returns c =
     let e = q.ensures in (
       ap (λ (x : Told). x.number) t ∙ ap (λ (x : QuoteReply). x.mark.number) e.0,
       (
-        six-numbers r.cells r.floor r.visits r.length (markCase r.mark) c.before.mark-told.result t e.0,
+        six_numbers r.cells r.floor r.visits r.length (mark_case r.mark) c.before.mark-told.result t e.0,
         (e.1.0, rw (← e.0) e.1.1),
       ),
     )
 
-pub quote-numbers-spec : {M : Type 1} → statement M
-quote-numbers-spec =
+pub quote_numbers_spec : {M : Type 1} → statement M
+quote_numbers_spec =
     tie.close
     (tie.spec quote-on-requires mark-told-requires same_length returns)

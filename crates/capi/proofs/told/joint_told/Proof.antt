@@ -30,17 +30,17 @@ tell-refusal-requires-2 c κs = search rules
 returns : tie.Need-returns
 returns c = rw c.before.enum_told.given.1 c.tell.ensures
 
-returns-2 : tie.Need-returns-2
-returns-2 c = rw c.before.enum-told2.given.1 c.tell2.ensures
+returns_2 : tie.Need-returns-2
+returns_2 c = rw c.before.enum-told2.given.1 c.tell2.ensures
 
-returns-3 : tie.Need-returns-3
-returns-3 c = rw c.before.before.mark.given.1 c.tell-refusal.ensures
+returns_3 : tie.Need-returns-3
+returns_3 c = rw c.before.before.mark.given.1 c.tell-refusal.ensures
 
-returns-4 : tie.Need-returns-4
-returns-4 c = rw c.before.before.mark2.given.1 c.tell-refusal2.ensures
+returns_4 : tie.Need-returns-4
+returns_4 c = rw c.before.before.mark2.given.1 c.tell-refusal2.ensures
 
-pub joint-told-spec : {M : Type 1} → statement M
-joint-told-spec =
+pub joint_told_spec : {M : Type 1} → statement M
+joint_told_spec =
     tie.close
     (tie.spec
     enum_told
@@ -52,6 +52,6 @@ joint-told-spec =
     enum-known-mark-2
     tell-refusal-requires-2
     returns
-    returns-2
-    returns-3
-    returns-4)
+    returns_2
+    returns_3
+    returns_4)

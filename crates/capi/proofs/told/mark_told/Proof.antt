@@ -24,14 +24,14 @@ tell-refusal-requires c κs = search rules
 returns : tie.Need-returns
 returns c = rw c.before.enum_told.given.1 c.tell.ensures
 
-returns-2 : tie.Need-returns-2
-returns-2 c = rw c.before.enum-told2.given.1 c.tell2.ensures
+returns_2 : tie.Need-returns-2
+returns_2 c = rw c.before.enum-told2.given.1 c.tell2.ensures
 
-returns-3 : tie.Need-returns-3
-returns-3 c = rw c.before.before.mark.given.1 c.tell-refusal.ensures
+returns_3 : tie.Need-returns-3
+returns_3 c = rw c.before.before.mark.given.1 c.tell-refusal.ensures
 
-pub mark-told-spec : {M : Type 1} → statement M
-mark-told-spec =
+pub mark_told_spec : {M : Type 1} → statement M
+mark_told_spec =
     tie.close
     (tie.spec
     enum_told
@@ -41,5 +41,5 @@ mark-told-spec =
     enum-known-mark
     tell-refusal-requires
     returns
-    returns-2
-    returns-3)
+    returns_2
+    returns_3)

@@ -18,10 +18,10 @@ tell-refusal-requires c κs = search rules
 returns : tie.Need-returns
 returns c = rw c.before.enum_told.given.1 c.tell.ensures
 
-returns-2 : tie.Need-returns-2
-returns-2 c = rw c.before.before.written.given.1 c.tell-refusal.ensures
+returns_2 : tie.Need-returns-2
+returns_2 c = rw c.before.before.written.given.1 c.tell-refusal.ensures
 
-pub written-told-spec : {M : Type 1} → statement M
-written-told-spec =
+pub written_told_spec : {M : Type 1} → statement M
+written_told_spec =
     tie.close
-    (tie.spec enum_told tell-requires enum-known-written tell-refusal-requires returns returns-2)
+    (tie.spec enum_told tell-requires enum-known-written tell-refusal-requires returns returns_2)

@@ -11,8 +11,8 @@ permits-all-requires c κs = search rules
 returns : tie.Need-returns
 returns c = (sym (ap (λ (b : Bool). cond b 0 4) (sym c.before.permits-all.ensures ∙ c.if1.true)), omega arith)
 
-returns-2 : tie.Need-returns-2
-returns-2 c = (sym (ap (λ (b : Bool). cond b 0 4) (sym c.before.permits-all.ensures ∙ c.if1.false)), omega arith)
+returns_2 : tie.Need-returns-2
+returns_2 c = (sym (ap (λ (b : Bool). cond b 0 4) (sym c.before.permits-all.ensures ∙ c.if1.false)), omega arith)
 
-pub limit-length-spec : {M : Type 1} → statement M
-limit-length-spec = tie.close (tie.spec permits-all-requires returns returns-2)
+pub limit_length_spec : {M : Type 1} → statement M
+limit_length_spec = tie.close (tie.spec permits-all-requires returns returns_2)

@@ -8,8 +8,8 @@ use Rattle.clean.proofs.lengths.mark_length.Tie as tie
 returns : tie.Need-returns
 returns c = (sym (ap (λ (b : Bool). cond b 2 3) (eq-eqb _ _ c.if1.true)), omega arith)
 
-returns-2 : tie.Need-returns-2
-returns-2 c = (sym (ap (λ (b : Bool). cond b 2 3) (ne_eqb _ _ c.if1.false)), omega arith)
+returns_2 : tie.Need-returns-2
+returns_2 c = (sym (ap (λ (b : Bool). cond b 2 3) (ne_eqb _ _ c.if1.false)), omega arith)
 
-pub mark-length-spec : {M : Type 1} → statement M
-mark-length-spec = tie.close (tie.spec returns returns-2)
+pub mark_length_spec : {M : Type 1} → statement M
+mark_length_spec = tie.close (tie.spec returns returns_2)

@@ -3,12 +3,12 @@ use Prim.Native.Nat.{◌+◌, ◌*◌, ◌≤◌}
 use native.Mathlib.Omega.{arith}
 use Rattle.base.specs.Inner.Put.{Put}
 use Rattle.sheet.specs.declared.Command.TheVariants.{Sizes}
-use Rattle.sheet.specs.Bytes.{commandBytes, bytes_of}
-use Rattle.writer.specs.Inner.Widths.{longestCommand}
-use Rattle.sheet.specs.Limits.{maxPatterns, maxGates, maxOutputs}
+use Rattle.sheet.specs.Bytes.{command_bytes, bytes_of}
+use Rattle.writer.specs.Inner.Widths.{longest_command}
+use Rattle.sheet.specs.Limits.{max_patterns, max_gates, max_outputs}
 use Rattle.reader.proofs.Placed.{placed}
-use Rattle.clean.specs.Copy.{listed, copyMark, copyLimit, copyGate, copyOutput}
-use Rattle.clean.proofs.Storing.{copy-put}
+use Rattle.clean.specs.Copy.{listed, copy_mark, copy_limit, copy_gate, copy_output}
+use Rattle.clean.proofs.Storing.{copy_put}
 use borrow.Author.Rules.{rules}
 use Rattle.clean.proofs.sections.put_copy.Statement.{statement}
 use Rattle.clean.proofs.sections.put_copy.Tie as tie
@@ -34,15 +34,15 @@ put-section-requires-3 c κs = search rules
 
 -- how many gates and outputs there are, and how far the copy goes before the outputs
 few : (c : tie.After-put-section3)
-    → ((from c).args.sheet.gate_count ≤ maxGates) × ((from c).args.sheet.output_count ≤ maxOutputs)
-    × (c.put-section3.result ≤ longestCommand * (1 + 2 * maxPatterns + maxGates))
+    → ((from c).args.sheet.gate_count ≤ max_gates) × ((from c).args.sheet.output_count ≤ max_outputs)
+    × (c.put-section3.result ≤ longest_command * (1 + 2 * max_patterns + max_gates))
 few c =
     let limits = c.before.before.before.before in
     let marks = limits.before.before.before.before in
     let sizes = marks.before.before.before.before in
     let within = placed (from c).requires in (
-      within.few-gates,
-      within.few-outputs,
+      within.few_gates,
+      within.few_outputs,
       omega (
         arith,
         c.put-section3.ensures.short,
@@ -50,8 +50,8 @@ few c =
         marks.put-section.ensures.short,
         sizes.put-command.ensures.short,
         sizes.before.before.patterns-of.ensures.1,
-        within.few-gates,
-        within.few-outputs,
+        within.few_gates,
+        within.few_outputs,
       ),
     )
 
@@ -78,24 +78,24 @@ returns c =
     let s = sizes.before.before.before.before in
     let patterns = sizes.before.before.patterns-of in
     let h = s.args.sheet in
-    let first : Put s.args.out.now 0 (commandBytes (Sizes h.n h.m)) sizes.put-command.new.0 sizes.put-command.result =
+    let first : Put s.args.out.now 0 (command_bytes (Sizes h.n h.m)) sizes.put-command.new.0 sizes.put-command.result =
     sizes.put-command.ensures.put in
-    let second : Put sizes.put-command.new.0 sizes.put-command.result (bytes_of (listed patterns.result (copyMark h)))
+    let second : Put sizes.put-command.new.0 sizes.put-command.result (bytes_of (listed patterns.result (copy_mark h)))
     marks.put-section.new.0 marks.put-section.result =
     marks.put-section.ensures.put in
-    let third : Put marks.put-section.new.0 marks.put-section.result (bytes_of (listed patterns.result (copyLimit h)))
+    let third : Put marks.put-section.new.0 marks.put-section.result (bytes_of (listed patterns.result (copy_limit h)))
     limits.put-section2.new.0 limits.put-section2.result =
     limits.put-section2.ensures.put in
-    let fourth : Put limits.put-section2.new.0 limits.put-section2.result (bytes_of (listed h.gate_count (copyGate h)))
+    let fourth : Put limits.put-section2.new.0 limits.put-section2.result (bytes_of (listed h.gate_count (copy_gate h)))
     gates.put-section3.new.0 gates.put-section3.result =
     gates.put-section3.ensures.put in
-    let fifth : Put gates.put-section3.new.0 gates.put-section3.result (bytes_of (listed h.output_count (copyOutput h)))
+    let fifth : Put gates.put-section3.new.0 gates.put-section3.result (bytes_of (listed h.output_count (copy_output h)))
     outputs.put-section4.new.0 outputs.put-section4.result =
     outputs.put-section4.ensures.put in
-    copy-put h patterns.result (patterns.ensures.2 (placed s.requires).few-inputs) first second third fourth fifth end.put-command2.ensures.put
+    copy_put h patterns.result (patterns.ensures.2 (placed s.requires).few_inputs) first second third fourth fifth end.put-command2.ensures.put
 
-pub put-copy-spec : {M : Type 1} → statement M
-put-copy-spec =
+pub put_copy_spec : {M : Type 1} → statement M
+put_copy_spec =
     tie.close
     (tie.spec
     patterns-of-requires

@@ -1,4 +1,4 @@
-use Rattle.clean.proofs.Storing.{one-command}
+use Rattle.clean.proofs.Storing.{one_command_lem}
 use borrow.Author.Rules.{rules}
 use Rattle.clean.proofs.sections.put_gate.Statement.{statement}
 use Rattle.clean.proofs.sections.put_gate.Tie as tie
@@ -32,10 +32,10 @@ returns c =
     let right = c.before.before.before.before in
     let left = right.before.before in
     let kind = left.before.before in
-    rw (one-command, ← kind.byte_at.ensures, ← left.byte-at2.ensures, ← right.byte-at3.ensures) c.before.before.put-command.ensures
+    rw (one_command_lem, ← kind.byte_at.ensures, ← left.byte-at2.ensures, ← right.byte-at3.ensures) c.before.before.put-command.ensures
 
-pub put-gate-spec : {M : Type 1} → statement M
-put-gate-spec =
+pub put_gate_spec : {M : Type 1} → statement M
+put_gate_spec =
     tie.close
     (tie.spec
     slice-aggregate-byte-at

@@ -2,9 +2,9 @@
 use mathlib.Core.Path.{◌≡◌, sym, ◌∙◌}
 use mathlib.Core.Bool.{true, false}
 use native.Mathlib.Omega.{arith}
-use Rattle.base.proofs.Stores.{put-none}
-use Rattle.clean.specs.Copy.{permitsAll}
-use Rattle.clean.proofs.Storing.{one-command, no-command}
+use Rattle.base.proofs.Stores.{put_none}
+use Rattle.clean.specs.Copy.{permits_all}
+use Rattle.clean.proofs.Storing.{one_command_lem, no_command}
 use borrow.Author.Rules.{rules}
 use Rattle.clean.proofs.sections.put_limit.Statement.{statement}
 use Rattle.clean.proofs.sections.put_limit.Tie as tie
@@ -18,9 +18,9 @@ permits-all-requires c κs = search rules
 returns : tie.Need-returns
 returns c =
     let set = c.before.before.set_at in
-    let all : permitsAll c.before.before.before.before.before.args.sheet.m set.result ≡ true =
+    let all : permits_all c.before.before.before.before.before.args.sheet.m set.result ≡ true =
     sym c.before.permits-all.ensures ∙ c.if1.true in
-    simp (← set.ensures, all, no-command) (record { put = put-none; short = omega arith })
+    simp (← set.ensures, all, no_command) (record { put = put_none; short = omega arith })
 
 put-command-requires : tie.Need-put-command-requires
 put-command-requires c κs = search rules
@@ -28,16 +28,16 @@ put-command-requires c κs = search rules
 same_length : tie.Need-same-length
 same_length c = search rules
 
-returns-2 : tie.Need-returns-2
-returns-2 c =
+returns_2 : tie.Need-returns-2
+returns_2 c =
     let test = c.before.before.before.before in
     let set = test.before.before.set_at in
-    let not-all : permitsAll test.before.before.before.before.before.args.sheet.m set.result ≡ false =
+    let not_all : permits_all test.before.before.before.before.before.args.sheet.m set.result ≡ false =
     sym test.before.permits-all.ensures ∙ test.if1.false in
-    simp (← set.ensures, not-all, one-command) c.before.before.put-command.ensures
+    simp (← set.ensures, not_all, one_command_lem) c.before.before.put-command.ensures
 
-pub put-limit-spec : {M : Type 1} → statement M
-put-limit-spec =
+pub put_limit_spec : {M : Type 1} → statement M
+put_limit_spec =
     tie.close
     (tie.spec
     set-at-requires
@@ -45,4 +45,4 @@ put-limit-spec =
     returns
     put-command-requires
     same_length
-    returns-2)
+    returns_2)

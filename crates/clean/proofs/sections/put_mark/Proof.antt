@@ -1,7 +1,7 @@
 use mathlib.Core.Path.{◌≡◌}
-use Rattle.sheet.specs.Gathered.{dontCareMark}
+use Rattle.sheet.specs.Gathered.{dont_care_mark}
 use borrow.Author.Tests.{eq-eqb, ne_eqb}
-use Rattle.clean.proofs.Storing.{one-command}
+use Rattle.clean.proofs.Storing.{one_command_lem}
 use borrow.Author.Rules.{rules}
 use Rattle.clean.proofs.sections.put_mark.Statement.{statement}
 use Rattle.clean.proofs.sections.put_mark.Tie as tie
@@ -22,8 +22,8 @@ returns : tie.Need-returns
 returns c =
     let test = c.before.before.before.before in
     let mark = test.before.byte_at in
-    let impossible : mark.result ≡ dontCareMark = test.if1.true in
-    simp (← mark.ensures, eq-eqb _ _ impossible, one-command) c.before.before.put-command.ensures
+    let impossible : mark.result ≡ dont_care_mark = test.if1.true in
+    simp (← mark.ensures, eq-eqb _ _ impossible, one_command_lem) c.before.before.put-command.ensures
 
 slice-aggregate-byte-at-2 : tie.Need-slice-aggregate-byte-at-2
 slice-aggregate-byte-at-2 c = search rules
@@ -37,16 +37,16 @@ put-command-requires-2 c κs = search rules
 same-length-2 : tie.Need-same-length-2
 same-length-2 c = search rules
 
-returns-2 : tie.Need-returns-2
-returns-2 c =
+returns_2 : tie.Need-returns-2
+returns_2 c =
     let value = c.before.before.before.before in
     let test = value.before.before.before in
     let mark = test.before.byte_at in
-    let possible : mark.result ≡ dontCareMark → ⊥ = test.if1.false in
-    simp (← mark.ensures, ne_eqb _ _ possible, one-command, ← value.byte-at2.ensures) c.before.before.put-command2.ensures
+    let possible : mark.result ≡ dont_care_mark → ⊥ = test.if1.false in
+    simp (← mark.ensures, ne_eqb _ _ possible, one_command_lem, ← value.byte-at2.ensures) c.before.before.put-command2.ensures
 
-pub put-mark-spec : {M : Type 1} → statement M
-put-mark-spec =
+pub put_mark_spec : {M : Type 1} → statement M
+put_mark_spec =
     tie.close
     (tie.spec
     slice-aggregate-byte-at
@@ -58,4 +58,4 @@ put-mark-spec =
     byte-at-requires-2
     put-command-requires-2
     same-length-2
-    returns-2)
+    returns_2)

@@ -1,4 +1,4 @@
-use Rattle.clean.proofs.Storing.{one-command}
+use Rattle.clean.proofs.Storing.{one_command_lem}
 use borrow.Author.Rules.{rules}
 use Rattle.clean.proofs.sections.put_output.Statement.{statement}
 use Rattle.clean.proofs.sections.put_output.Tie as tie
@@ -16,9 +16,9 @@ same_length : tie.Need-same-length
 same_length c = search rules
 
 returns : tie.Need-returns
-returns c = rw (one-command, ← c.before.before.before.before.byte_at.ensures) c.before.before.put-command.ensures
+returns c = rw (one_command_lem, ← c.before.before.before.before.byte_at.ensures) c.before.before.put-command.ensures
 
-pub put-output-spec : {M : Type 1} → statement M
-put-output-spec =
+pub put_output_spec : {M : Type 1} → statement M
+put_output_spec =
     tie.close
     (tie.spec slice-aggregate-byte-at byte-at-requires put-command-requires same_length returns)

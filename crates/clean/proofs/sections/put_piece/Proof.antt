@@ -36,23 +36,23 @@ returns c = rw c.before.before.before.before.enum_told.given.1 c.before.before.p
 same-length-2 : tie.Need-same-length-2
 same-length-2 c = search rules
 
-returns-2 : tie.Need-returns-2
-returns-2 c = rw c.before.before.before.before.enum-told2.given.1 c.before.before.put-limit.ensures
+returns_2 : tie.Need-returns-2
+returns_2 c = rw c.before.before.before.before.enum-told2.given.1 c.before.before.put-limit.ensures
 
 same-length-3 : tie.Need-same-length-3
 same-length-3 c = search rules
 
-returns-3 : tie.Need-returns-3
-returns-3 c = rw c.before.before.before.before.enum-told3.given.1 c.before.before.put-gate.ensures
+returns_3 : tie.Need-returns-3
+returns_3 c = rw c.before.before.before.before.enum-told3.given.1 c.before.before.put-gate.ensures
 
 same-length-4 : tie.Need-same-length-4
 same-length-4 c = search rules
 
-returns-4 : tie.Need-returns-4
-returns-4 c = rw c.before.before.before.before.enum-told4.given.1 c.before.before.put-output.ensures
+returns_4 : tie.Need-returns-4
+returns_4 c = rw c.before.before.before.before.enum-told4.given.1 c.before.before.put-output.ensures
 
-pub put-piece-spec : {M : Type 1} → statement M
-put-piece-spec =
+pub put_piece_spec : {M : Type 1} → statement M
+put_piece_spec =
     tie.close
     (tie.spec
     enum_told
@@ -66,8 +66,8 @@ put-piece-spec =
     same_length
     returns
     same-length-2
-    returns-2
+    returns_2
     same-length-3
-    returns-3
+    returns_3
     same-length-4
-    returns-4)
+    returns_4)

@@ -35,11 +35,11 @@ slice-aggregate-print c = let r = c.before.before.audit-reply in (counts r.resul
 print-requires : tie.Need-print-requires
 print-requires c κs = search rules
 
-returns-2 : tie.Need-returns-2
-returns-2 c = search rules
+returns_2 : tie.Need-returns-2
+returns_2 c = search rules
 
-pub print-audit-spec : {M : Type 1} → statement M
-print-audit-spec =
+pub print_audit_spec : {M : Type 1} → statement M
+print_audit_spec =
     tie.close
     (tie.spec
     slice-aggregate-read-named
@@ -52,4 +52,4 @@ print-audit-spec =
     array-share-prefix-out
     slice-aggregate-print
     print-requires
-    returns-2)
+    returns_2)

@@ -23,8 +23,8 @@ print-requires c κs = search rules
 returns : tie.Need-returns
 returns c = search rules
 
-pub print-copy-spec : {M : Type 1} → statement M
-print-copy-spec =
+pub print_copy_spec : {M : Type 1} → statement M
+print_copy_spec =
     tie.close
     (tie.spec
     slice-aggregate-clean-reply

@@ -35,11 +35,11 @@ slice-aggregate-print c = let r = c.before.before.joined-reply in (counts r.resu
 print-requires : tie.Need-print-requires
 print-requires c κs = search rules
 
-returns-2 : tie.Need-returns-2
-returns-2 c = search rules
+returns_2 : tie.Need-returns-2
+returns_2 c = search rules
 
-pub print-joined-spec : {M : Type 1} → statement M
-print-joined-spec =
+pub print_joined_spec : {M : Type 1} → statement M
+print_joined_spec =
     tie.close
     (tie.spec
     slice-aggregate-read-named
@@ -52,4 +52,4 @@ print-joined-spec =
     array-share-prefix-out
     slice-aggregate-print
     print-requires
-    returns-2)
+    returns_2)

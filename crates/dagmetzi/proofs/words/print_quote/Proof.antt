@@ -23,8 +23,8 @@ print-requires c κs = search rules
 returns : tie.Need-returns
 returns c = search rules
 
-pub print-quote-spec : {M : Type 1} → statement M
-print-quote-spec =
+pub print_quote_spec : {M : Type 1} → statement M
+print_quote_spec =
     tie.close
     (tie.spec
     slice-aggregate-quote-reply

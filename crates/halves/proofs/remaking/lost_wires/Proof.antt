@@ -5,23 +5,23 @@ use mathlib.Core.Bool.{Bool, not, cond}
 use native.Mathlib.Omega.{arith}
 use borrow.Author.Rules.{rules}
 use lib.Dec.{eqb}
-use Rattle.sheet.specs.Limits.{maxWires}
-use Rattle.table.specs.Bits.{isOne}
-use Rattle.table.proofs.BitColumns.{isOne-lt-two}
+use Rattle.sheet.specs.Limits.{max_wires}
+use Rattle.table.specs.Bits.{is_one}
+use Rattle.table.proofs.BitColumns.{is_one_lt_two}
 use Rattle.relation.specs.Tests.{occurs}
 use Rattle.relation.specs.Inner.Members.{member}
 use Rattle.lanes.specs.Inner.Lanes.{lane_of, lanes_of, LanesBelow}
-use Rattle.lanes.proofs.Lanes.{lane-lanes}
+use Rattle.lanes.proofs.Lanes.{lane_lanes}
 use Rattle.halves.proofs.remaking.lost_wires.Statement.{statement}
 use Rattle.halves.proofs.remaking.lost_wires.Tie as tie
 
 -- lanes of tests
-module _ (f : ℕ → Bool) {x : ℕ} (e : x ≡ lanes_of (λ j. isOne (f j))) where
-  lane-is : (j : ℕ) → j < maxWires → lane_of x j ≡ isOne (f j)
-  lane-is j l = ap (λ y. lane_of y j) e ∙ lane-lanes (λ i. isOne (f i)) (λ i _. omega (arith, isOne-lt-two (f i))) j l
+module _ (f : ℕ → Bool) {x : ℕ} (e : x ≡ lanes_of (λ j. is_one (f j))) where
+  lane_is : (j : ℕ) → j < max_wires → lane_of x j ≡ is_one (f j)
+  lane_is j l = ap (λ y. lane_of y j) e ∙ lane_lanes (λ i. is_one (f i)) (λ i _. omega (arith, is_one_lt_two (f i))) j l
 
-  lanes-bits : LanesBelow 2 x
-  lanes-bits j l = rw (lane-is j l) (isOne-lt-two (f j))
+  lanes_bits : LanesBelow 2 x
+  lanes_bits j l = rw (lane_is j l) (is_one_lt_two (f j))
 
 -- the test of the bit that is driven
 by_bit : (f : ℕ → ℕ) (b : ℕ) → b < 2 → cond (eqb b 1) (f 1) (f 0) ≡ f b
@@ -39,8 +39,8 @@ broken-requires : tie.Need-broken-requires
 broken-requires c κs =
     let w = c.before.before.args.set in (
       c.before.before.requires,
-      lanes-bits (λ j. not (occurs maxWires (member w) j 0)) c.before.no-zeros.ensures,
-      lanes-bits (λ j. not (occurs maxWires (member w) j 1)) c.no_ones.ensures,
+      lanes_bits (λ j. not (occurs max_wires (member w) j 0)) c.before.no-zeros.ensures,
+      lanes_bits (λ j. not (occurs max_wires (member w) j 1)) c.no_ones.ensures,
     )
 
 returns : tie.Need-returns
@@ -49,12 +49,12 @@ returns c =
     let w = i.args.set in (
       λ j l.
           c.broken.ensures.0 j l
-          ∙ ap₂ (cond (eqb (lane_of i.args.driven j) 1)) (lane-is (λ j. not (occurs maxWires (member w) j 1)) c.before.no_ones.ensures j l)
-          (lane-is (λ j. not (occurs maxWires (member w) j 0)) c.before.before.no-zeros.ensures j l)
-          ∙ by_bit (λ b. isOne (not (occurs maxWires (member w) j b))) (lane_of i.args.driven j) (i.requires j l),
+          ∙ ap₂ (cond (eqb (lane_of i.args.driven j) 1)) (lane_is (λ j. not (occurs max_wires (member w) j 1)) c.before.no_ones.ensures j l)
+          (lane_is (λ j. not (occurs max_wires (member w) j 0)) c.before.before.no-zeros.ensures j l)
+          ∙ by_bit (λ b. is_one (not (occurs max_wires (member w) j b))) (lane_of i.args.driven j) (i.requires j l),
       c.broken.ensures.1,
       c.broken.ensures.2,
     )
 
-pub lost-wires-spec : {M : Type 1} → statement M
-lost-wires-spec = tie.close (tie.spec no-zeros-requires no-ones-requires broken-requires returns)
+pub lost_wires_spec : {M : Type 1} → statement M
+lost_wires_spec = tie.close (tie.spec no-zeros-requires no-ones-requires broken-requires returns)

@@ -11,8 +11,8 @@ returns c = (λ _. refl, λ l. absurd (omega (arith, c.if1.true)))
 first-conflict-requires : tie.Need-first-conflict-requires
 first-conflict-requires c κs = search rules
 
-returns-2 : tie.Need-returns-2
-returns-2 c = (λ e. absurd (c.before.if1.false e), λ _. c.first-conflict.ensures)
+returns_2 : tie.Need-returns-2
+returns_2 c = (λ e. absurd (c.before.if1.false e), λ _. c.first-conflict.ensures)
 
-pub begin-at-spec : {M : Type 1} → statement M
-begin-at-spec = tie.close (tie.spec returns first-conflict-requires returns-2)
+pub begin_at_spec : {M : Type 1} → statement M
+begin_at_spec = tie.close (tie.spec returns first-conflict-requires returns_2)

@@ -4,9 +4,9 @@ use mathlib.Core.Path.{ap, ◌∙◌}
 use native.Mathlib.Omega.{arith}
 use borrow.Author.Rules.{rules}
 use Rattle.table.specs.Bits.{bit}
-use Rattle.table.specs.Inner.Pairs.{narrowPatterns}
+use Rattle.table.specs.Inner.Pairs.{narrow_patterns}
 use Rattle.lanes.specs.Inner.Lanes.{lane_of}
-use Rattle.halves.proofs.Driven.{driven-lane, driven-bits}
+use Rattle.halves.proofs.Driven.{driven_lane, driven_bits}
 use Rattle.halves.proofs.tables.driven_on.Statement.{statement}
 use Rattle.halves.proofs.tables.driven_on.Tie as tie
 
@@ -21,10 +21,10 @@ shr-result c = search rules
 
 returns : tie.Need-returns
 returns c =
-    let r = c.before.args.p % narrowPatterns in (
-      λ j l. driven-lane c.word_of.result r j (omega arith) l ∙ ap (λ x. bit (lane_of x j) r) c.word_of.ensures,
-      driven-bits c.word_of.result r (omega arith),
+    let r = c.before.args.p % narrow_patterns in (
+      λ j l. driven_lane c.word_of.result r j (omega arith) l ∙ ap (λ x. bit (lane_of x j) r) c.word_of.ensures,
+      driven_bits c.word_of.result r (omega arith),
     )
 
-pub driven-on-spec : {M : Type 1} → statement M
-driven-on-spec = tie.close (tie.spec word-of-requires cast-result shr-result returns)
+pub driven_on_spec : {M : Type 1} → statement M
+driven_on_spec = tie.close (tie.spec word-of-requires cast-result shr-result returns)

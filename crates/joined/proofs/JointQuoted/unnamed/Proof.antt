@@ -9,5 +9,5 @@ unnamed-mark-requires c κs = search rules
 returns : tie.Need-returns
 returns c = rw c.unnamed-mark.ensures
 
-pub unnamed-spec : {M : Type 1} → statement M
-unnamed-spec = tie.close (tie.spec unnamed-mark-requires returns)
+pub unnamed_spec : {M : Type 1} → statement M
+unnamed_spec = tie.close (tie.spec unnamed-mark-requires returns)

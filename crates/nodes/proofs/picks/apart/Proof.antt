@@ -21,5 +21,5 @@ returns c =
     let y = c.class2.ensures in
     (ap₂ (λ a b. a + b) x.0 y.0, omega (arith, x.1, y.1))
 
-pub apart-spec : {M : Type 1} → statement M
-apart-spec = tie.close (tie.spec class-requires class-requires-2 add-result returns)
+pub apart_spec : {M : Type 1} → statement M
+apart_spec = tie.close (tie.spec class-requires class-requires-2 add-result returns)

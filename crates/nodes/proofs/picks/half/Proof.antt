@@ -1,7 +1,7 @@
 -- `half` meets its contract: the least of one class, a line, and two classes with a selector.
 use mathlib.Core.Path.{◌≡◌}
-use Rattle.nodes.specs.Inner.Ways.{mostClass, line_at}
-use Rattle.nodes.proofs.Fifteen.{least-found}
+use Rattle.nodes.specs.Inner.Ways.{most_class, line_at}
+use Rattle.nodes.proofs.Fifteen.{least_found}
 use borrow.Author.Rules.{rules}
 use Rattle.nodes.proofs.picks.half.Statement.{statement}
 use Rattle.nodes.proofs.picks.half.Tie as tie
@@ -33,7 +33,7 @@ returns c =
     let l = c.before.before.before.line-rank in
     let straight : l.result ≡ line_at a.x a.y a.j = l.ensures.0 in
     let d = c.before.before.before.before.class in
-    least-found mostClass c.before.before.lesser.ensures c.lesser2.ensures d.ensures.0 straight c.before.apart.ensures.0 d.ensures.1
+    least_found most_class c.before.before.lesser.ensures c.lesser2.ensures d.ensures.0 straight c.before.apart.ensures.0 d.ensures.1
 
 pub half_spec : {M : Type 1} → statement M
 half_spec =

@@ -1,7 +1,7 @@
 -- `halves_alike` meets its contract: the least of one class, a line, and two classes with a selector for both halves.
 use mathlib.Core.Path.{◌≡◌}
-use Rattle.nodes.specs.Inner.Ways.{mostClass, classIn, lineIn, four, secondLine}
-use Rattle.nodes.proofs.Fifteen.{least-found}
+use Rattle.nodes.specs.Inner.Ways.{most_class, class_in, line_in, four, second_line}
+use Rattle.nodes.proofs.Fifteen.{least_found}
 use borrow.Author.Rules.{rules}
 use Rattle.nodes.proofs.picks.halves_alike.Statement.{statement}
 use Rattle.nodes.proofs.picks.halves_alike.Tie as tie
@@ -47,12 +47,12 @@ returns c =
     let a = c.before.before.before.before.before.args in
     let l = c.before.before.before.line-rank in
     let byte = four a.a a.b a.c a.d in
-    let straight : l.result ≡ secondLine (classIn byte) (lineIn byte) = l.ensures.0 in
+    let straight : l.result ≡ second_line (class_in byte) (line_in byte) = l.ensures.0 in
     let d = c.before.before.before.before.class in
-    least-found mostClass c.before.before.lesser.ensures c.lesser2.ensures d.ensures.0 straight c.before.apart.ensures.0 d.ensures.1
+    least_found most_class c.before.before.lesser.ensures c.lesser2.ensures d.ensures.0 straight c.before.apart.ensures.0 d.ensures.1
 
-pub halves-alike-spec : {M : Type 1} → statement M
-halves-alike-spec =
+pub halves_alike_spec : {M : Type 1} → statement M
+halves_alike_spec =
     tie.close
     (tie.spec
     add-class

@@ -2,8 +2,8 @@
 use Prim.Native.Nat.{min}
 use mathlib.Core.Path.{◌≡◌, sym, ap₂, ◌∙◌}
 use native.Mathlib.Omega.{arith}
-use Rattle.nodes.specs.Inner.Ways.{classIn, lineIn, quarterBytes, firstLine, leastWay}
-use Rattle.nodes.proofs.HalvesAlike.{repeated-way}
+use Rattle.nodes.specs.Inner.Ways.{class_in, line_in, quarter_bytes, first_line, least_way}
+use Rattle.nodes.proofs.HalvesAlike.{repeated_way}
 use borrow.Author.Rules.{rules}
 use Rattle.nodes.proofs.picks.way.Statement.{statement}
 use Rattle.nodes.proofs.picks.way.Tie as tie
@@ -14,7 +14,7 @@ halves-alike-requires c κs = search rules
 returns : tie.Need-returns
 returns c =
     let h = c.before in
-    (h.halves-alike.ensures.0 ∙ sym (repeated-way h.before.args.pair (omega arith)), h.halves-alike.ensures.1)
+    (h.halves-alike.ensures.0 ∙ sym (repeated_way h.before.args.pair (omega arith)), h.halves-alike.ensures.1)
 
 add-line-rank : tie.Need-overflow-add-line-rank
 add-line-rank c = search rules
@@ -43,9 +43,9 @@ lesser-requires-3 c κs = search rules
 lesser-requires-4 : tie.Need-lesser-requires-4
 lesser-requires-4 c κs = search rules
 
-returns-2 : tie.Need-returns-2
-unfolding leastWay
-returns-2 c =
+returns_2 : tie.Need-returns-2
+unfolding least_way
+returns_2 c =
     let z = c.before in
     let y = z.before in
     let x = y.before in
@@ -55,7 +55,7 @@ returns-2 c =
     let first = three.before in
     let halves = first.before.before in
     let w = halves.before.args.pair in
-    let straight : first.line-rank.result ≡ firstLine (classIn (quarterBytes w)) (lineIn (quarterBytes w)) = first.line-rank.ensures.0 in
+    let straight : first.line-rank.result ≡ first_line (class_in (quarter_bytes w)) (line_in (quarter_bytes w)) = first.line-rank.ensures.0 in
     let least : x.lesser.result ≡ min halves.halves-alike.result first.line-rank.result = x.lesser.ensures in
     let apart : y.lesser2.result ≡ min x.lesser.result tree.tree-like.result = y.lesser2.ensures in
     let shared : z.lesser3.result ≡ min three.three-alike.result across.across-alike.result = z.lesser3.ensures in (
@@ -65,8 +65,8 @@ returns-2 c =
       omega (arith, c.lesser4.ensures, apart, least, halves.halves-alike.ensures.1),
     )
 
-pub way-spec : {M : Type 1} → statement M
-way-spec =
+pub way_spec : {M : Type 1} → statement M
+way_spec =
     tie.close
     (tie.spec
     halves-alike-requires
@@ -80,4 +80,4 @@ way-spec =
     lesser-requires-2
     lesser-requires-3
     lesser-requires-4
-    returns-2)
+    returns_2)

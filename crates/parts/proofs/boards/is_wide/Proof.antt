@@ -6,5 +6,5 @@ use Rattle.parts.proofs.boards.is_wide.Tie as tie
 returns : tie.Need-returns
 returns c = refl
 
-pub is-wide-spec : {M : Type 1} → statement M
-is-wide-spec = tie.close (tie.spec returns)
+pub is_wide_spec : {M : Type 1} → statement M
+is_wide_spec = tie.close (tie.spec returns)

@@ -2,7 +2,7 @@
 use lib.Bits.{and_le_l}
 use mir.Val.{Fits}
 use mir.Syntax.{w64}
-use Rattle.parts.proofs.CellBytes.{cells-put, cells_fit}
+use Rattle.parts.proofs.CellBytes.{cells_put, cells_fit}
 use borrow.Author.Rules.{rules}
 use Rattle.parts.proofs.cells.put_cells.Statement.{statement}
 use Rattle.parts.proofs.cells.put_cells.Tie as tie
@@ -35,10 +35,10 @@ returns : tie.Need-returns
 returns c =
     let a = c.args in
     let fit : Fits w64 a.cells = search rules in
-    cells-put a.cells a.j a.k c.requires.0 c.requires.1 fit.fits
+    cells_put a.cells a.j a.k c.requires.0 c.requires.1 fit.fits
 
-pub put-cells-spec : {M : Type 1} → statement M
-put-cells-spec =
+pub put_cells_spec : {M : Type 1} → statement M
+put_cells_spec =
     tie.close
     (tie.spec
     mul_at

@@ -2,7 +2,7 @@
 use lib.Bits.{and_le_l}
 use mir.Val.{Fits}
 use mir.Syntax.{w64}
-use Rattle.parts.proofs.RowCuts.{row-less}
+use Rattle.parts.proofs.RowCuts.{row_less}
 use borrow.Author.Rules.{rules}
 use Rattle.parts.proofs.masks.cut_row.Statement.{statement}
 use Rattle.parts.proofs.masks.cut_row.Tie as tie
@@ -26,9 +26,9 @@ returns : tie.Need-returns
 returns c =
     let i = c.before.before in
     let h : Fits w64 i.args.row = search rules in
-    row-less i.args.row i.args.p i.args.set h.fits c.before.lost-in.ensures.0 c.seat-of.ensures.0
+    row_less i.args.row i.args.p i.args.set h.fits c.before.lost-in.ensures.0 c.seat-of.ensures.0
 
-pub cut-row-spec : {M : Type 1} → statement M
-cut-row-spec =
+pub cut_row_spec : {M : Type 1} → statement M
+cut_row_spec =
     tie.close
     (tie.spec lost-in-requires seat-of-requires cast-result shl-result sub-result returns)

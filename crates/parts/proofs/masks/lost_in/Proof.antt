@@ -2,7 +2,7 @@
 use native.Mathlib.Omega.{arith}
 use Rattle.lanes.specs.Inner.Lanes.{lanes_of}
 use Rattle.table.specs.Bits.{sum}
-use Rattle.parts.proofs.RowCuts.{lost-made}
+use Rattle.parts.proofs.RowCuts.{lost_made}
 use borrow.Author.Rules.{rules}
 use Rattle.parts.proofs.masks.lost_in.Statement.{statement}
 use Rattle.parts.proofs.masks.lost_in.Tie as tie
@@ -19,19 +19,19 @@ no-zeros-requires c κs = search rules
 mul-result : tie.Need-overflow-mul-result
 unfolding lanes_of sum
 mul-result c =
-    let r = lost-made c.before.before.args.set c.before.no_ones.ensures c.no-zeros.ensures in
+    let r = lost_made c.before.before.args.set c.before.no_ones.ensures c.no-zeros.ensures in
     record { fits = omega (arith, r.1) }
 
 add-result : tie.Need-overflow-add-result
 unfolding lanes_of sum
 add-result c =
-    let r = lost-made c.before.before.args.set c.before.no_ones.ensures c.no-zeros.ensures in
+    let r = lost_made c.before.before.args.set c.before.no_ones.ensures c.no-zeros.ensures in
     record { fits = omega (arith, r.1) }
 
 returns : tie.Need-returns
-returns c = lost-made c.before.before.args.set c.before.no_ones.ensures c.no-zeros.ensures
+returns c = lost_made c.before.before.args.set c.before.no_ones.ensures c.no-zeros.ensures
 
-pub lost-in-spec : {M : Type 1} → statement M
-lost-in-spec =
+pub lost_in_spec : {M : Type 1} → statement M
+lost_in_spec =
     tie.close
     (tie.spec no-ones-requires cast-result no-zeros-requires mul-result add-result returns)

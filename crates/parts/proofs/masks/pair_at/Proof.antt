@@ -36,8 +36,8 @@ returns c =
     let i = c.before.before in
     pair_made i.args.masks.now i.args.q i.args.j c.before.half_at.ensures.0 c.half-at2.ensures.0
 
-pub pair-at-spec : {M : Type 1} → statement M
-pair-at-spec =
+pub pair_at_spec : {M : Type 1} → statement M
+pair_at_spec =
     tie.close
     (tie.spec
     mul_at

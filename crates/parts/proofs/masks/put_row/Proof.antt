@@ -1,8 +1,8 @@
 -- `put_row` meets its contract: the lanes of the row are put one wire after the other.
 use Prim.Native.Nat.{◌/◌}
 use native.Mathlib.Omega.{arith}
-use Rattle.parts.specs.Inner.Masks.{rowPatterns}
-use Rattle.parts.proofs.MaskRows.{first-place, row_put}
+use Rattle.parts.specs.Inner.Masks.{row_patterns}
+use Rattle.parts.proofs.MaskRows.{first_place, row_put}
 use borrow.Author.Rules.{rules}
 use Rattle.parts.proofs.masks.put_row.Statement.{statement}
 use Rattle.parts.proofs.masks.put_row.Tie as tie
@@ -58,11 +58,11 @@ element-write-masks-4 c = search rules
 returns : tie.Need-returns
 returns c =
     let i = c.before.before.before.before.before in
-    row_put i.args.masks.now (i.args.p / rowPatterns) i.args.row (omega (arith, i.requires.0)) i.requires.1 _ (first-place (i.args.p / rowPatterns) c.before.before.before.before.row-place.ensures.0)
+    row_put i.args.masks.now (i.args.p / row_patterns) i.args.row (omega (arith, i.requires.0)) i.requires.1 _ (first_place (i.args.p / row_patterns) c.before.before.before.before.row-place.ensures.0)
     c.before.before.before.half_of_lem.ensures c.before.before.half-of2.ensures c.before.half-of3.ensures c.half-of4.ensures
 
-pub put-row-spec : {M : Type 1} → statement M
-put-row-spec =
+pub put_row_spec : {M : Type 1} → statement M
+put_row_spec =
     tie.close
     (tie.spec
     row-place-requires

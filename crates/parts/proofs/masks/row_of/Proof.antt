@@ -1,6 +1,6 @@
 -- `row_of` meets its contract: the four numbers of the row side by side.
 use Prim.Native.Nat.{◌/◌}
-use Rattle.parts.specs.Inner.Masks.{rowPatterns}
+use Rattle.parts.specs.Inner.Masks.{row_patterns}
 use Rattle.parts.proofs.MaskRows.{row_made}
 use borrow.Author.Rules.{rules}
 use Rattle.parts.proofs.masks.row_of.Statement.{statement}
@@ -51,11 +51,11 @@ add-result-3 c = search rules
 returns : tie.Need-returns
 returns c =
     let i = c.before.before.before.before.before in
-    row_made i.args.masks.now (i.args.p / rowPatterns) c.before.before.before.before.row-place.ensures.0
+    row_made i.args.masks.now (i.args.p / row_patterns) c.before.before.before.before.row-place.ensures.0
     c.before.before.before.half_at.ensures.0 c.before.before.half-at2.ensures.0 c.before.half-at3.ensures.0 c.half-at4.ensures.0
 
-pub row-of-spec : {M : Type 1} → statement M
-row-of-spec =
+pub row_of_spec : {M : Type 1} → statement M
+row_of_spec =
     tie.close
     (tie.spec
     row-place-requires

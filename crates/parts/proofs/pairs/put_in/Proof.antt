@@ -3,8 +3,8 @@ use Prim.Native.Nat.{◌+◌, ◌*◌, ◌%◌, ◌^◌}
 use mathlib.Core.Path.{ap, ap₂, ◌∙◌}
 use native.Mathlib.Omega.{arith}
 use lib.ListN.{get_or, set}
-use Rattle.table.specs.Inner.Pairs.{narrowPatterns, seat}
-use Rattle.parts.specs.Inner.Pairs.{sidesOf}
+use Rattle.table.specs.Inner.Pairs.{narrow_patterns, seat}
+use Rattle.parts.specs.Inner.Pairs.{sides_of}
 use borrow.Author.Rules.{rules}
 use Rattle.parts.proofs.pairs.put_in.Statement.{statement}
 use Rattle.parts.proofs.pairs.put_in.Tie as tie
@@ -35,10 +35,10 @@ returns c =
     let i = c.before.before.before in
     let w = i.args.words.now in
     let e = c.before.before.place_of.ensures.0 in
-    ap₂ (λ k x. set w k x) e (c.put-pair.ensures ∙ ap (λ k. get_or w k 0 + sidesOf i.args.set i.args.j * 2 ^ seat (i.args.p % narrowPatterns)) e)
+    ap₂ (λ k x. set w k x) e (c.put-pair.ensures ∙ ap (λ k. get_or w k 0 + sides_of i.args.set i.args.j * 2 ^ seat (i.args.p % narrow_patterns)) e)
 
-pub put-in-spec : {M : Type 1} → statement M
-put-in-spec =
+pub put_in_spec : {M : Type 1} → statement M
+put_in_spec =
     tie.close
     (tie.spec
     place-of-requires

@@ -15,5 +15,5 @@ returns : tie.Need-returns
 unfolding seat
 returns c = (refl, omega arith)
 
-pub seat-of-spec : {M : Type 1} → statement M
-seat-of-spec = tie.close (tie.spec mul-result add-result returns)
+pub seat_of_spec : {M : Type 1} → statement M
+seat_of_spec = tie.close (tie.spec mul-result add-result returns)

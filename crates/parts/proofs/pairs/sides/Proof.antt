@@ -1,6 +1,6 @@
 -- `sides` meets its contract: the bits that occur.
 use mathlib.Core.Path.{ap₂, ◌∙◌}
-use Rattle.parts.specs.Inner.Pairs.{bitsOf, sidesOf}
+use Rattle.parts.specs.Inner.Pairs.{bits_of, sides_of}
 use borrow.Author.Rules.{rules}
 use Rattle.parts.proofs.pairs.sides.Statement.{statement}
 use Rattle.parts.proofs.pairs.sides.Tie as tie
@@ -15,8 +15,8 @@ bits-of-requires : tie.Need-bits-of-requires
 bits-of-requires c κs = search rules
 
 returns : tie.Need-returns
-unfolding sidesOf
-returns c = (c.bits_of.ensures.0 ∙ ap₂ bitsOf c.before.before.has.ensures c.before.has2.ensures, c.bits_of.ensures.1)
+unfolding sides_of
+returns c = (c.bits_of.ensures.0 ∙ ap₂ bits_of c.before.before.has.ensures c.before.has2.ensures, c.bits_of.ensures.1)
 
-pub sides-spec : {M : Type 1} → statement M
-sides-spec = tie.close (tie.spec has-requires has-requires-2 bits-of-requires returns)
+pub sides_spec : {M : Type 1} → statement M
+sides_spec = tie.close (tie.spec has-requires has-requires-2 bits-of-requires returns)

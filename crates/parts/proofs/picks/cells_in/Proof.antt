@@ -6,5 +6,5 @@ use Rattle.parts.proofs.picks.cells_in.Tie as tie
 returns : tie.Need-returns
 returns c = refl
 
-pub cells-in-spec : {M : Type 1} → statement M
-cells-in-spec = tie.close (tie.spec returns)
+pub cells_in_spec : {M : Type 1} → statement M
+cells_in_spec = tie.close (tie.spec returns)

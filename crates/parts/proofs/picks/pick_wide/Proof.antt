@@ -2,13 +2,13 @@
 use mathlib.Core.Path.{sym, subst, ◌∙◌}
 use mathlib.Core.Bool.{true}
 use native.Mathlib.Omega.{arith}
-use Rattle.parts.specs.Inner.Boards.{lentKind, lentInputs}
+use Rattle.parts.specs.Inner.Boards.{lent_kind, lent_inputs}
 use Rattle.parts.specs.Inner.Masks.{words_of}
-use Rattle.parts.specs.Inner.Picks.{pickOn}
+use Rattle.parts.specs.Inner.Picks.{pick_on}
 use Rattle.parts.specs.Inner.States.{PutRest}
-use Rattle.parts.proofs.MaskRows.{words-told}
-use Rattle.parts.proofs.Keeping.{count-byte}
-use Rattle.parts.proofs.LentPicks.{lent-few, wide-asked, wide-table, wide-cells, wide-side}
+use Rattle.parts.proofs.MaskRows.{words_told}
+use Rattle.parts.proofs.Keeping.{count_byte}
+use Rattle.parts.proofs.LentPicks.{lent_few, wide_asked, wide_table, wide_cells, wide_side}
 use borrow.Author.Rules.{rules}
 use Rattle.parts.proofs.picks.pick_wide.Statement.{statement}
 use Rattle.parts.proofs.picks.pick_wide.Tie as tie
@@ -33,11 +33,11 @@ wide-pick-requires c κs =
     let i = c.before.before.before.before in
     let masks = i.args.masks.now in
     let j = i.args.j in
-    let ea = c.before.before.before.pair-at.ensures ∙ sym (words-told masks 0 j (omega arith) i.requires.3) in
-    let eb = c.before.before.pair-at2.ensures ∙ sym (words-told masks 1 j (omega arith) i.requires.3) in
-    let ec = c.before.pair-at3.ensures ∙ sym (words-told masks 2 j (omega arith) i.requires.3) in
-    let ed = c.pair-at4.ensures ∙ sym (words-told masks 3 j (omega arith) i.requires.3) in
-    wide-asked _ i.requires.0 _ i.requires.1 i.requires.2 (words_of masks) j ea eb ec ed i.requires.4
+    let ea = c.before.before.before.pair-at.ensures ∙ sym (words_told masks 0 j (omega arith) i.requires.3) in
+    let eb = c.before.before.pair-at2.ensures ∙ sym (words_told masks 1 j (omega arith) i.requires.3) in
+    let ec = c.before.pair-at3.ensures ∙ sym (words_told masks 2 j (omega arith) i.requires.3) in
+    let ed = c.pair-at4.ensures ∙ sym (words_told masks 3 j (omega arith) i.requires.3) in
+    wide_asked _ i.requires.0 _ i.requires.1 i.requires.2 (words_of masks) j ea eb ec ed i.requires.4
 
 put-rest-requires : tie.Need-put-rest-requires
 put-rest-requires c κs = search rules
@@ -47,14 +47,14 @@ mul-result c =
     let i = c.before.before.before.before.before.before.before.before in
     let masks = i.args.masks.now in
     let j = i.args.j in
-    let ea = c.before.before.before.before.before.before.before.pair-at.ensures ∙ sym (words-told masks 0 j (omega arith) i.requires.3) in
-    let eb = c.before.before.before.before.before.before.pair-at2.ensures ∙ sym (words-told masks 1 j (omega arith) i.requires.3) in
-    let ec = c.before.before.before.before.before.pair-at3.ensures ∙ sym (words-told masks 2 j (omega arith) i.requires.3) in
-    let ed = c.before.before.before.before.pair-at4.ensures ∙ sym (words-told masks 3 j (omega arith) i.requires.3) in
+    let ea = c.before.before.before.before.before.before.before.pair-at.ensures ∙ sym (words_told masks 0 j (omega arith) i.requires.3) in
+    let eb = c.before.before.before.before.before.before.pair-at2.ensures ∙ sym (words_told masks 1 j (omega arith) i.requires.3) in
+    let ec = c.before.before.before.before.before.pair-at3.ensures ∙ sym (words_told masks 2 j (omega arith) i.requires.3) in
+    let ed = c.before.before.before.before.pair-at4.ensures ∙ sym (words_told masks 3 j (omega arith) i.requires.3) in
     let r = c.before.before.before.wide-pick.ensures in
-    let t = wide-table _ i.requires.0 _ i.requires.1 i.requires.2 (words_of masks) j ea eb ec ed r.0 in
-    let few = count-byte (lentKind i.args.e.now) (lentInputs i.args.e.now) (pickOn i.args.e.now (words_of masks) j) (lent-few i.args.e.now i.requires.0) in
-    let k = wide-cells _ i.requires.0 _ i.requires.1 i.requires.2 (words_of masks) j ea eb ec ed t r.1 in
+    let t = wide_table _ i.requires.0 _ i.requires.1 i.requires.2 (words_of masks) j ea eb ec ed r.0 in
+    let few = count_byte (lent_kind i.args.e.now) (lent_inputs i.args.e.now) (pick_on i.args.e.now (words_of masks) j) (lent_few i.args.e.now i.requires.0) in
+    let k = wide_cells _ i.requires.0 _ i.requires.1 i.requires.2 (words_of masks) j ea eb ec ed t r.1 in
     record { fits = omega (arith, k, few) }
 
 cast-result : tie.Need-overflow-cast-result
@@ -65,14 +65,14 @@ add-result c =
     let i = c.before.before.before.before.before.before.before.before.before in
     let masks = i.args.masks.now in
     let j = i.args.j in
-    let ea = c.before.before.before.before.before.before.before.before.pair-at.ensures ∙ sym (words-told masks 0 j (omega arith) i.requires.3) in
-    let eb = c.before.before.before.before.before.before.before.pair-at2.ensures ∙ sym (words-told masks 1 j (omega arith) i.requires.3) in
-    let ec = c.before.before.before.before.before.before.pair-at3.ensures ∙ sym (words-told masks 2 j (omega arith) i.requires.3) in
-    let ed = c.before.before.before.before.before.pair-at4.ensures ∙ sym (words-told masks 3 j (omega arith) i.requires.3) in
+    let ea = c.before.before.before.before.before.before.before.before.pair-at.ensures ∙ sym (words_told masks 0 j (omega arith) i.requires.3) in
+    let eb = c.before.before.before.before.before.before.before.pair-at2.ensures ∙ sym (words_told masks 1 j (omega arith) i.requires.3) in
+    let ec = c.before.before.before.before.before.before.pair-at3.ensures ∙ sym (words_told masks 2 j (omega arith) i.requires.3) in
+    let ed = c.before.before.before.before.before.pair-at4.ensures ∙ sym (words_told masks 3 j (omega arith) i.requires.3) in
     let r = c.before.before.before.before.wide-pick.ensures in
-    let t = wide-table _ i.requires.0 _ i.requires.1 i.requires.2 (words_of masks) j ea eb ec ed r.0 in
-    let few = count-byte (lentKind i.args.e.now) (lentInputs i.args.e.now) (pickOn i.args.e.now (words_of masks) j) (lent-few i.args.e.now i.requires.0) in
-    let k = wide-cells _ i.requires.0 _ i.requires.1 i.requires.2 (words_of masks) j ea eb ec ed t r.1 in
+    let t = wide_table _ i.requires.0 _ i.requires.1 i.requires.2 (words_of masks) j ea eb ec ed r.0 in
+    let few = count_byte (lent_kind i.args.e.now) (lent_inputs i.args.e.now) (pick_on i.args.e.now (words_of masks) j) (lent_few i.args.e.now i.requires.0) in
+    let k = wide_cells _ i.requires.0 _ i.requires.1 i.requires.2 (words_of masks) j ea eb ec ed t r.1 in
     record { fits = omega (arith, k, few) }
 
 returns : tie.Need-returns
@@ -80,18 +80,18 @@ returns c =
     let i = c.before.before.before.before.before.before.before.before.before in
     let masks = i.args.masks.now in
     let j = i.args.j in
-    let ea = c.before.before.before.before.before.before.before.before.pair-at.ensures ∙ sym (words-told masks 0 j (omega arith) i.requires.3) in
-    let eb = c.before.before.before.before.before.before.before.pair-at2.ensures ∙ sym (words-told masks 1 j (omega arith) i.requires.3) in
-    let ec = c.before.before.before.before.before.before.pair-at3.ensures ∙ sym (words-told masks 2 j (omega arith) i.requires.3) in
-    let ed = c.before.before.before.before.before.pair-at4.ensures ∙ sym (words-told masks 3 j (omega arith) i.requires.3) in
+    let ea = c.before.before.before.before.before.before.before.before.pair-at.ensures ∙ sym (words_told masks 0 j (omega arith) i.requires.3) in
+    let eb = c.before.before.before.before.before.before.before.pair-at2.ensures ∙ sym (words_told masks 1 j (omega arith) i.requires.3) in
+    let ec = c.before.before.before.before.before.before.pair-at3.ensures ∙ sym (words_told masks 2 j (omega arith) i.requires.3) in
+    let ed = c.before.before.before.before.before.pair-at4.ensures ∙ sym (words_told masks 3 j (omega arith) i.requires.3) in
     let r = c.before.before.before.before.wide-pick.ensures in
-    let t = wide-table _ i.requires.0 _ i.requires.1 i.requires.2 (words_of masks) j ea eb ec ed r.0 in (
-      wide-side _ i.requires.0 _ i.requires.1 i.requires.2 (words_of masks) j ea eb ec ed t (wide-cells _ i.requires.0 _ i.requires.1 i.requires.2 (words_of masks) j ea eb ec ed t r.1),
+    let t = wide_table _ i.requires.0 _ i.requires.1 i.requires.2 (words_of masks) j ea eb ec ed r.0 in (
+      wide_side _ i.requires.0 _ i.requires.1 i.requires.2 (words_of masks) j ea eb ec ed t (wide_cells _ i.requires.0 _ i.requires.1 i.requires.2 (words_of masks) j ea eb ec ed t r.1),
       subst (λ x. PutRest true j x i.args.state.now c.before.before.put_rest.new.0) t c.before.before.put_rest.ensures,
     )
 
-pub pick-wide-spec : {M : Type 1} → statement M
-pick-wide-spec =
+pub pick_wide_spec : {M : Type 1} → statement M
+pick_wide_spec =
     tie.close
     (tie.spec
     sub-wide-pick

@@ -11,5 +11,5 @@ cast-result c = search rules
 returns : tie.Need-returns
 returns c = (refl, omega arith)
 
-pub side-in-spec : {M : Type 1} → statement M
-side-in-spec = tie.close (tie.spec cast-result returns)
+pub side_in_spec : {M : Type 1} → statement M
+side_in_spec = tie.close (tie.spec cast-result returns)

@@ -1,8 +1,8 @@
 -- `put_rest` meets its contract: three places are set, each by what stands there.
 use mathlib.Core.Path.{ap, ◌∙◌}
 use lib.ListN.{get_or}
-use Rattle.lanes.specs.Inner.Lanes.{putLane}
-use Rattle.parts.specs.Inner.States.{restPlace}
+use Rattle.lanes.specs.Inner.Lanes.{put_lane}
+use Rattle.parts.specs.Inner.States.{rest_place}
 use Rattle.parts.proofs.RestPut.{rest_put}
 use borrow.Author.Rules.{rules}
 use Rattle.parts.proofs.states.put_rest.Statement.{statement}
@@ -83,13 +83,13 @@ element-write-state-3 c = search rules
 returns : tie.Need-returns
 returns c =
     let i = c.before.before.before.before.before.before.before.before.before in
-    let e1 = c.before.before.before.before.before.before.put_lane.ensures ∙ ap (putLane (get_or i.args.state.now (restPlace 1) 0) i.args.j) c.before.before.before.before.before.before.before.section-of.ensures.0 in
-    let e2 = c.before.before.before.put-lane2.ensures ∙ ap (putLane _ i.args.j) c.before.before.before.before.section-of2.ensures.0 in
-    let e3 = c.put-lane3.ensures ∙ ap (putLane _ i.args.j) c.before.section-of3.ensures.0 in
+    let e1 = c.before.before.before.before.before.before.put_lane.ensures ∙ ap (put_lane (get_or i.args.state.now (rest_place 1) 0) i.args.j) c.before.before.before.before.before.before.before.section-of.ensures.0 in
+    let e2 = c.before.before.before.put-lane2.ensures ∙ ap (put_lane _ i.args.j) c.before.before.before.before.section-of2.ensures.0 in
+    let e3 = c.put-lane3.ensures ∙ ap (put_lane _ i.args.j) c.before.section-of3.ensures.0 in
     rest_put i.args.state.now i.args.j i.args.table i.requires.1 e1 e2 e3
 
-pub put-rest-spec : {M : Type 1} → statement M
-put-rest-spec =
+pub put_rest_spec : {M : Type 1} → statement M
+put_rest_spec =
     tie.close
     (tie.spec
     add-put-lane

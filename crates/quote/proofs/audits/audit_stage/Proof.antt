@@ -1,12 +1,12 @@
 use mathlib.Core.Bool.{Bool, true, false, cond}
-use Rattle.quote.specs.Cases.{auditedCase, fitsOutcome, differsOutcome}
+use Rattle.quote.specs.Cases.{audited_case, fits_outcome, differs_outcome}
 use Rattle.base.specs.Cases.{accepting}
-use Rattle.stage.specs.Read.{readSheet}
-use Rattle.diagram.specs.Forms.{form_of, drawingOf}
-use Rattle.quote.specs.Audit.{auditedStage}
+use Rattle.stage.specs.Read.{read_sheet}
+use Rattle.diagram.specs.Forms.{form_of, drawing_of}
+use Rattle.quote.specs.Audit.{audited_stage}
 use Rattle.quote.specs.declared.Audited.TheVariants.{StageRefused}
 use mathlib.Core.Path.{◌≡◌, sym, ap, ◌∙◌}
-use Rattle.quote.proofs.Auditing.{stage-refused, inputs-differ, wires-differ, few-inputs, tested}
+use Rattle.quote.proofs.Auditing.{stage_refused, inputs_differ, wires_differ, few_inputs, tested}
 use borrow.Author.Rules.{rules}
 use Rattle.quote.proofs.audits.audit_stage.Statement.{statement}
 use Rattle.quote.proofs.audits.audit_stage.Tie as tie
@@ -16,7 +16,7 @@ by_values : (c : tie.After-allowed-everywhere) (b : Bool) → c.allowed-everywhe
     → let r = c.before.before.before.before.before.before.before.before.before.before.before in
     let a = r.before.before.args in
     let k = r.read-on.result.cells in
-    cond b (accepting fitsOutcome k) (accepting differsOutcome k) ≡ auditedStage (drawingOf a.kind) a.relation (readSheet (form_of a.kind) a.s.now)
+    cond b (accepting fits_outcome k) (accepting differs_outcome k) ≡ audited_stage (drawing_of a.kind) a.relation (read_sheet (form_of a.kind) a.s.now)
 by_values c b e =
     let w = c.before.before.before in
     let i = w.before.before.before in
@@ -43,29 +43,29 @@ returns c =
     let a = c.before.before.before.before.before.args in
     let d = c.before.before.before.read-on in
     let g = c.before.enum-told2.given in
-    ap auditedCase (c.refused-stage.ensures g.0.0 g.1) ∙ stage-refused a.kind a.relation a.s.now d.result d.ensures g.0.0 g.1
+    ap audited_case (c.refused-stage.ensures g.0.0 g.1) ∙ stage_refused a.kind a.relation a.s.now d.result d.ensures g.0.0 g.1
 
 at-requires : tie.Need-at-requires
 at-requires c κs = search rules
 
-returns-2 : tie.Need-returns-2
-returns-2 c =
+returns_2 : tie.Need-returns-2
+returns_2 c =
     let b = c.before in
     let a = b.before.before.before.before.before.before.before.args in
     let d = b.before.before.before.before.before.read-on in
-    ap (λ f. auditedCase (StageRefused f)) c.at.ensures
-    ∙ inputs-differ a.kind a.relation a.s.now d.result d.ensures b.before.before.before.enum_told.given.1 b.if1.true
+    ap (λ f. audited_case (StageRefused f)) c.at.ensures
+    ∙ inputs_differ a.kind a.relation a.s.now d.result d.ensures b.before.before.before.enum_told.given.1 b.if1.true
 
 at-requires-2 : tie.Need-at-requires-2
 at-requires-2 c κs = search rules
 
-returns-3 : tie.Need-returns-3
-returns-3 c =
+returns_3 : tie.Need-returns-3
+returns_3 c =
     let b = c.before.before.before.before in
     let a = b.before.before.before.before.before.before.before.args in
     let d = b.before.before.before.before.before.read-on in
-    ap (λ f. auditedCase (StageRefused f)) c.at2.ensures
-    ∙ wires-differ a.kind a.relation a.s.now d.result d.ensures b.before.before.before.enum_told.given.1
+    ap (λ f. audited_case (StageRefused f)) c.at2.ensures
+    ∙ wires_differ a.kind a.relation a.s.now d.result d.ensures b.before.before.before.enum_told.given.1
     b.if1.false c.before.if2.true
 
 allowed-everywhere-requires : tie.Need-allowed-everywhere-requires
@@ -73,7 +73,7 @@ allowed-everywhere-requires c κs =
     let b = c.before.before.before.before.before in
     let a = b.before.before.before.before.before.before.before.args in
     let d = b.before.before.before.before.before.read-on in
-    few-inputs a.kind a.relation a.s.now d.result d.ensures b.before.before.before.enum_told.given.1
+    few_inputs a.kind a.relation a.s.now d.result d.ensures b.before.before.before.enum_told.given.1
 
 cast-t14 : tie.Need-overflow-cast-t14
 cast-t14 c = search rules
@@ -81,14 +81,14 @@ cast-t14 c = search rules
 cast-t15 : tie.Need-overflow-cast-t15
 cast-t15 c = search rules
 
-returns-4 : tie.Need-returns-4
-returns-4 c = by_values c.before.before true c.before.if3.true
+returns_4 : tie.Need-returns-4
+returns_4 c = by_values c.before.before true c.before.if3.true
 
 returns-5 : tie.Need-returns-5
 returns-5 c = by_values c.before.before false c.before.if3.false
 
-pub audit-stage-spec : {M : Type 1} → statement M
-audit-stage-spec =
+pub audit_stage_spec : {M : Type 1} → statement M
+audit_stage_spec =
     tie.close
     (tie.spec
     read-on-requires
@@ -97,11 +97,11 @@ audit-stage-spec =
     refused-stage-requires
     returns
     at-requires
-    returns-2
+    returns_2
     at-requires-2
-    returns-3
+    returns_3
     allowed-everywhere-requires
     cast-t14
     cast-t15
-    returns-4
+    returns_4
     returns-5)

@@ -26,8 +26,8 @@ at-requires c κs = search rules
 returns : tie.Need-returns
 returns c = λ f e. same _ f (sym c.before.answer.given.1 ∙ e)
 
-returns-2 : tie.Need-returns-2
-returns-2 c = λ f e. never f (sym c.before.enum_told.given.1 ∙ e)
+returns_2 : tie.Need-returns-2
+returns_2 c = λ f e. never f (sym c.before.enum_told.given.1 ∙ e)
 
-pub refused-stage-spec : {M : Type 1} → statement M
-refused-stage-spec = tie.close (tie.spec enum-known-answer enum_told at-requires returns returns-2)
+pub refused_stage_spec : {M : Type 1} → statement M
+refused_stage_spec = tie.close (tie.spec enum-known-answer enum_told at-requires returns returns_2)

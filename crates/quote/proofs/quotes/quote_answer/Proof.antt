@@ -1,4 +1,4 @@
-use Rattle.quote.proofs.Quoting.{with-length, with-refusal}
+use Rattle.quote.proofs.Quoting.{with_length, with_refusal}
 use borrow.Author.Rules.{rules}
 use Rattle.quote.proofs.quotes.quote_answer.Statement.{statement}
 use Rattle.quote.proofs.quotes.quote_answer.Tie as tie
@@ -22,19 +22,19 @@ returns : tie.Need-returns
 returns c =
     let a = c.before.before.before.before.before.before.before.before.before.args in
     let w = c.before.before.before.before.before.write-on in
-    (with-length a.answer w.result w.ensures.0 _ c.before.written.given.1, w.ensures.1)
+    (with_length a.answer w.result w.ensures.0 _ c.before.written.given.1, w.ensures.1)
 
 same-length-2 : tie.Need-same-length-2
 same-length-2 c = search rules
 
-returns-2 : tie.Need-returns-2
-returns-2 c =
+returns_2 : tie.Need-returns-2
+returns_2 c =
     let a = c.before.before.before.before.before.before.before.before.before.before.args in
     let w = c.before.before.before.before.before.before.write-on in
-    (with-refusal a.answer w.result w.ensures.0 _ c.before.before.written2.given.1 c.refused-quote.ensures, w.ensures.1)
+    (with_refusal a.answer w.result w.ensures.0 _ c.before.before.written2.given.1 c.refused-quote.ensures, w.ensures.1)
 
-pub quote-answer-spec : {M : Type 1} → statement M
-quote-answer-spec =
+pub quote_answer_spec : {M : Type 1} → statement M
+quote_answer_spec =
     tie.close
     (tie.spec
     write-on-requires
@@ -44,4 +44,4 @@ quote-answer-spec =
     same_length
     returns
     same-length-2
-    returns-2)
+    returns_2)

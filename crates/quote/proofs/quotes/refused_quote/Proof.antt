@@ -6,5 +6,5 @@ use Rattle.quote.proofs.quotes.refused_quote.Tie as tie
 returns : tie.Need-returns
 returns c = refl
 
-pub refused-quote-spec : {M : Type 1} → statement M
-refused-quote-spec = tie.close (tie.spec returns)
+pub refused_quote_spec : {M : Type 1} → statement M
+refused_quote_spec = tie.close (tie.spec returns)

@@ -5,11 +5,11 @@ use mathlib.Core.List.{List}
 use Prim.Native.Nat.{ℕ, ◌+◌, ◌-◌}
 use lib.ListN.{length, get_or}
 use lib.Dec.{ltb}
-use Rattle.base.specs.Refusals.{cutShort, outOfTurn, outOfRange}
+use Rattle.base.specs.Refusals.{cut_short, out_of_turn, out_of_range}
 use Rattle.reader.specs.declared.Reader.{Reader}
 use Rattle.reader.specs.declared.Step.{Step}
 use Rattle.reader.specs.declared.Step.TheVariants.{Read}
-use Rattle.reader.specs.Reader.{commandOf, isOutOfRange, movedPast, stepRefused, next_of}
+use Rattle.reader.specs.Reader.{command_of, is_out_of_range, moved_past, step_refused, next_of}
 use borrow.Author.Rules.{rules}
 use Rattle.reader.proofs.Reader.next.Statement.{statement}
 use Rattle.reader.proofs.Reader.next.Tie as tie
@@ -18,8 +18,8 @@ use Rattle.reader.proofs.Reader.next.Tie as tie
 abbrev ranged : List ℕ → Reader → ℕ → Step
 ranged s r w =
     let at = r.at in
-    let c = commandOf (get_or s at 0) (get_or s (at + 1) 0) (get_or s (at + 2) 0) (get_or s (at + 3) 0) in
-    cond (isOutOfRange r.n r.m c) (stepRefused outOfRange at) (Read c (movedPast r c (at + w)))
+    let c = command_of (get_or s at 0) (get_or s (at + 1) 0) (get_or s (at + 2) 0) (get_or s (at + 3) 0) in
+    cond (is_out_of_range r.n r.m c) (step_refused out_of_range at) (Read c (moved_past r c (at + w)))
 
 -- `next_of` where its test of the turn is reached
 at_turn : (c : tie.After-out-of-turn)
@@ -28,7 +28,7 @@ at_turn : (c : tie.After-out-of-turn)
     let at = a.self.at in
     let w = c.before.before.width.result in
     next_of s a.self
-    ≡ cond c.out-of-turn.result (stepRefused outOfTurn at) (cond (ltb (length s - at) w) (stepRefused cutShort at) (ranged s a.self w))
+    ≡ cond c.out-of-turn.result (step_refused out_of_turn at) (cond (ltb (length s - at) w) (step_refused cut_short at) (ranged s a.self w))
 unfolding next_of
 at_turn c =
     let t2 = c.before in
@@ -37,14 +37,14 @@ at_turn c =
     simp (lt-leb _ _ t1.if1.false, ← w.width.ensures, ne_eqb _ _ t2.if2.false, ← c.out-of-turn.ensures)
 
 -- `next_of` where its test of the range is reached
-at-range : (c : tie.After-out-of-range)
+at_range : (c : tie.After-out-of-range)
     → let o = c.before.before.before.before.before.before.before in
     let a = o.before.before.before.before.before.before.args in
     let at = a.self.at in
     let w = o.before.before.width.result in
     let k = c.before.command.result in
-    next_of a.s.now a.self ≡ cond c.out_of_range.result (stepRefused outOfRange at) (Read k (movedPast a.self k (at + w)))
-at-range c =
+    next_of a.s.now a.self ≡ cond c.out_of_range.result (step_refused out_of_range at) (Read k (moved_past a.self k (at + w)))
+at_range c =
     let k = c.before in
     let z = k.before in
     let y = z.before in
@@ -78,9 +78,9 @@ width-requires c κs = search rules
 refused-requires-2 : tie.Need-refused-requires-2
 refused-requires-2 c κs = search rules
 
-returns-2 : tie.Need-returns-2
+returns_2 : tie.Need-returns-2
 unfolding next_of
-returns-2 c =
+returns_2 c =
     let t2 = c.before in
     let w = t2.before in
     let t1 = w.before.before in
@@ -94,8 +94,8 @@ out-of-turn-requires c κs = search rules
 refused-requires-3 : tie.Need-refused-requires-3
 refused-requires-3 c κs = search rules
 
-returns-3 : tie.Need-returns-3
-returns-3 c = simp (at_turn c.before.before, c.before.if3.true) c.refused3.ensures
+returns_3 : tie.Need-returns-3
+returns_3 c = simp (at_turn c.before.before, c.before.if3.true) c.refused3.ensures
 
 sub-if4 : tie.Need-overflow-sub-if4
 sub-if4 c = search rules
@@ -103,8 +103,8 @@ sub-if4 c = search rules
 refused-requires-4 : tie.Need-refused-requires-4
 refused-requires-4 c κs = search rules
 
-returns-4 : tie.Need-returns-4
-returns-4 c =
+returns_4 : tie.Need-returns-4
+returns_4 c =
     let t4 = c.before in
     let t3 = t4.before in
     simp (at_turn t3.before, t3.if3.false, lt-ltb _ _ t4.if4.true) c.refused4.ensures
@@ -137,7 +137,7 @@ refused-requires-5 : tie.Need-refused-requires-5
 refused-requires-5 c κs = search rules
 
 returns-5 : tie.Need-returns-5
-returns-5 c = simp (at-range c.before.before, c.before.if5.true) c.refused5.ensures
+returns-5 c = simp (at_range c.before.before, c.before.if5.true) c.refused5.ensures
 
 add-moved-past : tie.Need-overflow-add-moved-past
 add-moved-past c = search rules
@@ -146,10 +146,10 @@ moved-past-requires : tie.Need-moved-past-requires
 moved-past-requires c κs = search rules
 
 returns-6 : tie.Need-returns-6
-returns-6 c = simp (at-range c.before.before, c.before.if5.false, ← c.moved-past.ensures)
+returns-6 c = simp (at_range c.before.before, c.before.if5.false, ← c.moved-past.ensures)
 
-pub next-spec : {M : Type 1} → statement M
-next-spec =
+pub next_spec : {M : Type 1} → statement M
+next_spec =
     tie.close
     (tie.spec
     refused-requires
@@ -157,13 +157,13 @@ next-spec =
     shared-slice-read-b
     width-requires
     refused-requires-2
-    returns-2
+    returns_2
     out-of-turn-requires
     refused-requires-3
-    returns-3
+    returns_3
     sub-if4
     refused-requires-4
-    returns-4
+    returns_4
     add-byte-at
     byte-at-requires
     add-byte-at-2

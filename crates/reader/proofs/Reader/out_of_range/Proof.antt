@@ -41,14 +41,14 @@ limit-out-requires c κs = search rules
 returns : tie.Need-returns
 returns c = search rules
 
-returns-2 : tie.Need-returns-2
-returns-2 c = simp c.before.before.c.given.1 c.sizes-out.ensures
+returns_2 : tie.Need-returns-2
+returns_2 c = simp c.before.before.c.given.1 c.sizes-out.ensures
 
-returns-3 : tie.Need-returns-3
-returns-3 c = simp c.before.before.c2.given.1 c.row_out.ensures
+returns_3 : tie.Need-returns-3
+returns_3 c = simp c.before.before.c2.given.1 c.row_out.ensures
 
-returns-4 : tie.Need-returns-4
-returns-4 c = simp c.before.before.c3.given.1 c.beyond.ensures
+returns_4 : tie.Need-returns-4
+returns_4 c = simp c.before.before.c3.given.1 c.beyond.ensures
 
 returns-5 : tie.Need-returns-5
 returns-5 c = simp c.before.c4.given.1
@@ -59,8 +59,8 @@ returns-6 c = search rules
 returns-7 : tie.Need-returns-7
 returns-7 c = simp c.before.before.c5.given.1 c.limit-out.ensures
 
-pub out-of-range-spec : {M : Type 1} → statement M
-out-of-range-spec =
+pub out_of_range_spec : {M : Type 1} → statement M
+out_of_range_spec =
     tie.close
     (tie.spec
     enum_told
@@ -76,9 +76,9 @@ out-of-range-spec =
     enum-known-c-5
     limit-out-requires
     returns
-    returns-2
-    returns-3
-    returns-4
+    returns_2
+    returns_3
+    returns_4
     returns-5
     returns-6
     returns-7)

@@ -11,8 +11,8 @@ bits-past-requires c κs = search rules
 returns : tie.Need-returns
 returns c = simp (← c.before.beyond.ensures, c.if1.true)
 
-returns-2 : tie.Need-returns-2
-returns-2 c = simp (← c.before.before.beyond.ensures, c.before.if1.false, ← c.bits-past.ensures)
+returns_2 : tie.Need-returns-2
+returns_2 c = simp (← c.before.before.beyond.ensures, c.before.if1.false, ← c.bits-past.ensures)
 
-pub limit-out-spec : {M : Type 1} → statement M
-limit-out-spec = tie.close (tie.spec beyond-requires bits-past-requires returns returns-2)
+pub limit_out_spec : {M : Type 1} → statement M
+limit_out_spec = tie.close (tie.spec beyond-requires bits-past-requires returns returns_2)

@@ -11,8 +11,8 @@ beyond-requires-2 c κs = search rules
 returns : tie.Need-returns
 returns c = simp (← c.before.beyond.ensures, c.if1.true)
 
-returns-2 : tie.Need-returns-2
-returns-2 c = simp (← c.before.before.beyond.ensures, c.before.if1.false, ← c.beyond2.ensures)
+returns_2 : tie.Need-returns-2
+returns_2 c = simp (← c.before.before.beyond.ensures, c.before.if1.false, ← c.beyond2.ensures)
 
-pub row-out-spec : {M : Type 1} → statement M
-row-out-spec = tie.close (tie.spec beyond-requires beyond-requires-2 returns returns-2)
+pub row_out_spec : {M : Type 1} → statement M
+row_out_spec = tie.close (tie.spec beyond-requires beyond-requires-2 returns returns_2)

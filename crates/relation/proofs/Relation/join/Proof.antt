@@ -12,5 +12,5 @@ returns : tie.Need-returns
 unfolding join_of
 returns c = ap (λ s. record { n = c.before.before.before.args.self.n; m = c.before.before.before.args.self.m; sets = s }) c.in_both.ensures
 
-pub join-spec : {M : Type 1} → statement M
-join-spec = tie.close (tie.spec in-both-requires returns)
+pub join_spec : {M : Type 1} → statement M
+join_spec = tie.close (tie.spec in-both-requires returns)

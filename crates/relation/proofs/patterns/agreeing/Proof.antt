@@ -10,76 +10,76 @@ use lib.Dec.{eqb}
 use lib.ListN.{length, get_or, length-set}
 use borrow.Author.Rules.{rules}
 use Rattle.table.specs.Bits.{bit}
-use Rattle.table.proofs.Bits.{bit-cases}
-use Rattle.table.specs.Inner.Columns.{columnOf}
-use Rattle.sheet.specs.Limits.{maxPatterns}
-use Rattle.relation.specs.Inner.Members.{withBit}
+use Rattle.table.proofs.Bits.{bit_cases}
+use Rattle.table.specs.Inner.Columns.{column_of}
+use Rattle.sheet.specs.Limits.{max_patterns}
+use Rattle.relation.specs.Inner.Members.{with_bit}
 use Rattle.relation.specs.Inner.Narrowed.{agreed}
-use Rattle.relation.proofs.Members.{with-le}
-use Rattle.relation.proofs.Fronts.{Front, front-more, front-whole}
+use Rattle.relation.proofs.Members.{with_le}
+use Rattle.relation.proofs.Fronts.{Front, front_more, front_whole}
 use Rattle.relation.proofs.patterns.agreeing.Statement.{statement}
 use Rattle.relation.proofs.patterns.agreeing.Tie as tie
 
 -- the set of pattern q once wire j has table t
-abbrev agreesOn : List ℕ → ℕ → ℕ → ℕ → ℕ
-agreesOn sets j t q = withBit (get_or sets q 0) j (bit t q)
+abbrev agrees_on : List ℕ → ℕ → ℕ → ℕ → ℕ
+agrees_on sets j t q = with_bit (get_or sets q 0) j (bit t q)
 
 -- the column chosen is the column of the bit
-chosen : (j t p : ℕ) {z o b : ℕ} → z ≡ columnOf j 0 → o ≡ columnOf j 1 → b ≡ bit t p → cond (eqb b 1) o z ≡ columnOf j (bit t p)
+chosen : (j t p : ℕ) {z o b : ℕ} → z ≡ column_of j 0 → o ≡ column_of j 1 → b ≡ bit t p → cond (eqb b 1) o z ≡ column_of j (bit t p)
 chosen j t p {z} {o} ez eo eb =
     ⊎_elim
-    (λ d. ap (λ x. cond (eqb x 1) o z) (eb ∙ d) ∙ ez ∙ ap (columnOf j) (sym d))
-    (λ d. ap (λ x. cond (eqb x 1) o z) (eb ∙ d) ∙ eo ∙ ap (columnOf j) (sym d))
-    (bit-cases t p)
+    (λ d. ap (λ x. cond (eqb x 1) o z) (eb ∙ d) ∙ ez ∙ ap (column_of j) (sym d))
+    (λ d. ap (λ x. cond (eqb x 1) o z) (eb ∙ d) ∙ eo ∙ ap (column_of j) (sym d))
+    (bit_cases t p)
 
-abbrev invariant-loop : tie.invariant-loop
-invariant-loop n j t sets zero one count next₀ p₀ next p =
-    (p ≤ count) × (length next ≡ maxPatterns) × Front p (agreesOn sets j t) (λ q. get_or sets q 0) next
+abbrev invariant_loop : tie.invariant-loop
+invariant_loop n j t sets zero one count next₀ p₀ next p =
+    (p ≤ count) × (length next ≡ max_patterns) × Front p (agrees_on sets j t) (λ q. get_or sets q 0) next
 
-abbrev decreases-loop : tie.decreases-loop
-decreases-loop n j t sets zero one count next₀ p₀ next p = count - p
+abbrev decreases_loop : tie.decreases-loop
+decreases_loop n j t sets zero one count next₀ p₀ next p = count - p
 
-column-requires : tie.Need-column-requires invariant-loop decreases-loop
+column-requires : tie.Need-column-requires invariant_loop decreases_loop
 column-requires c κs = search rules
 
-column-requires-2 : tie.Need-column-requires-2 invariant-loop decreases-loop
+column-requires-2 : tie.Need-column-requires-2 invariant_loop decreases_loop
 column-requires-2 c κs = search rules
 
-patterns-of-requires : tie.Need-patterns-of-requires invariant-loop decreases-loop
+patterns-of-requires : tie.Need-patterns-of-requires invariant_loop decreases_loop
 patterns-of-requires c κs = search rules
 
-loop-holds : tie.Need-loop-init invariant-loop decreases-loop
+loop-holds : tie.Need-loop-init invariant_loop decreases_loop
 loop-holds c = (omega arith, search rules, record { filled = λ q l. absurd (omega arith); left = λ q l. refl })
 
-cast-at : tie.Need-overflow-cast-at invariant-loop decreases-loop
+cast-at : tie.Need-overflow-cast-at invariant_loop decreases_loop
 cast-at c = search rules
 
-mul_next : tie.Need-overflow-mul-next invariant-loop decreases-loop
+mul_next : tie.Need-overflow-mul-next invariant_loop decreases_loop
 mul_next c = search rules
 
-array-read-next : tie.Need-array-read-next invariant-loop decreases-loop
+array-read-next : tie.Need-array-read-next invariant_loop decreases_loop
 array-read-next c = search rules
 
-bit-of-requires : tie.Need-bit-of-requires invariant-loop decreases-loop
+bit-of-requires : tie.Need-bit-of-requires invariant_loop decreases_loop
 bit-of-requires c κs = search rules
 
-choose-requires : tie.Need-choose-requires invariant-loop decreases-loop
+choose-requires : tie.Need-choose-requires invariant_loop decreases_loop
 choose-requires c κs = search rules
 
-mul-next-2 : tie.Need-overflow-mul-next-2 invariant-loop decreases-loop
+mul-next-2 : tie.Need-overflow-mul-next-2 invariant_loop decreases_loop
 mul-next-2 c = search rules
 
-array-write-next : tie.Need-array-write-next invariant-loop decreases-loop
+array-write-next : tie.Need-array-write-next invariant_loop decreases_loop
 array-write-next c = search rules
 
-add-p : tie.Need-overflow-add-p invariant-loop decreases-loop
+add-p : tie.Need-overflow-add-p invariant_loop decreases_loop
 add-p c = search rules
 
-loop-less : tie.Need-loop-smaller invariant-loop decreases-loop
+loop-less : tie.Need-loop-smaller invariant_loop decreases_loop
 loop-less c = search rules
 
-loop-again : tie.Need-loop-preserved invariant-loop decreases-loop
-unfolding withBit
+loop-again : tie.Need-loop-preserved invariant_loop decreases_loop
+unfolding with_bit
 loop-again c =
     let a = c.before.before.before.before.before.before.before.args in
     let l = c.before.before.before.loop in
@@ -90,25 +90,25 @@ loop-again c =
     let b : l.p < length l.next = omega (arith, c.before.before.before.before.patterns-of.ensures.1) in (
       omega arith,
       simp length-set l.invariant.1,
-      front-more (agreesOn a.t2 a.j a.t) (λ q. get_or a.t2 q 0) l.next l.p (bit_and w c.choose.result) b l.invariant.2 (ap (bit_and w) e),
+      front_more (agrees_on a.t2 a.j a.t) (λ q. get_or a.t2 q 0) l.next l.p (bit_and w c.choose.result) b l.invariant.2 (ap (bit_and w) e),
     )
 
-returns : tie.Need-returns invariant-loop decreases-loop
+returns : tie.Need-returns invariant_loop decreases_loop
 unfolding agreed
 returns c =
     let a = c.before.before.before.before.before.args in
     let pre = c.before.before.before.before.before.requires in
     let l = c.before.loop in
     let e : l.p ≡ 2 ^ a.n = omega (arith, c.before.before.patterns-of.ensures.2 pre.0) in
-    front-whole maxPatterns (agreesOn a.t2 a.j a.t) (λ q. get_or a.t2 q 0) (agreesOn a.t2 a.j a.t) l.next l.p l.invariant.1 l.invariant.2
-    (λ q d. refl) (λ q d. omega (arith, pre.2 q (omega arith), with-le (get_or a.t2 q 0) a.j (bit a.t q)))
+    front_whole max_patterns (agrees_on a.t2 a.j a.t) (λ q. get_or a.t2 q 0) (agrees_on a.t2 a.j a.t) l.next l.p l.invariant.1 l.invariant.2
+    (λ q d. refl) (λ q d. omega (arith, pre.2 q (omega arith), with_le (get_or a.t2 q 0) a.j (bit a.t q)))
 
-pub agreeing-spec : {M : Type 1} → statement M
-agreeing-spec =
+pub agreeing_spec : {M : Type 1} → statement M
+agreeing_spec =
     tie.close
     (tie.spec
-    invariant-loop
-    decreases-loop
+    invariant_loop
+    decreases_loop
     column-requires
     column-requires-2
     patterns-of-requires

@@ -13,5 +13,5 @@ returns : tie.Need-returns
 unfolding bit
 returns c = (refl, omega arith)
 
-pub bit-of-spec : {M : Type 1} → statement M
-bit-of-spec = tie.close (tie.spec shr-result returns)
+pub bit_of_spec : {M : Type 1} → statement M
+bit_of_spec = tie.close (tie.spec shr-result returns)

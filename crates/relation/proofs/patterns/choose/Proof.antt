@@ -5,8 +5,8 @@ use Rattle.relation.proofs.patterns.choose.Tie as tie
 returns : tie.Need-returns
 returns c = rw (eq-eqb c.before.args.bit 1 c.if1.true)
 
-returns-2 : tie.Need-returns-2
-returns-2 c = rw (ne_eqb c.before.args.bit 1 c.if1.false)
+returns_2 : tie.Need-returns-2
+returns_2 c = rw (ne_eqb c.before.args.bit 1 c.if1.false)
 
 pub choose_spec : {M : Type 1} → statement M
-choose_spec = tie.close (tie.spec returns returns-2)
+choose_spec = tie.close (tie.spec returns returns_2)

@@ -1,7 +1,7 @@
 -- `section_of` meets its contract.
 use mathlib.Core.Path.{refl}
 use Rattle.relation.specs.Inner.Side.{section}
-use Rattle.relation.proofs.Side.{section-lt}
+use Rattle.relation.proofs.Side.{section_lt}
 use borrow.Author.Rules.{rules}
 use Rattle.relation.proofs.patterns.section_of.Statement.{statement}
 use Rattle.relation.proofs.patterns.section_of.Tie as tie
@@ -17,7 +17,7 @@ shr-result c = search rules
 
 returns : tie.Need-returns
 unfolding section
-returns c = (refl, section-lt c.args.table c.args.q)
+returns c = (refl, section_lt c.args.table c.args.q)
 
-pub section-of-spec : {M : Type 1} → statement M
-section-of-spec = tie.close (tie.spec mul-result cast-result shr-result returns)
+pub section_of_spec : {M : Type 1} → statement M
+section_of_spec = tie.close (tie.spec mul-result cast-result shr-result returns)

@@ -51,8 +51,8 @@ returns : tie.Need-returns
 unfolding side_by_side
 returns c = omega arith
 
-pub side-by-side-spec : {M : Type 1} → statement M
-side-by-side-spec =
+pub side_by_side_spec : {M : Type 1} → statement M
+side_by_side_spec =
     tie.close
     (tie.spec
     element-copy-out-section-of

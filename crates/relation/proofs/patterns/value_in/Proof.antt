@@ -25,5 +25,5 @@ returns c =
     let y = bit_and (c.args.side / 2 ^ c.args.p) lowest in
     (value_taken c.args.side c.args.p y _ refl (omega arith), omega arith)
 
-pub value-in-spec : {M : Type 1} → statement M
-value-in-spec = tie.close (tie.spec shr-bits add-pairs add-result cast-result returns)
+pub value_in_spec : {M : Type 1} → statement M
+value_in_spec = tie.close (tie.spec shr-bits add-pairs add-result cast-result returns)

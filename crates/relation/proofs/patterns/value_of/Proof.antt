@@ -55,8 +55,8 @@ returns : tie.Need-returns
 unfolding value of_bits sum
 returns c = (omega (arith, c.before.before.before.bit-of.ensures, c.before.before.bit-of2.ensures), omega arith)
 
-pub value-of-spec : {M : Type 1} → statement M
-value-of-spec =
+pub value_of_spec : {M : Type 1} → statement M
+value_of_spec =
     tie.close
     (tie.spec
     array-read-bit-of

@@ -13,5 +13,5 @@ returns : tie.Need-returns
 unfolding member bit
 returns c = refl
 
-pub contains-spec : {M : Type 1} → statement M
-contains-spec = tie.close (tie.spec shr-result returns)
+pub contains_spec : {M : Type 1} → statement M
+contains_spec = tie.close (tie.spec shr-result returns)

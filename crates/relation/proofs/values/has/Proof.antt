@@ -1,7 +1,7 @@
 -- `has` meets its contract: a bit occurs unless the set masked by its column is 0.
 use native.Mathlib.Omega.{arith}
 use borrow.Author.Rules.{rules}
-use Rattle.relation.proofs.Members.{occurs-with}
+use Rattle.relation.proofs.Members.{occurs_with}
 use Rattle.relation.proofs.values.has.Statement.{statement}
 use Rattle.relation.proofs.values.has.Tie as tie
 
@@ -9,7 +9,7 @@ with-bit-requires : tie.Need-with-bit-requires
 with-bit-requires c κs = search rules
 
 returns : tie.Need-returns
-returns c = let a = c.before.args in rw (c.with-bit.ensures, occurs-with a.set a.j a.b (omega arith))
+returns c = let a = c.before.args in rw (c.with-bit.ensures, occurs_with a.set a.j a.b (omega arith))
 
-pub has-spec : {M : Type 1} → statement M
-has-spec = tie.close (tie.spec with-bit-requires returns)
+pub has_spec : {M : Type 1} → statement M
+has_spec = tie.close (tie.spec with-bit-requires returns)

@@ -1,7 +1,7 @@
 -- `is_open` meets its contract.
 use mathlib.Core.Path.{sym, ◌∙◌}
 use borrow.Author.Rules.{rules}
-use Rattle.relation.specs.Tests.{isOpen}
+use Rattle.relation.specs.Tests.{is_open}
 use Rattle.relation.proofs.values.is_open.Statement.{statement}
 use Rattle.relation.proofs.values.is_open.Tie as tie
 
@@ -12,12 +12,12 @@ has-requires-2 : tie.Need-has-requires-2
 has-requires-2 c κs = search rules
 
 returns : tie.Need-returns
-unfolding isOpen
+unfolding is_open
 returns c = rw (sym c.before.before.has.ensures ∙ c.before.if1.true) c.has2.ensures
 
-returns-2 : tie.Need-returns-2
-unfolding isOpen
-returns-2 c = rw (sym c.before.has.ensures ∙ c.if1.false)
+returns_2 : tie.Need-returns-2
+unfolding is_open
+returns_2 c = rw (sym c.before.has.ensures ∙ c.if1.false)
 
-pub is-open-spec : {M : Type 1} → statement M
-is-open-spec = tie.close (tie.spec has-requires has-requires-2 returns returns-2)
+pub is_open_spec : {M : Type 1} → statement M
+is_open_spec = tie.close (tie.spec has-requires has-requires-2 returns returns_2)

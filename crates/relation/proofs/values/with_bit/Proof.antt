@@ -2,7 +2,7 @@
 use mathlib.Core.Path.{ap}
 use lib.Bits.{bit_and}
 use borrow.Author.Rules.{rules}
-use Rattle.relation.specs.Inner.Members.{withBit}
+use Rattle.relation.specs.Inner.Members.{with_bit}
 use Rattle.relation.proofs.values.with_bit.Statement.{statement}
 use Rattle.relation.proofs.values.with_bit.Tie as tie
 
@@ -10,8 +10,8 @@ column-requires : tie.Need-column-requires
 column-requires c κs = search rules
 
 returns : tie.Need-returns
-unfolding withBit
+unfolding with_bit
 returns c = ap (bit_and c.before.args.set) c.column.ensures
 
-pub with-bit-spec : {M : Type 1} → statement M
-with-bit-spec = tie.close (tie.spec column-requires returns)
+pub with_bit_spec : {M : Type 1} → statement M
+with_bit_spec = tie.close (tie.spec column-requires returns)

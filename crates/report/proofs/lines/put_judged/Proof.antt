@@ -1,6 +1,6 @@
 -- `put_judged` meets its contract: the word, the cells after their name, and the end of the line.
 use native.Mathlib.Omega.{arith}
-use Rattle.report.specs.Lines.{longestWord, judgedLine}
+use Rattle.report.specs.Lines.{longest_word, judged_line}
 use Rattle.base.proofs.Stores.{puts, at_most}
 use borrow.Author.Rules.{rules}
 use Rattle.report.proofs.lines.put_judged.Statement.{statement}
@@ -22,14 +22,14 @@ same_length : tie.Need-same-length
 same_length c = search rules
 
 returns : tie.Need-returns
-unfolding judgedLine
+unfolding judged_line
 returns c =
     let start = c.before.before.before.before.before.before.before.before.before.before.before in
-    let word = at_most longestWord start.put-text.ensures start.before.before.before.before.requires in
+    let word = at_most longest_word start.put-text.ensures start.before.before.before.before.requires in
     puts (puts word c.before.before.before.before.before.before.put-named.ensures) (at_most 1 c.before.before.put_byte.ensures (omega arith))
 
-pub put-judged-spec : {M : Type 1} → statement M
-put-judged-spec =
+pub put_judged_spec : {M : Type 1} → statement M
+put_judged_spec =
     tie.close
     (tie.spec
     put-text-requires

@@ -1,5 +1,5 @@
 -- `put_result` meets its contract: the counts, the word of the mark, and the line of the stage.
-use Rattle.report.specs.Lines.{longestWord, resultLines}
+use Rattle.report.specs.Lines.{longest_word, result_lines}
 use Rattle.base.proofs.Stores.{puts, at_most}
 use borrow.Author.Rules.{rules}
 use Rattle.report.proofs.lines.put_result.Statement.{statement}
@@ -18,15 +18,15 @@ same_length : tie.Need-same-length
 same_length c = search rules
 
 returns : tie.Need-returns
-unfolding resultLines
+unfolding result_lines
 returns c =
     let counts = c.before.before.before.before.before.before.before.before.before.before in
     let short = counts.before.before.before.before.before.requires in
-    let word = at_most longestWord c.before.before.before.before.before.before.put-text.ensures short in
+    let word = at_most longest_word c.before.before.before.before.before.before.put-text.ensures short in
     puts (puts counts.put-counts.ensures word) c.before.before.put-shown-line.ensures
 
-pub put-result-spec : {M : Type 1} → statement M
-put-result-spec =
+pub put_result_spec : {M : Type 1} → statement M
+put_result_spec =
     tie.close
     (tie.spec
     put-counts-requires

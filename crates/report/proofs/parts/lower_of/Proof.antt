@@ -6,8 +6,8 @@ use Rattle.report.proofs.parts.lower_of.Tie as tie
 returns : tie.Need-returns
 returns c = (omega arith, omega arith)
 
-returns-2 : tie.Need-returns-2
-returns-2 c = (omega arith, omega arith)
+returns_2 : tie.Need-returns-2
+returns_2 c = (omega arith, omega arith)
 
-pub lower-of-spec : {M : Type 1} → statement M
-lower-of-spec = tie.close (tie.spec returns returns-2)
+pub lower_of_spec : {M : Type 1} → statement M
+lower_of_spec = tie.close (tie.spec returns returns_2)

@@ -1,5 +1,5 @@
 -- `put_counts` meets its contract: three numbers, each after its name.
-use Rattle.report.specs.Lines.{countsOf}
+use Rattle.report.specs.Lines.{counts_of}
 use Rattle.base.proofs.Stores.{puts}
 use borrow.Author.Rules.{rules}
 use Rattle.report.proofs.parts.put_counts.Statement.{statement}
@@ -27,14 +27,14 @@ same_length : tie.Need-same-length
 same_length c = search rules
 
 returns : tie.Need-returns
-unfolding countsOf
+unfolding counts_of
 returns c =
     let x = c.before.before.before.before.before.before.before.before.before.before.before.before.put-named.ensures in
     let y = c.before.before.before.before.before.before.before.put-named2.ensures in
     puts (puts x y) c.before.before.put-named3.ensures
 
-pub put-counts-spec : {M : Type 1} → statement M
-put-counts-spec =
+pub put_counts_spec : {M : Type 1} → statement M
+put_counts_spec =
     tie.close
     (tie.spec
     slice-aggregate-put-named

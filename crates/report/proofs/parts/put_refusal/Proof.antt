@@ -1,5 +1,5 @@
 -- `put_refusal` meets its contract: two numbers, each after its name.
-use Rattle.report.specs.Lines.{refusalText}
+use Rattle.report.specs.Lines.{refusal_text}
 use Rattle.base.proofs.Stores.{puts}
 use borrow.Author.Rules.{rules}
 use Rattle.report.proofs.parts.put_refusal.Statement.{statement}
@@ -24,12 +24,12 @@ same_length : tie.Need-same-length
 same_length c = search rules
 
 returns : tie.Need-returns
-unfolding refusalText
+unfolding refusal_text
 returns c =
     puts c.before.before.before.before.before.before.before.put-named.ensures c.before.before.put-named2.ensures
 
-pub put-refusal-spec : {M : Type 1} → statement M
-put-refusal-spec =
+pub put_refusal_spec : {M : Type 1} → statement M
+put_refusal_spec =
     tie.close
     (tie.spec
     cast-number

@@ -1,6 +1,6 @@
 -- `put_refusal_line` meets its contract: the word for what is refused, the refusal, and the end of the line.
 use native.Mathlib.Omega.{arith}
-use Rattle.report.specs.Lines.{longestWord, refusalLine}
+use Rattle.report.specs.Lines.{longest_word, refusal_line}
 use Rattle.base.proofs.Stores.{puts, at_most}
 use borrow.Author.Rules.{rules}
 use Rattle.report.proofs.parts.put_refusal_line.Statement.{statement}
@@ -19,13 +19,13 @@ same_length : tie.Need-same-length
 same_length c = search rules
 
 returns : tie.Need-returns
-unfolding refusalLine
+unfolding refusal_line
 returns c =
     let start = c.before.before.before.before.before.before.before.before.before.before in
-    let word = at_most longestWord start.put-text.ensures start.before.before.before.before.requires.0 in
+    let word = at_most longest_word start.put-text.ensures start.before.before.before.before.requires.0 in
     puts (puts word c.before.before.before.before.before.before.put-refusal.ensures) (at_most 1 c.before.before.put_byte.ensures (omega arith))
 
-pub put-refusal-line-spec : {M : Type 1} → statement M
-put-refusal-line-spec =
+pub put_refusal_line_spec : {M : Type 1} → statement M
+put_refusal_line_spec =
     tie.close
     (tie.spec put-text-requires put-refusal-requires put-byte-requires same_length returns)

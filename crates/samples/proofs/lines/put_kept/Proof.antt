@@ -1,7 +1,7 @@
 -- `put_kept` meets its contract: the text by the test of the buffer.
 use native.Mathlib.Omega.{arith}
 use Rattle.base.proofs.Stores.{at_most}
-use Rattle.samples.specs.Inner.Lengths.{longestKept}
+use Rattle.samples.specs.Inner.Lengths.{longest_kept}
 use borrow.Author.Rules.{rules}
 use Rattle.samples.proofs.lines.put_kept.Statement.{statement}
 use Rattle.samples.proofs.lines.put_kept.Tie as tie
@@ -22,7 +22,7 @@ returns : tie.Need-returns
 returns c =
     let p = c.before.before.put-text.ensures in
     let t = c.before.before.before.before.before in
-    rw (← t.before.is-filled.ensures, t.if1.true) (at_most longestKept p (omega arith))
+    rw (← t.before.is-filled.ensures, t.if1.true) (at_most longest_kept p (omega arith))
 
 slice-aggregate-put-text-2 : tie.Need-slice-aggregate-put-text-2
 slice-aggregate-put-text-2 c = search rules
@@ -33,14 +33,14 @@ put-text-requires-2 c κs = search rules
 same-length-2 : tie.Need-same-length-2
 same-length-2 c = search rules
 
-returns-2 : tie.Need-returns-2
-returns-2 c =
+returns_2 : tie.Need-returns-2
+returns_2 c =
     let p = c.before.before.put-text2.ensures in
     let t = c.before.before.before.before.before in
-    rw (← t.before.is-filled.ensures, t.if1.false) (at_most longestKept p (omega arith))
+    rw (← t.before.is-filled.ensures, t.if1.false) (at_most longest_kept p (omega arith))
 
-pub put-kept-spec : {M : Type 1} → statement M
-put-kept-spec =
+pub put_kept_spec : {M : Type 1} → statement M
+put_kept_spec =
     tie.close
     (tie.spec
     is-filled-requires
@@ -51,4 +51,4 @@ put-kept-spec =
     slice-aggregate-put-text-2
     put-text-requires-2
     same-length-2
-    returns-2)
+    returns_2)

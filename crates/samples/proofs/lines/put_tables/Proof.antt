@@ -1,5 +1,5 @@
 -- `put_tables` meets its contract: four numbers, each with its space.
-use Rattle.samples.specs.Inner.Lines.{tablesText}
+use Rattle.samples.specs.Inner.Lines.{tables_text}
 use Rattle.base.proofs.Stores.{puts}
 use borrow.Author.Rules.{rules}
 use Rattle.samples.proofs.lines.put_tables.Statement.{statement}
@@ -33,15 +33,15 @@ same_length : tie.Need-same-length
 same_length c = search rules
 
 returns : tie.Need-returns
-unfolding tablesText
+unfolding tables_text
 returns c =
     let x = c.before.before.before.before.before.before.before.before.before.before.before.before.before.before.put-spaced.ensures in
     let y = c.before.before.before.before.before.before.before.before.before.before.put-spaced2.ensures in
     let z = c.before.before.before.before.before.before.put-spaced3.ensures in
     puts (puts (puts x y) z) c.before.before.put-spaced4.ensures
 
-pub put-tables-spec : {M : Type 1} → statement M
-put-tables-spec =
+pub put_tables_spec : {M : Type 1} → statement M
+put_tables_spec =
     tie.close
     (tie.spec
     array-read-put-spaced

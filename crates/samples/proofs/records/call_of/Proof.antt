@@ -15,17 +15,17 @@ returns : tie.Need-returns
 unfolding call_of
 returns c = sym (ap call_of c.match.keys1)
 
-returns-2 : tie.Need-returns-2
+returns_2 : tie.Need-returns-2
 unfolding call_of
-returns-2 c = sym (ap call_of c.match.keys2)
+returns_2 c = sym (ap call_of c.match.keys2)
 
-returns-3 : tie.Need-returns-3
+returns_3 : tie.Need-returns-3
 unfolding call_of
-returns-3 c = sym (ap call_of c.match.keys3)
+returns_3 c = sym (ap call_of c.match.keys3)
 
-returns-4 : tie.Need-returns-4
+returns_4 : tie.Need-returns-4
 unfolding call_of
-returns-4 c = sym (ap call_of c.match.keys4)
+returns_4 c = sym (ap call_of c.match.keys4)
 
 returns-5 : tie.Need-returns-5
 unfolding call_of
@@ -34,5 +34,5 @@ returns-5 c = sym (ap call_of c.match.keys5)
 returns-6 : tie.Need-returns-6
 returns-6 c = let r = c.match.rest in sym (stays _ r.0.0.0.0.1 r.0.0.0.1 r.0.0.1 r.0.1 r.1)
 
-pub call-of-spec : {M : Type 1} → statement M
-call-of-spec = tie.close (tie.spec returns returns-2 returns-3 returns-4 returns-5 returns-6)
+pub call_of_spec : {M : Type 1} → statement M
+call_of_spec = tie.close (tie.spec returns returns_2 returns_3 returns_4 returns-5 returns-6)

@@ -31,12 +31,12 @@ returns c =
 slice-aggregate-result : tie.Need-slice-aggregate-result
 slice-aggregate-result c = search rules
 
-returns-2 : tie.Need-returns-2
+returns_2 : tie.Need-returns-2
 unfolding part_of
-returns-2 c = simp (lt-leb _ _ c.before.if1.false)
+returns_2 c = simp (lt-leb _ _ c.before.if1.false)
 
-pub part-spec : {M : Type 1} → statement M
-part-spec =
+pub part_spec : {M : Type 1} → statement M
+part_spec =
     tie.close
     (tie.spec
     add-end
@@ -45,4 +45,4 @@ part-spec =
     part-result-end
     returns
     slice-aggregate-result
-    returns-2)
+    returns_2)

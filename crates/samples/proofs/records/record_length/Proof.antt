@@ -1,17 +1,17 @@
--- `record_length` meets its contract: each arm is the case of `recordLength` for its call.
+-- `record_length` meets its contract: each arm is the case of `record_length` for its call.
 use Prim.Native.Nat.{ℕ, ◌+◌, ◌≤◌}
 use mathlib.Core.Path.{◌≡◌, ap, ◌∙◌}
 use native.Mathlib.Omega.{arith}
 use borrow.Author.Rules.{rules}
 use borrow.Author.Tests.{ne_eqb}
-use Rattle.samples.specs.Inner.Lengths.{longestPart, longestRecord}
-use Rattle.samples.specs.Inner.Records.{call_of, recordLength}
+use Rattle.samples.specs.Inner.Lengths.{longest_part, longest_record}
+use Rattle.samples.specs.Inner.Records.{call_of, record_length}
 use Rattle.samples.proofs.records.record_length.Statement.{statement}
 use Rattle.samples.proofs.records.record_length.Tie as tie
 
 -- a head of so many bytes, and a part of the length that is told
-told : {length part two : ℕ} (head : ℕ) → 1 ≤ head → head ≤ 11 → (part ≡ two) × (part ≤ longestPart) → length ≡ head + two
-    → (head + part ≡ length) × (1 ≤ head + part) × (head + part ≤ longestRecord)
+told : {length part two : ℕ} (head : ℕ) → 1 ≤ head → head ≤ 11 → (part ≡ two) × (part ≤ longest_part) → length ≡ head + two
+    → (head + part ≡ length) × (1 ≤ head + part) × (head + part ≤ longest_record)
 told head low high l e = (omega arith, omega arith, omega arith)
 
 byte-at-requires : tie.Need-byte-at-requires
@@ -84,12 +84,12 @@ add-result-7 : tie.Need-overflow-add-result-7
 add-result-7 c = search rules
 
 returns : tie.Need-returns
-unfolding recordLength
+unfolding record_length
 returns c = told _ (omega arith) (omega arith) c.length_at.ensures (simp (← (c.before.before.call-of.ensures ∙ ap call_of c.before.before.before.byte_at.ensures), c.before.match.keys1) (omega arith))
 
-returns-2 : tie.Need-returns-2
-unfolding recordLength
-returns-2 c =
+returns_2 : tie.Need-returns-2
+unfolding record_length
+returns_2 c =
     let k = c.before.length-at2.ensures in
     let l = c.length-at3.ensures in (
       simp (← (c.before.before.before.call-of.ensures ∙ ap call_of c.before.before.before.before.byte_at.ensures), c.before.before.match.keys2) (omega (arith, k.0, l.0)),
@@ -97,24 +97,24 @@ returns-2 c =
       omega (arith, k.1, l.1),
     )
 
-returns-3 : tie.Need-returns-3
-unfolding recordLength
-returns-3 c = (simp (← (c.before.call-of.ensures ∙ ap call_of c.before.before.byte_at.ensures), c.match.keys3), omega arith, omega arith)
+returns_3 : tie.Need-returns-3
+unfolding record_length
+returns_3 c = (simp (← (c.before.call-of.ensures ∙ ap call_of c.before.before.byte_at.ensures), c.match.keys3), omega arith, omega arith)
 
-returns-4 : tie.Need-returns-4
-unfolding recordLength
-returns-4 c = (simp (← (c.before.call-of.ensures ∙ ap call_of c.before.before.byte_at.ensures), c.match.keys4), omega arith, omega arith)
+returns_4 : tie.Need-returns-4
+unfolding record_length
+returns_4 c = (simp (← (c.before.call-of.ensures ∙ ap call_of c.before.before.byte_at.ensures), c.match.keys4), omega arith, omega arith)
 
 returns-5 : tie.Need-returns-5
-unfolding recordLength
+unfolding record_length
 returns-5 c = told _ (omega arith) (omega arith) c.length-at4.ensures (simp (← (c.before.before.call-of.ensures ∙ ap call_of c.before.before.before.byte_at.ensures), c.before.match.keys5) (omega arith))
 
 returns-6 : tie.Need-returns-6
-unfolding recordLength
+unfolding record_length
 returns-6 c = told _ (omega arith) (omega arith) c.length-at5.ensures (simp (← (c.before.before.call-of.ensures ∙ ap call_of c.before.before.before.byte_at.ensures), c.before.match.keys6) (omega arith))
 
 returns-7 : tie.Need-returns-7
-unfolding recordLength
+unfolding record_length
 returns-7 c =
     let k = c.before.length-at6.ensures in
     let l = c.length-at7.ensures in (
@@ -124,7 +124,7 @@ returns-7 c =
     )
 
 returns-8 : tie.Need-returns-8
-unfolding recordLength
+unfolding record_length
 returns-8 c =
     let r = c.match.rest in (
       simp (
@@ -141,8 +141,8 @@ returns-8 c =
       omega arith,
     )
 
-pub record-length-spec : {M : Type 1} → statement M
-record-length-spec =
+pub record_length_spec : {M : Type 1} → statement M
+record_length_spec =
     tie.close
     (tie.spec
     byte-at-requires
@@ -169,9 +169,9 @@ record-length-spec =
     length-at-requires-7
     add-result-7
     returns
-    returns-2
-    returns-3
-    returns-4
+    returns_2
+    returns_3
+    returns_4
     returns-5
     returns-6
     returns-7

@@ -2,8 +2,8 @@
 use Prim.Native.Nat.{◌+◌, ◌*◌}
 use mathlib.Core.Path.{◌≡◌, ap, ◌∙◌}
 use native.Mathlib.Omega.{arith}
-use Rattle.base.proofs.Tabulate.{tabulate-four}
-use Rattle.samples.specs.Inner.Records.{eightAt}
+use Rattle.base.proofs.Tabulate.{tabulate_four}
+use Rattle.samples.specs.Inner.Records.{eight_at}
 use borrow.Author.Rules.{rules}
 use Rattle.samples.proofs.records.tables_at.Statement.{statement}
 use Rattle.samples.proofs.records.tables_at.Tie as tie
@@ -33,12 +33,12 @@ returns : tie.Need-returns
 returns c =
     let a = c.before.before.before.before.before.args in
     let z : a.from ≡ a.from + 8 * 0 = omega arith in
-    let first = c.before.before.before.u64-at.ensures ∙ ap (eightAt a.s.now) z in
+    let first = c.before.before.before.u64-at.ensures ∙ ap (eight_at a.s.now) z in
     let second = c.before.before.u64-at2.ensures in
-    tabulate-four (λ i. eightAt a.s.now (a.from + 8 * i)) first second c.before.u64-at3.ensures c.u64-at4.ensures
+    tabulate_four (λ i. eight_at a.s.now (a.from + 8 * i)) first second c.before.u64-at3.ensures c.u64-at4.ensures
 
-pub tables-at-spec : {M : Type 1} → statement M
-tables-at-spec =
+pub tables_at_spec : {M : Type 1} → statement M
+tables_at_spec =
     tie.close
     (tie.spec
     u64-at-requires

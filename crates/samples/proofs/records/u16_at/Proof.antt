@@ -29,8 +29,8 @@ add-result c = search rules
 returns : tie.Need-returns
 returns c = ap₂ (λ (low high : ℕ). low + 256 * high) c.before.byte_at.ensures c.byte-at2.ensures
 
-pub u16-at-spec : {M : Type 1} → statement M
-u16-at-spec =
+pub u16_at_spec : {M : Type 1} → statement M
+u16_at_spec =
     tie.close
     (tie.spec
     byte-at-requires

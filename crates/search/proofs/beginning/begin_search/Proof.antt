@@ -4,27 +4,27 @@ use mathlib.Core.Bool.{cond}
 use native.Mathlib.Omega.{arith}
 use mir.Val.{Fits}
 use mir.Syntax.{w32}
-use Rattle.sheet.specs.Limits.{maxPatterns}
-use Rattle.table.specs.Inner.Pairs.{narrowPatterns}
-use Rattle.parts.specs.Inner.Boards.{boardIn, lentInputs, lentCount, lentWide}
-use Rattle.parts.proofs.Lending.{board-small}
-use Rattle.visits.proofs.StateChanges.{begun-held, begun-state}
-use Rattle.search.proofs.Beginnings.{count_small, seen-whole, seen-told}
+use Rattle.sheet.specs.Limits.{max_patterns}
+use Rattle.table.specs.Inner.Pairs.{narrow_patterns}
+use Rattle.parts.specs.Inner.Boards.{board_in, lent_inputs, lent_count, lent_wide}
+use Rattle.parts.proofs.Lending.{board_small}
+use Rattle.visits.proofs.StateChanges.{begun_held, begun_state}
+use Rattle.search.proofs.Beginnings.{count_small, seen_whole, seen_told}
 use borrow.Author.Rules.{rules}
 use Rattle.search.proofs.beginning.begin_search.Statement.{statement}
 use Rattle.search.proofs.beginning.begin_search.Tie as tie
 use Rattle.search.proofs.beginning.begin_search.Reads as reads
 use Rattle.search.proofs.beginning.begin_search.Lts as lts
-use Rattle.by_value.proofs.whole_of.Reads as whole-of-reads
-use Rattle.parts.proofs.boards.is_wide.Reads as is-wide-reads
-use Rattle.search.proofs.beginning.seen_of.Reads as seen-of-reads
-use Rattle.visits.proofs.states.begin.Reads as begin-reads
+use Rattle.by_value.proofs.whole_of.Reads as whole_of_reads
+use Rattle.parts.proofs.boards.is_wide.Reads as is_wide_reads
+use Rattle.search.proofs.beginning.seen_of.Reads as seen_of_reads
+use Rattle.visits.proofs.states.begin.Reads as begin_reads
 
 element-copy-out-is-wide : tie.Need-element-copy-out-is-wide
 element-copy-out-is-wide c = search rules
 
 cast-is-wide : tie.Need-overflow-cast-is-wide
-cast-is-wide c = omega (arith, board-small c.before.requires.0)
+cast-is-wide c = omega (arith, board_small c.before.requires.0)
 
 is-wide-requires : tie.Need-is-wide-requires
 is-wide-requires c κs = search rules
@@ -39,26 +39,26 @@ cast-whole-of : tie.Need-overflow-cast-whole-of
 cast-whole-of c = omega (arith, count_small c.before.before.before.before.requires.0)
 
 whole-of-requires : tie.Need-whole-of-requires
-whole-of-requires c κs = rw c.before.seen_of.ensures (seen-whole c.before.before.is_wide.result)
+whole-of-requires c κs = rw c.before.seen_of.ensures (seen_whole c.before.before.is_wide.result)
 
 begin-requires : tie.Need-begin-requires
 begin-requires c κs = search rules
 
 returns : tie.Need-returns
-unfolding boardIn lentCount
+unfolding board_in lent_count
 returns c = let b = c.before.before.before.before.before.before.before.before in
     let q = b.requires in
     let g = c.begin.ensures in
     let budget : Fits w32 b.args.budget = search rules in (
-      begun-held g budget.fits,
+      begun_held g budget.fits,
       g.paid,
       g.rest,
-      begun-state g,
-      seen-told (lentInputs b.args.e.now) (lentWide b.args.e.now) b.args.sets.now g c.before.before.before.whole_of.ensures q.0.count (c.before.before.before.before.before.seen_of.ensures ∙ ap (λ w. cond w maxPatterns narrowPatterns) c.before.before.before.before.before.before.is_wide.ensures),
+      begun_state g,
+      seen_told (lent_inputs b.args.e.now) (lent_wide b.args.e.now) b.args.sets.now g c.before.before.before.whole_of.ensures q.0.count (c.before.before.before.before.before.seen_of.ensures ∙ ap (λ w. cond w max_patterns narrow_patterns) c.before.before.before.before.before.before.is_wide.ensures),
     )
 
-pub begin-search-spec : {M : Type 1} → statement M
-begin-search-spec =
+pub begin_search_spec : {M : Type 1} → statement M
+begin_search_spec =
     tie.close
     (tie.spec
     element-copy-out-is-wide

@@ -1,16 +1,16 @@
 use Prim.Native.Nat.{◌%◌}
 use native.Mathlib.Omega.{arith}
 use lib.ListN.{get_or}
-use Rattle.table.specs.Inner.Ranks.{narrowSpace}
-use Rattle.parts.specs.Inner.States.{restPlace}
-use Rattle.search.proofs.PickTables.{joined-fits}
+use Rattle.table.specs.Inner.Ranks.{narrow_space}
+use Rattle.parts.specs.Inner.States.{rest_place}
+use Rattle.search.proofs.PickTables.{joined_fits}
 use borrow.Author.Rules.{rules}
 use Rattle.search.proofs.quick_solver.table_at.Statement.{statement}
 use Rattle.search.proofs.quick_solver.table_at.Tie as tie
 use Rattle.search.proofs.quick_solver.table_at.Reads as reads
 use Rattle.search.proofs.quick_solver.table_at.Lts as lts
-use Rattle.parts.proofs.picks.side_in.Reads as side-in-reads
-use Rattle.visits.proofs.states.joined.Reads as joined-reads
+use Rattle.parts.proofs.picks.side_in.Reads as side_in_reads
+use Rattle.visits.proofs.states.joined.Reads as joined_reads
 
 side-in-requires : tie.Need-side-in-requires
 side-in-requires c κs = search rules
@@ -52,17 +52,17 @@ add-result c = let a = c.before.before.before.before.before.before.args in
       arith,
       c.joined.ensures,
       c.before.before.before.before.before.side-in.ensures.0,
-      joined-fits (a.found % narrowSpace) (get_or l (restPlace 1) 0) (get_or l (restPlace 2) 0) (get_or l (restPlace 3) 0) a.j (omega arith) c.before.before.before.before.before.before.requires,
+      joined_fits (a.found % narrow_space) (get_or l (rest_place 1) 0) (get_or l (rest_place 2) 0) (get_or l (rest_place 3) 0) a.j (omega arith) c.before.before.before.before.before.before.requires,
     )
 
 returns : tie.Need-returns
 returns c = rw (c.before.before.before.before.if1.true, c.joined.ensures, c.before.before.before.before.before.side-in.ensures.0)
 
-returns-2 : tie.Need-returns-2
-returns-2 c = rw (c.if1.false, c.before.side-in.ensures.0)
+returns_2 : tie.Need-returns-2
+returns_2 c = rw (c.if1.false, c.before.side-in.ensures.0)
 
-pub table-at-spec : {M : Type 1} → statement M
-table-at-spec =
+pub table_at_spec : {M : Type 1} → statement M
+table_at_spec =
     tie.close
     (tie.spec
     side-in-requires
@@ -78,4 +78,4 @@ table-at-spec =
     joined-requires
     add-result
     returns
-    returns-2)
+    returns_2)

@@ -1,4 +1,4 @@
-use Rattle.sheet.specs.Inner.Gathering.{gatheredReply}
+use Rattle.sheet.specs.Inner.Gathering.{gathered_reply}
 use Rattle.sheet.proofs.Fields.{nothing}
 use borrow.Author.Rules.{rules}
 use Rattle.sheet.proofs.Reply.refusal.Statement.{statement}
@@ -8,8 +8,8 @@ fresh-requires : tie.Need-fresh-requires
 fresh-requires c κs = search rules
 
 returns : tie.Need-returns
-unfolding gatheredReply
+unfolding gathered_reply
 returns c = simp (c.fresh.ensures, nothing)
 
-pub refusal-spec : {M : Type 1} → statement M
-refusal-spec = tie.close (tie.spec fresh-requires returns)
+pub refusal_spec : {M : Type 1} → statement M
+refusal_spec = tie.close (tie.spec fresh-requires returns)

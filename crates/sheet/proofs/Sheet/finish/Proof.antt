@@ -1,7 +1,7 @@
 use mathlib.Core.Path.{ap, ◌∙◌}
 use Rattle.sheet.specs.Judged.{refused}
-use Rattle.sheet.specs.Inner.Gathering.{gatheredReply}
-use Rattle.sheet.proofs.Judging.{end-trailing, end-missing, end-accepted}
+use Rattle.sheet.specs.Inner.Gathering.{gathered_reply}
+use Rattle.sheet.proofs.Judging.{end_trailing, end_missing, end_accepted}
 use borrow.Author.Rules.{rules}
 use Rattle.sheet.proofs.Sheet.finish.Statement.{statement}
 use Rattle.sheet.proofs.Sheet.finish.Tie as tie
@@ -15,8 +15,8 @@ refusal-requires c κs = search rules
 returns : tie.Need-returns
 returns c before s e n l =
     let a = c.before.before.before.args in
-    c.refusal.ensures ∙ ap (λ f. gatheredReply (refused f)) c.before.at.ensures
-    ∙ end-trailing before a.self e n s a.to (rw l at c.before.before.if1.true)
+    c.refusal.ensures ∙ ap (λ f. gathered_reply (refused f)) c.before.at.ensures
+    ∙ end_trailing before a.self e n s a.to (rw l at c.before.before.if1.true)
 
 patterns-of-requires : tie.Need-patterns-of-requires
 patterns-of-requires c κs = search rules
@@ -33,21 +33,21 @@ at-requires-2 c κs = search rules
 refusal-requires-2 : tie.Need-refusal-requires-2
 refusal-requires-2 c κs = search rules
 
-returns-2 : tie.Need-returns-2
-returns-2 c before s e n l =
+returns_2 : tie.Need-returns-2
+returns_2 c before s e n l =
     let a = c.before.before.before.before.before.before.before.args in
-    c.refusal2.ensures ∙ ap (λ f. gatheredReply (refused f)) c.before.at2.ensures
-    ∙ end-missing before a.self e n s a.to (rw l at c.before.before.before.before.before.before.if1.false)
+    c.refusal2.ensures ∙ ap (λ f. gathered_reply (refused f)) c.before.at2.ensures
+    ∙ end_missing before a.self e n s a.to (rw l at c.before.before.before.before.before.before.if1.false)
     _ _ c.before.before.before.before.patterns-of.ensures.0 c.before.before.before.missing.ensures c.before.before.if2.true
 
 accept-requires : tie.Need-accept-requires
 accept-requires c κs = search rules
 
-returns-3 : tie.Need-returns-3
-returns-3 c before s e n l =
+returns_3 : tie.Need-returns-3
+returns_3 c before s e n l =
     let a = c.before.before.before.before.before.before.args in
     c.accept.ensures
-    ∙ end-accepted before a.self e n s a.to (rw l at c.before.before.before.before.before.if1.false)
+    ∙ end_accepted before a.self e n s a.to (rw l at c.before.before.before.before.before.if1.false)
     _ _ c.before.before.before.patterns-of.ensures.0 c.before.before.missing.ensures c.before.if2.false
 
 pub finish_spec : {M : Type 1} → statement M
@@ -62,6 +62,6 @@ finish_spec =
     missing-requires
     at-requires-2
     refusal-requires-2
-    returns-2
+    returns_2
     accept-requires
-    returns-3)
+    returns_3)

@@ -11,5 +11,5 @@ returns : tie.Need-returns
 unfolding gathered tabulate meet collect
 returns c = rw c.all_ones.ensures
 
-pub fresh-spec : {M : Type 1} → statement M
-fresh-spec = tie.close (tie.spec all-ones-requires returns)
+pub fresh_spec : {M : Type 1} → statement M
+fresh_spec = tie.close (tie.spec all-ones-requires returns)

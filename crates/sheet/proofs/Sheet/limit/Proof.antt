@@ -1,4 +1,4 @@
-use Rattle.sheet.proofs.Judging.{limit-taken}
+use Rattle.sheet.proofs.Judging.{limit_taken}
 use borrow.Author.Rules.{rules}
 use Rattle.sheet.proofs.Sheet.limit.Statement.{statement}
 use Rattle.sheet.proofs.Sheet.limit.Tie as tie
@@ -18,8 +18,8 @@ element-write-self c = search rules
 returns : tie.Need-returns
 returns c before e =
     let a = c.before.args in
-    limit-taken before 0 a.t1 e a.p a.set c.before.requires
+    limit_taken before 0 a.t1 e a.p a.set c.before.requires
 
-pub limit-spec : {M : Type 1} → statement M
-limit-spec =
+pub limit_spec : {M : Type 1} → statement M
+limit_spec =
     tie.close (tie.spec mul-allowed element-copy-out-allowed mul-self element-write-self returns)

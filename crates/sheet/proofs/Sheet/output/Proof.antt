@@ -2,10 +2,10 @@ use mathlib.Core.Path.{◌≡◌, ap, ◌∙◌}
 use native.Mathlib.Omega.{arith}
 use Prim.Native.Nat.{◌<◌}
 use lib.Dec.{leb}
-use Rattle.sheet.specs.Limits.{maxOutputs}
+use Rattle.sheet.specs.Limits.{max_outputs}
 use Rattle.sheet.specs.Judged.{refused}
-use Rattle.sheet.specs.Inner.Gathering.{gatheredReply, faultOf}
-use Rattle.sheet.proofs.Judging.{outputUnmade, room, output-refused, output-taken}
+use Rattle.sheet.specs.Inner.Gathering.{gathered_reply, fault_of}
+use Rattle.sheet.proofs.Judging.{output_unmade, room, output_refused, output_taken}
 use borrow.Author.Rules.{rules}
 use Rattle.sheet.proofs.Sheet.output.Statement.{statement}
 use Rattle.sheet.proofs.Sheet.output.Tie as tie
@@ -13,12 +13,12 @@ use Rattle.sheet.proofs.Sheet.output.Tie as tie
 -- the fault found, on the sheet
 found : (c : tie.After-fault-of)
     → let a = c.before.before.args in
-    c.fault-of.result ≡ faultOf (outputUnmade a.t1 a.s) (leb maxOutputs a.t1.output_count)
+    c.fault-of.result ≡ fault_of (output_unmade a.t1 a.s) (leb max_outputs a.t1.output_count)
 found c = rw (c.fault-of.ensures, c.before.signals-made.ensures)
 
 -- so there is room for an output more
-left-room : (c : tie.After-fault-of) → c.fault-of.result ≡ 0 → c.before.before.args.t1.output_count < maxOutputs
-left-room c = room (leb c.before.signals-made.result c.before.before.args.s) maxOutputs _ _ c.fault-of.ensures
+left_room : (c : tie.After-fault-of) → c.fault-of.result ≡ 0 → c.before.before.args.t1.output_count < max_outputs
+left_room c = room (leb c.before.signals-made.result c.before.before.args.s) max_outputs _ _ c.fault-of.ensures
 
 signals-made-requires : tie.Need-signals-made-requires
 signals-made-requires c κs = search rules
@@ -36,29 +36,29 @@ returns : tie.Need-returns
 returns c before e =
     let k = c.before.before.before in
     let a = k.before.before.args in
-    c.refusal.ensures ∙ ap (λ f. gatheredReply (refused f)) c.before.at.ensures
-    ∙ output-refused before a.at a.t1 e a.s _ (found k) c.before.before.if1.true
+    c.refusal.ensures ∙ ap (λ f. gathered_reply (refused f)) c.before.at.ensures
+    ∙ output_refused before a.at a.t1 e a.s _ (found k) c.before.before.if1.true
 
 cast-i : tie.Need-overflow-cast-i
 cast-i c = search rules
 
 element-write-self : tie.Need-element-write-self
-element-write-self c = omega (arith, left-room c.before c.if1.false)
+element-write-self c = omega (arith, left_room c.before c.if1.false)
 
 add-self : tie.Need-overflow-add-self
-add-self c = omega (arith, left-room c.before c.if1.false)
+add-self c = omega (arith, left_room c.before c.if1.false)
 
 accept-requires : tie.Need-accept-requires
 accept-requires c κs = search rules
 
-returns-2 : tie.Need-returns-2
-returns-2 c before e =
+returns_2 : tie.Need-returns-2
+returns_2 c before e =
     let k = c.before.before in
     let a = k.before.before.args in
-    c.accept.ensures ∙ output-taken before a.at a.t1 e a.s _ (found k) c.before.if1.false
+    c.accept.ensures ∙ output_taken before a.at a.t1 e a.s _ (found k) c.before.if1.false
 
-pub output-spec : {M : Type 1} → statement M
-output-spec =
+pub output_spec : {M : Type 1} → statement M
+output_spec =
     tie.close
     (tie.spec
     signals-made-requires
@@ -70,4 +70,4 @@ output-spec =
     element-write-self
     add-self
     accept-requires
-    returns-2)
+    returns_2)

@@ -1,7 +1,7 @@
 use mathlib.Core.Path.{ap, ◌∙◌}
 use Rattle.sheet.specs.Judged.{refused}
-use Rattle.sheet.specs.Inner.Gathering.{gatheredReply}
-use Rattle.sheet.proofs.Judging.{row-repeated, row-taken}
+use Rattle.sheet.specs.Inner.Gathering.{gathered_reply}
+use Rattle.sheet.proofs.Judging.{row_repeated, row_taken}
 use borrow.Author.Rules.{rules}
 use Rattle.sheet.proofs.Sheet.row.Statement.{statement}
 use Rattle.sheet.proofs.Sheet.row.Tie as tie
@@ -18,8 +18,8 @@ refusal-requires c κs = search rules
 returns : tie.Need-returns
 returns c before e =
     let a = c.before.before.before.before.args in
-    c.refusal.ensures ∙ ap (λ f. gatheredReply (refused f)) c.before.at.ensures
-    ∙ row-repeated before a.at a.t1 e a.p c.before.before.before.before.requires a.v c.before.before.if1.true
+    c.refusal.ensures ∙ ap (λ f. gathered_reply (refused f)) c.before.at.ensures
+    ∙ row_repeated before a.at a.t1 e a.p c.before.before.before.before.requires a.v c.before.before.if1.true
 
 element-write-self : tie.Need-element-write-self
 element-write-self c = search rules
@@ -30,13 +30,13 @@ element-write-self-2 c = search rules
 accept-requires : tie.Need-accept-requires
 accept-requires c κs = search rules
 
-returns-2 : tie.Need-returns-2
-returns-2 c before e =
+returns_2 : tie.Need-returns-2
+returns_2 c before e =
     let a = c.before.before.before.args in
-    c.accept.ensures ∙ row-taken before a.at a.t1 e a.p c.before.before.before.requires a.v c.before.if1.false
+    c.accept.ensures ∙ row_taken before a.at a.t1 e a.p c.before.before.before.requires a.v c.before.if1.false
 
-pub row-spec : {M : Type 1} → statement M
-row-spec =
+pub row_spec : {M : Type 1} → statement M
+row_spec =
     tie.close
     (tie.spec
     element-copy-out-if1
@@ -46,4 +46,4 @@ row-spec =
     element-write-self
     element-write-self-2
     accept-requires
-    returns-2)
+    returns_2)

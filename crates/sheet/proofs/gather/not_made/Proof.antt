@@ -5,8 +5,8 @@ use Rattle.sheet.proofs.gather.not_made.Tie as tie
 returns : tie.Need-returns
 returns c = simp (le-leb _ _ c.if1.true)
 
-returns-2 : tie.Need-returns-2
-returns-2 c = simp (lt-leb _ _ c.if1.false)
+returns_2 : tie.Need-returns-2
+returns_2 c = simp (lt-leb _ _ c.if1.false)
 
-pub not-made-spec : {M : Type 1} → statement M
-not-made-spec = tie.close (tie.spec returns returns-2)
+pub not_made_spec : {M : Type 1} → statement M
+not_made_spec = tie.close (tie.spec returns returns_2)

@@ -1,8 +1,8 @@
 use Prim.Native.Nat.{◌^◌}
 use mathlib.Core.Path.{ap, ◌∙◌}
 use lib.Dec.{leb}
-use Rattle.sheet.specs.Limits.{wordPower}
-use Rattle.sheet.proofs.Powers.{beyond-capped}
+use Rattle.sheet.specs.Limits.{word_power}
+use Rattle.sheet.proofs.Powers.{beyond_capped}
 use borrow.Author.Rules.{rules}
 use Rattle.sheet.proofs.limits.bits_past.Statement.{statement}
 use Rattle.sheet.proofs.limits.bits_past.Tie as tie
@@ -17,7 +17,7 @@ returns : tie.Need-returns
 returns c =
     let x = c.before.before.args.x in
     let k = c.before.before.args.k in
-    c.beyond.ensures ∙ ap (λ e. leb (2 ^ e) x) c.before.power.ensures.0 ∙ beyond-capped x wordPower k c.before.before.ranges.x.fits
+    c.beyond.ensures ∙ ap (λ e. leb (2 ^ e) x) c.before.power.ensures.0 ∙ beyond_capped x word_power k c.before.before.ranges.x.fits
 
-pub bits-past-spec : {M : Type 1} → statement M
-bits-past-spec = tie.close (tie.spec power-requires beyond-requires returns)
+pub bits_past_spec : {M : Type 1} → statement M
+bits_past_spec = tie.close (tie.spec power-requires beyond-requires returns)

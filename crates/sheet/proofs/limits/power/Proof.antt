@@ -21,12 +21,12 @@ returns c =
     let e : 1 * 2 ^ k % 2 ^ 8 ≡ 2 ^ k = one_shifted k 8 (omega arith) in
     (e ∙ sym (uncapped most k (omega arith)), omega (arith, e, pow_mono {i = k} {j = most} (omega arith)), λ _. e)
 
-returns-2 : tie.Need-returns-2
-returns-2 c =
+returns_2 : tie.Need-returns-2
+returns_2 c =
     let k = c.before.args.k in
     let most = c.before.args.most in
     let e : 1 * 2 ^ most % 2 ^ 8 ≡ 2 ^ most = one_shifted most 8 (omega arith) in
     (e ∙ sym (capped most k (omega arith)), omega (arith, e), λ h. e ∙ ap (λ x. 2 ^ x) (le_antisymm (omega arith) h))
 
-pub power-spec : {M : Type 1} → statement M
-power-spec = tie.close (tie.spec shl-result shl-result-2 returns returns-2)
+pub power_spec : {M : Type 1} → statement M
+power_spec = tie.close (tie.spec shl-result shl-result-2 returns returns_2)

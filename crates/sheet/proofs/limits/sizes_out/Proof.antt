@@ -11,8 +11,8 @@ count-out-requires-2 c κs = search rules
 returns : tie.Need-returns
 returns c = simp (← c.before.count-out.ensures, c.if1.true)
 
-returns-2 : tie.Need-returns-2
-returns-2 c = simp (← c.before.before.count-out.ensures, c.before.if1.false) c.count-out2.ensures
+returns_2 : tie.Need-returns-2
+returns_2 c = simp (← c.before.before.count-out.ensures, c.before.if1.false) c.count-out2.ensures
 
-pub sizes-out-spec : {M : Type 1} → statement M
-sizes-out-spec = tie.close (tie.spec count-out-requires count-out-requires-2 returns returns-2)
+pub sizes_out_spec : {M : Type 1} → statement M
+sizes_out_spec = tie.close (tie.spec count-out-requires count-out-requires-2 returns returns_2)

@@ -3,9 +3,9 @@ use Prim.Native.Nat.{◌+◌}
 use mathlib.Core.Path.{◌≡◌, sym, ap, ◌∙◌}
 use native.Mathlib.Nat.{zero-add}
 use borrow.Author.Rules.{rules}
-use Rattle.diagram.specs.Diagram.{wiredEntry, entryPrice}
-use Rattle.stage_reader.specs.Inner.Numbers.{entryThere}
-use Rattle.stage_reader.proofs.Costs.{both-constants, first-other, second-other}
+use Rattle.diagram.specs.Diagram.{wired_entry, entry_price}
+use Rattle.stage_reader.specs.Inner.Numbers.{entry_there}
+use Rattle.stage_reader.proofs.Costs.{both_constants, first_other, second_other}
 use Rattle.stage_reader.proofs.diagrams.count_entry.Statement.{statement}
 use Rattle.stage_reader.proofs.diagrams.count_entry.Tie as tie
 
@@ -19,12 +19,12 @@ add-result : tie.Need-overflow-add-result
 add-result c = search rules
 
 returns : tie.Need-returns
-unfolding wiredEntry entryPrice
+unfolding wired_entry entry_price
 returns c =
     let a = c.before.before.args in
-    let e = entryThere a.s.now a.at in
+    let e = entry_there a.s.now a.at in
     let other : e.on_zero ≡ 0 → ⊥ = c.if1.true in
-    ap (λ x. x + a.cells) (sym (first-other e.on_zero e.onOne 0 1 other))
+    ap (λ x. x + a.cells) (sym (first_other e.on_zero e.on_one 0 1 other))
 
 add-if2 : tie.Need-overflow-add-if2
 add-if2 c = search rules
@@ -35,26 +35,26 @@ shared-slice-read-if2 c = search rules
 add-result-2 : tie.Need-overflow-add-result-2
 add-result-2 c = search rules
 
-returns-2 : tie.Need-returns-2
-unfolding wiredEntry entryPrice
-returns-2 c =
+returns_2 : tie.Need-returns-2
+unfolding wired_entry entry_price
+returns_2 c =
     let z = c.before.before in
     let a = z.before.before.args in
-    let e = entryThere a.s.now a.at in
+    let e = entry_there a.s.now a.at in
     let zero : e.on_zero ≡ 0 = z.if1.false in
-    let one : e.onOne ≡ 1 = c.if2.true in
-    sym (zero-add a.cells) ∙ ap (λ x. x + a.cells) (sym (both-constants e.on_zero e.onOne 0 1 zero one))
+    let one : e.on_one ≡ 1 = c.if2.true in
+    sym (zero-add a.cells) ∙ ap (λ x. x + a.cells) (sym (both_constants e.on_zero e.on_one 0 1 zero one))
 
-returns-3 : tie.Need-returns-3
-unfolding wiredEntry entryPrice
-returns-3 c =
+returns_3 : tie.Need-returns-3
+unfolding wired_entry entry_price
+returns_3 c =
     let a = c.before.before.before.before.args in
-    let e = entryThere a.s.now a.at in
-    let other : e.onOne ≡ 1 → ⊥ = c.if2.false in
-    ap (λ x. x + a.cells) (sym (second-other e.on_zero e.onOne 0 1 other))
+    let e = entry_there a.s.now a.at in
+    let other : e.on_one ≡ 1 → ⊥ = c.if2.false in
+    ap (λ x. x + a.cells) (sym (second_other e.on_zero e.on_one 0 1 other))
 
-pub count-entry-spec : {M : Type 1} → statement M
-count-entry-spec =
+pub count_entry_spec : {M : Type 1} → statement M
+count_entry_spec =
     tie.close
     (tie.spec
     add-if1
@@ -64,5 +64,5 @@ count-entry-spec =
     add-if2
     shared-slice-read-if2
     add-result-2
-    returns-2
-    returns-3)
+    returns_2
+    returns_3)

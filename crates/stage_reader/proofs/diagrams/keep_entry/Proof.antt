@@ -1,7 +1,7 @@
 use mathlib.Core.Path.{◌≡◌, refl, ap}
 use borrow.Author.Rules.{rules}
 use lib.ListN.{set}
-use Rattle.stage_reader.specs.Inner.Numbers.{entryThere, tableBy}
+use Rattle.stage_reader.specs.Inner.Numbers.{entry_there, table_by}
 use Rattle.stage_reader.proofs.diagrams.keep_entry.Statement.{statement}
 use Rattle.stage_reader.proofs.diagrams.keep_entry.Tie as tie
 
@@ -53,11 +53,11 @@ element-write-inputs c = search rules
 returns : tie.Need-returns
 returns c =
     let a = c.before.before.before.before.before.before.before.args in
-    let drives : c.select.result ≡ tableBy a.n a.tables.now (entryThere a.s.now a.at) = c.select.ensures in
+    let drives : c.select.result ≡ table_by a.n a.tables.now (entry_there a.s.now a.at) = c.select.ensures in
     (ap (set a.tables.now a.own) drives, refl)
 
-pub keep-entry-spec : {M : Type 1} → statement M
-keep-entry-spec =
+pub keep_entry_spec : {M : Type 1} → statement M
+keep_entry_spec =
     tie.close
     (tie.spec
     shared-slice-read-i

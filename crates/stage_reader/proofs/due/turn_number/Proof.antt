@@ -10,24 +10,24 @@ returns c =
     let a = c.before.args in
     rw (le-leb a.m a.i (omega (arith, c.if1.true)))
 
-returns-2 : tie.Need-returns-2
-returns-2 c =
+returns_2 : tie.Need-returns-2
+returns_2 c =
     let a = c.before.before.args in
     rw (lt-leb a.m a.i c.before.if1.false, c.if2.true)
 
-returns-3 : tie.Need-returns-3
-returns-3 c =
+returns_3 : tie.Need-returns-3
+returns_3 c =
     let e2 = c.before in
     let a = e2.before.before.args in
     let other : a.i ≡ a.j → ⊥ = c.if3.true in
     rw (lt-leb a.m a.i e2.before.if1.false, e2.if2.false, ne_eqb a.i a.j other)
 
-returns-4 : tie.Need-returns-4
-returns-4 c =
+returns_4 : tie.Need-returns-4
+returns_4 c =
     let e2 = c.before in
     let a = e2.before.before.args in
     let same : a.i ≡ a.j = omega (arith, c.if3.false) in
     rw (lt-leb a.m a.i e2.before.if1.false, e2.if2.false, eq-eqb a.i a.j same)
 
-pub turn-number-spec : {M : Type 1} → statement M
-turn-number-spec = tie.close (tie.spec returns returns-2 returns-3 returns-4)
+pub turn_number_spec : {M : Type 1} → statement M
+turn_number_spec = tie.close (tie.spec returns returns_2 returns_3 returns_4)

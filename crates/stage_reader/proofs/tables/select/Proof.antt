@@ -15,5 +15,5 @@ returns c =
     let p = s.requires in
     merged s.args.n s.args.i s.args.off s.args.on _ p.0 p.1 p.2 p.3 p.4 c.input-table.ensures
 
-pub select-spec : {M : Type 1} → statement M
-select-spec = tie.close (tie.spec sub-input-table input-table-requires returns)
+pub select_spec : {M : Type 1} → statement M
+select_spec = tie.close (tie.spec sub-input-table input-table-requires returns)

@@ -1,6 +1,6 @@
 use borrow.Author.Rules.{rules}
 use Rattle.base.proofs.Stores.{put_then}
-use Rattle.stage_writer.proofs.Storing.{one-stored}
+use Rattle.stage_writer.proofs.Storing.{one_stored}
 use Rattle.stage_writer.proofs.common.put_three.Statement.{statement}
 use Rattle.stage_writer.proofs.common.put_three.Tie as tie
 
@@ -20,8 +20,8 @@ returns : tie.Need-returns
 returns c =
     let third = c.before.before in
     let two = third.before.before.before.before in
-    put_then two.put-with-operand.ensures (one-stored third.put.ensures)
+    put_then two.put-with-operand.ensures (one_stored third.put.ensures)
 
-pub put-three-spec : {M : Type 1} → statement M
-put-three-spec =
+pub put_three_spec : {M : Type 1} → statement M
+put_three_spec =
     tie.close (tie.spec put-with-operand-requires put-requires add-result same_length returns)

@@ -1,5 +1,5 @@
 use borrow.Author.Rules.{rules}
-use Rattle.stage_writer.proofs.Storing.{two-stored}
+use Rattle.stage_writer.proofs.Storing.{two_stored}
 use Rattle.stage_writer.proofs.common.put_with_operand.Statement.{statement}
 use Rattle.stage_writer.proofs.common.put_with_operand.Tie as tie
 
@@ -23,8 +23,8 @@ returns c =
     let second = c.before.before in
     let first = second.before.before.before.before in
     let a = first.before.before.before.args in
-    two-stored a.buffer.now _ _ a.at a.command a.operand first.put.ensures second.put2.ensures
+    two_stored a.buffer.now _ _ a.at a.command a.operand first.put.ensures second.put2.ensures
 
-pub put-with-operand-spec : {M : Type 1} → statement M
-put-with-operand-spec =
+pub put_with_operand_spec : {M : Type 1} → statement M
+put_with_operand_spec =
     tie.close (tie.spec put-requires add-put put-requires-2 add-result same_length returns)

@@ -2,7 +2,7 @@ use mathlib.Core.Path.{refl}
 use native.Mathlib.Omega.{arith}
 use lib.ListN.{length-set}
 use borrow.Author.Rules.{rules}
-use Rattle.stage_writer.proofs.Keys.{nodes-added}
+use Rattle.stage_writer.proofs.Keys.{nodes_added}
 use Rattle.stage_writer.proofs.diagrams.add_node.Statement.{statement}
 use Rattle.stage_writer.proofs.diagrams.add_node.Tie as tie
 
@@ -19,7 +19,7 @@ returns : tie.Need-returns
 returns c =
     let a = c.args in
     let l = c.requires.1 in
-    record { nodes = nodes-added a.keys.now a.count a.key (omega arith); one = refl; long = simp length-set l }
+    record { nodes = nodes_added a.keys.now a.count a.key (omega arith); one = refl; long = simp length-set l }
 
-pub add-node-spec : {M : Type 1} → statement M
-add-node-spec = tie.close (tie.spec mul-keys element-write-keys add-result returns)
+pub add_node_spec : {M : Type 1} → statement M
+add_node_spec = tie.close (tie.spec mul-keys element-write-keys add-result returns)

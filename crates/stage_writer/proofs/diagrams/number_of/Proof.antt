@@ -4,84 +4,84 @@ use mathlib.Core.Path.{◌≡◌, refl, sym, ap, ◌∙◌}
 use native.Mathlib.Omega.{arith}
 use borrow.Author.Rules.{rules}
 use lib.Pow.{pow_pos}
-use Rattle.diagram.specs.Written.{nodeNumber, number_of}
-use Rattle.stage_writer.specs.Inner.Keys.{nodesIn}
-use Rattle.stage_writer.proofs.Halves.{low_fits, number_same, number-node}
+use Rattle.diagram.specs.Written.{node_number, number_of}
+use Rattle.stage_writer.specs.Inner.Keys.{nodes_in}
+use Rattle.stage_writer.proofs.Halves.{low_fits, number_same, number_node}
 use Rattle.stage_writer.proofs.diagrams.number_of.Statement.{statement}
 use Rattle.stage_writer.proofs.diagrams.number_of.Tie as tie
 
-abbrev invariant-loop : tie.invariant-loop
-invariant-loop keys count w t left₀ part₀ left part =
-    (left ≤ w) × (part < 2 ^ (2 ^ left)) × (number_of (nodesIn keys count) left part ≡ number_of (nodesIn keys count) w t)
+abbrev invariant_loop : tie.invariant-loop
+invariant_loop keys count w t left₀ part₀ left part =
+    (left ≤ w) × (part < 2 ^ (2 ^ left)) × (number_of (nodes_in keys count) left part ≡ number_of (nodes_in keys count) w t)
 
-abbrev decreases-loop : tie.decreases-loop
-decreases-loop keys count w t left₀ part₀ left part = left
+abbrev decreases_loop : tie.decreases-loop
+decreases_loop keys count w t left₀ part₀ left part = left
 
-loop-holds : tie.Need-loop-init invariant-loop decreases-loop
+loop-holds : tie.Need-loop-init invariant_loop decreases_loop
 loop-holds c = (omega arith, c.requires.2, refl)
 
-sub-after : tie.Need-overflow-sub-after invariant-loop decreases-loop
+sub-after : tie.Need-overflow-sub-after invariant_loop decreases_loop
 sub-after c = omega arith
 
-narrow-half-requires : tie.Need-narrow-half-requires invariant-loop decreases-loop
+narrow-half-requires : tie.Need-narrow-half-requires invariant_loop decreases_loop
 narrow-half-requires c κs = omega arith
 
-rem-low : tie.Need-nonzero-rem-low invariant-loop decreases-loop
+rem-low : tie.Need-nonzero-rem-low invariant_loop decreases_loop
 rem-low c = rw c.narrow-half.ensures (pow_pos _)
 
-div-if1 : tie.Need-nonzero-div-if1 invariant-loop decreases-loop
+div-if1 : tie.Need-nonzero-div-if1 invariant_loop decreases_loop
 div-if1 c = rw c.narrow-half.ensures (pow_pos _)
 
-key-of-requires : tie.Need-key-of-requires invariant-loop decreases-loop
+key-of-requires : tie.Need-key-of-requires invariant_loop decreases_loop
 key-of-requires c κs = search rules
 
-node-number-requires : tie.Need-node-number-requires invariant-loop decreases-loop
+node-number-requires : tie.Need-node-number-requires invariant_loop decreases_loop
 node-number-requires c κs = omega arith
 
-returns : tie.Need-returns invariant-loop decreases-loop
+returns : tie.Need-returns invariant_loop decreases_loop
 returns c =
     let k = c.before in
     let h = k.before.before in
     let l = h.before.before.loop in
     let a = h.before.before.before.args in
-    let ks = nodesIn a.keys.now a.count in
-    c.node-number.ensures ∙ ap (nodeNumber ks) k.key_of.ensures
-    ∙ sym (number-node l.left l.part _ (λ z. absurd (omega arith)) h.narrow-half.ensures ks k.before.if1.true)
+    let ks = nodes_in a.keys.now a.count in
+    c.node-number.ensures ∙ ap (node_number ks) k.key_of.ensures
+    ∙ sym (number_node l.left l.part _ (λ z. absurd (omega arith)) h.narrow-half.ensures ks k.before.if1.true)
     ∙ l.invariant.2
 
-loop-less : tie.Need-loop-smaller invariant-loop decreases-loop
+loop-less : tie.Need-loop-smaller invariant_loop decreases_loop
 loop-less c = omega arith
 
-loop-again : tie.Need-loop-preserved invariant-loop decreases-loop
+loop-again : tie.Need-loop-preserved invariant_loop decreases_loop
 loop-again c =
     let h = c.before in
     let l = h.before.before.loop in
     let a = h.before.before.before.args in (
       omega arith,
       low_fits _ l.part _ h.narrow-half.ensures,
-      sym (number_same l.left l.part _ (λ z. absurd (omega arith)) h.narrow-half.ensures (nodesIn a.keys.now a.count) c.if1.false) ∙ l.invariant.2,
+      sym (number_same l.left l.part _ (λ z. absurd (omega arith)) h.narrow-half.ensures (nodes_in a.keys.now a.count) c.if1.false) ∙ l.invariant.2,
     )
 
-cast-result : tie.Need-overflow-cast-result invariant-loop decreases-loop
+cast-result : tie.Need-overflow-cast-result invariant_loop decreases_loop
 cast-result c =
     let l = c.before.loop in
     let z : l.left ≡ 0 = omega arith in
     let b : l.part < 2 = rw z at l.invariant.1 in
     omega arith
 
-returns-2 : tie.Need-returns-2 invariant-loop decreases-loop
+returns_2 : tie.Need-returns-2 invariant_loop decreases_loop
 unfolding number_of
-returns-2 c =
+returns_2 c =
     let l = c.before.loop in
     let z : l.left ≡ 0 = omega arith in
     rw z at l.invariant.2
 
-pub number-of-spec : {M : Type 1} → statement M
-number-of-spec =
+pub number_of_spec : {M : Type 1} → statement M
+number_of_spec =
     tie.close
     (tie.spec
-    invariant-loop
-    decreases-loop
+    invariant_loop
+    decreases_loop
     loop-holds
     sub-after
     narrow-half-requires
@@ -93,4 +93,4 @@ number-of-spec =
     loop-less
     loop-again
     cast-result
-    returns-2)
+    returns_2)

@@ -3,9 +3,9 @@ use mathlib.Core.Path.{sym}
 use native.Mathlib.Omega.{arith}
 use borrow.Author.Rules.{rules}
 use lib.Pow.{pow_pos}
-use Rattle.stage_writer.specs.Inner.Keys.{nodesIn}
+use Rattle.stage_writer.specs.Inner.Keys.{nodes_in}
 use Rattle.stage_writer.proofs.Halves.{low_fits, high_fits}
-use Rattle.stage_writer.proofs.Entries.{entry-of-key}
+use Rattle.stage_writer.proofs.Entries.{entry_of_key}
 use Rattle.stage_writer.proofs.diagrams.put_entry.Statement.{statement}
 use Rattle.stage_writer.proofs.diagrams.put_entry.Tie as tie
 
@@ -52,10 +52,10 @@ returns c =
     let z = o.before in
     let h = z.before in
     let a = h.before.before.before.args in
-    rw (sym (entry-of-key a.n (nodesIn a.keys.now a.k) _ _ _ _ h.narrow-half.ensures z.number_of.ensures o.number-of2.ensures)) p.put_three.ensures
+    rw (sym (entry_of_key a.n (nodes_in a.keys.now a.k) _ _ _ _ h.narrow-half.ensures z.number_of.ensures o.number-of2.ensures)) p.put_three.ensures
 
-pub put-entry-spec : {M : Type 1} → statement M
-put-entry-spec =
+pub put_entry_spec : {M : Type 1} → statement M
+put_entry_spec =
     tie.close
     (tie.spec
     mul-key

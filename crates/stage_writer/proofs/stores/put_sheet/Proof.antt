@@ -1,6 +1,6 @@
 use borrow.Author.Rules.{rules}
 use Rattle.diagram.specs.Forms.{form_of}
-use Rattle.stage_writer.proofs.Storing.{stage-stored}
+use Rattle.stage_writer.proofs.Storing.{stage_stored}
 use Rattle.stage_writer.proofs.stores.put_sheet.Statement.{statement}
 use Rattle.stage_writer.proofs.stores.put_sheet.Tie as tie
 
@@ -34,11 +34,11 @@ returns c =
     let second = third.before.before.before.before in
     let first = second.before.before.before.before in
     let a = first.before.before.before.args in
-    stage-stored (form_of a.kind) a.buffer.now _ _ _ _ _ a.tables a.n a.m _ first.put.ensures second.put2.ensures third.put3.ensures
+    stage_stored (form_of a.kind) a.buffer.now _ _ _ _ _ a.tables a.n a.m _ first.put.ensures second.put2.ensures third.put3.ensures
     wires.put-wires.ensures end.put4.ensures
 
-pub put-sheet-spec : {M : Type 1} → statement M
-put-sheet-spec =
+pub put_sheet_spec : {M : Type 1} → statement M
+put_sheet_spec =
     tie.close
     (tie.spec
     put-requires

@@ -19,5 +19,5 @@ returns c =
     let q = p.before.before.before.before in
     put_then q.put-with-operand.ensures p.put-tree.ensures
 
-pub put-tree-wire-spec : {M : Type 1} → statement M
-put-tree-wire-spec = tie.close (tie.spec put-with-operand-requires put-tree-requires same_length returns)
+pub put_tree_wire_spec : {M : Type 1} → statement M
+put_tree_wire_spec = tie.close (tie.spec put-with-operand-requires put-tree-requires same_length returns)

@@ -2,12 +2,12 @@
 use mathlib.Core.Path.{◌≡◌, ◌∙◌}
 use native.Mathlib.Omega.{arith}
 use borrow.Author.Rules.{rules}
-use Rattle.table.proofs.Count.{fits-at, cells_at, entry-small, of_one, of_two, of_three, of-four-alike, of-input-one, of_four}
+use Rattle.table.proofs.Count.{fits_at, cells_at, entry_small, of_one, of_two, of_three, of_four_alike, of_input_one, of_four}
 use Rattle.table.proofs.cell_counts.count.Statement.{statement}
 use Rattle.table.proofs.cell_counts.count.Tie as tie
 
 mul-count8 : tie.Need-overflow-mul-count8
-mul-count8 c = omega (arith, fits-at _ c.if1.true c.before.requires.2)
+mul-count8 c = omega (arith, fits_at _ c.if1.true c.before.requires.2)
 
 cast-count8 : tie.Need-overflow-cast-count8
 cast-count8 c = search rules
@@ -21,7 +21,7 @@ returns c =
     cells_at i.args.t c.before.if1.true i.requires.2 (λ h. c.count8.ensures ∙ of_one i.args.t h)
 
 mul-count8-2 : tie.Need-overflow-mul-count8-2
-mul-count8-2 c = omega (arith, fits-at _ c.if2.true c.before.before.requires.2)
+mul-count8-2 c = omega (arith, fits_at _ c.if2.true c.before.before.requires.2)
 
 cast-count8-2 : tie.Need-overflow-cast-count8-2
 cast-count8-2 c = search rules
@@ -29,8 +29,8 @@ cast-count8-2 c = search rules
 count8-requires-2 : tie.Need-count8-requires-2
 count8-requires-2 c κs = search rules
 
-returns-2 : tie.Need-returns-2
-returns-2 c =
+returns_2 : tie.Need-returns-2
+returns_2 c =
     let i = c.before.before.before in
     cells_at i.args.t c.before.if2.true i.requires.2 (λ h. c.count82.ensures ∙ of_two i.args.t h)
 
@@ -40,8 +40,8 @@ cast-low c = search rules
 count8-requires-3 : tie.Need-count8-requires-3
 count8-requires-3 c κs = search rules
 
-returns-3 : tie.Need-returns-3
-returns-3 c =
+returns_3 : tie.Need-returns-3
+returns_3 c =
     let i = c.before.before.before.before in
     cells_at i.args.t c.before.if3.true i.requires.2 (λ h. c.count83.ensures ∙ of_three i.args.t h)
 
@@ -51,31 +51,31 @@ cast-high c = search rules
 count8-requires-4 : tie.Need-count8-requires-4
 count8-requires-4 c κs = search rules
 
-returns-4 : tie.Need-returns-4
-returns-4 c =
+returns_4 : tie.Need-returns-4
+returns_4 c =
     let i = c.before.before.before.before.before in
     let four : i.args.n ≡ 4 = omega arith in
-    cells_at i.args.t four i.requires.2 (λ h. c.count84.ensures ∙ of-four-alike i.args.t h c.before.if4.true)
+    cells_at i.args.t four i.requires.2 (λ h. c.count84.ensures ∙ of_four_alike i.args.t h c.before.if4.true)
 
 returns-5 : tie.Need-returns-5
 returns-5 c =
     let i = c.before.before.before.before.before in
     let four : i.args.n ≡ 4 = omega arith in
-    cells_at i.args.t four i.requires.2 (λ h. of-input-one i.args.t h c.if5.true)
+    cells_at i.args.t four i.requires.2 (λ h. of_input_one i.args.t h c.if5.true)
 
 count8-requires-5 : tie.Need-count8-requires-5
 count8-requires-5 c κs = search rules
 
 add-result : tie.Need-overflow-add-result
-add-result c = let low = entry-small _ c.count85.ensures in omega arith
+add-result c = let low = entry_small _ c.count85.ensures in omega arith
 
 count8-requires-6 : tie.Need-count8-requires-6
 count8-requires-6 c κs = search rules
 
 add-result-2 : tie.Need-overflow-add-result-2
 add-result-2 c =
-    let low = entry-small _ c.before.count85.ensures in
-    let high = entry-small _ c.count86.ensures in
+    let low = entry_small _ c.before.count85.ensures in
+    let high = entry_small _ c.count86.ensures in
     omega arith
 
 returns-6 : tie.Need-returns-6
@@ -96,13 +96,13 @@ count_spec =
     mul-count8-2
     cast-count8-2
     count8-requires-2
-    returns-2
+    returns_2
     cast-low
     count8-requires-3
-    returns-3
+    returns_3
     cast-high
     count8-requires-4
-    returns-4
+    returns_4
     returns-5
     count8-requires-5
     add-result

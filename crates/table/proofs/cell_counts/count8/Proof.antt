@@ -5,7 +5,7 @@ use Prim.Native.Nat.{ℕ}
 use lib.Dec.{eqb, eqb→eq}
 use lib.ListN.{get_or}
 use borrow.Author.Rules.{rules}
-use Rattle.table.specs.Cells.{low, high, full, wiredTable, selectorCells, cells}
+use Rattle.table.specs.Cells.{low, high, full, wired_table, selector_cells, cells}
 use Rattle.base.proofs.Table.{at}
 use Rattle.table.proofs.cell_counts.count8.Statement.{statement}
 use Rattle.table.proofs.cell_counts.count8.Tie as tie
@@ -30,8 +30,8 @@ array-read-result : tie.Need-array-read-result
 array-read-result c = search rules
 
 returns : tie.Need-returns
-unfolding table right cells low high full wiredTable selectorCells
+unfolding table right cells low high full wired_table selector_cells
 returns c = eqb→eq (get_or table c.args.t 0) (cells 3 c.args.t) (at right table tt c.args.t (search rules))
 
-pub count8-spec : {M : Type 1} → statement M
-count8-spec = tie.close (tie.spec array-read-result returns)
+pub count8_spec : {M : Type 1} → statement M
+count8_spec = tie.close (tie.spec array-read-result returns)

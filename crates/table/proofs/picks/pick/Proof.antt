@@ -1,7 +1,7 @@
 -- `pick` meets its contract: an arm for each number of inputs.
 use mathlib.Core.Path.{◌≡◌}
 use native.Mathlib.Omega.{arith}
-use Rattle.table.proofs.Widths.{fit, rank-at, one_place, one_input, two-place, two-inputs, three-inputs, four-inputs}
+use Rattle.table.proofs.Widths.{fit, rank_at, one_place, one_input, two_place, two_inputs, three_inputs, four_inputs}
 use borrow.Author.Rules.{rules}
 use Rattle.table.proofs.picks.pick.Statement.{statement}
 use Rattle.table.proofs.picks.pick.Tie as tie
@@ -22,7 +22,7 @@ add-result : tie.Need-overflow-add-result
 add-result c = search rules
 
 block-requires-2 : tie.Need-block-requires-2
-block-requires-2 c κs = let i = c.before in (i.requires.0, two-place i.args.pair (omega arith) (fit _ c.match.keys2 i.requires))
+block-requires-2 c κs = let i = c.before in (i.requires.0, two_place i.args.pair (omega arith) (fit _ c.match.keys2 i.requires))
 
 sub-result-2 : tie.Need-overflow-sub-result-2
 sub-result-2 c = search rules
@@ -52,16 +52,16 @@ sub-result-4 : tie.Need-overflow-sub-result-4
 sub-result-4 c = search rules
 
 returns : tie.Need-returns
-returns c = rank-at _ c.before.match.keys1 c.before.before.requires (one_input _ _ (omega arith) c.block.ensures.0)
+returns c = rank_at _ c.before.match.keys1 c.before.before.requires (one_input _ _ (omega arith) c.block.ensures.0)
 
-returns-2 : tie.Need-returns-2
-returns-2 c = rank-at _ c.before.match.keys2 c.before.before.requires (two-inputs _ _ (omega arith) c.block2.ensures.0)
+returns_2 : tie.Need-returns-2
+returns_2 c = rank_at _ c.before.match.keys2 c.before.before.requires (two_inputs _ _ (omega arith) c.block2.ensures.0)
 
-returns-3 : tie.Need-returns-3
-returns-3 c = rank-at _ c.before.match.keys3 c.before.before.requires (three-inputs _ _ (omega arith) c.pick3.ensures.0)
+returns_3 : tie.Need-returns-3
+returns_3 c = rank_at _ c.before.match.keys3 c.before.before.requires (three_inputs _ _ (omega arith) c.pick3.ensures.0)
 
-returns-4 : tie.Need-returns-4
-returns-4 c = let four : c.before.before.args.n ≡ 4 = omega arith in rank-at _ four c.before.before.requires (four-inputs _ _ c.pick4.ensures.0)
+returns_4 : tie.Need-returns-4
+returns_4 c = let four : c.before.before.args.n ≡ 4 = omega arith in rank_at _ four c.before.before.requires (four_inputs _ _ c.pick4.ensures.0)
 
 pub pick_spec : {M : Type 1} → statement M
 pick_spec =
@@ -83,6 +83,6 @@ pick_spec =
     pick4-requires
     sub-result-4
     returns
-    returns-2
-    returns-3
-    returns-4)
+    returns_2
+    returns_3
+    returns_4)

@@ -5,12 +5,12 @@ use native.Mathlib.Omega.{arith}
 use lib.Bits.{bit_and, and_le_l}
 use lib.Dec.{eqb}
 use Rattle.table.specs.Cells.{full}
-use Rattle.table.specs.Pick.{leastOf}
-use Rattle.table.specs.Inner.Ranks.{masked, pickKey}
-use Rattle.table.specs.Inner.Blocks.{entries, threeSpace, noEntry, zerosAt, onesAt, HalvesShow}
-use Rattle.table.specs.Inner.Lines.{line, needsOfThree, lineBy}
-use Rattle.table.proofs.Entries.{shown-some, twoBlocks, line-choice}
-use Rattle.table.proofs.Places.{three-places}
+use Rattle.table.specs.Pick.{least_of}
+use Rattle.table.specs.Inner.Ranks.{masked, pick_key}
+use Rattle.table.specs.Inner.Blocks.{entries, three_space, no_entry, zeros_at, ones_at, HalvesShow}
+use Rattle.table.specs.Inner.Lines.{line, needs_of_three, line_by}
+use Rattle.table.proofs.Entries.{shown_some, two_blocks, line_choice}
+use Rattle.table.proofs.Places.{three_places}
 use borrow.Author.Rules.{rules}
 use Rattle.table.proofs.picks.pick3.Statement.{statement}
 use Rattle.table.proofs.picks.pick3.Tie as tie
@@ -53,19 +53,19 @@ returns c =
     let b = c.before.before.before.block2 in
     let a = c.before.before.before.before.block in
     let w = c.before.before.before.before.before.args.pair in
-    let two = twoBlocks a.result b.result in
-    let told : l.result ≡ lineBy w needsOfThree (threeSpace + line 2) two = l.ensures in
+    let two = two_blocks a.result b.result in
+    let told : l.result ≡ line_by w needs_of_three (three_space + line 2) two = l.ensures in
     let least : c.lesser.result ≡ min d.result l.result = c.lesser.ensures in
-    let s = three-places w a.result b.result d.result a.ensures.0 b.ensures.0 d.ensures.0 in
-    let e = line-choice (eqb (bit_and w needsOfThree) needsOfThree) (threeSpace + line 2) noEntry d.result two d.ensures.2
+    let s = three_places w a.result b.result d.result a.ensures.0 b.ensures.0 d.ensures.0 in
+    let e = line_choice (eqb (bit_and w needs_of_three) needs_of_three) (three_space + line 2) no_entry d.result two d.ensures.2
     (omega (arith, a.ensures.1, b.ensures.1)) in
     let low = w % entries in
     let high = w / entries % entries in
     let r : HalvesShow low high c.lesser.result = rw (least, told, e) s in
-    (r, shown-some 3 threeSpace (leastOf (pickKey 3) 3 (masked (zerosAt low high) (onesAt low high))) c.lesser.result r, omega (arith, least, d.ensures.2))
+    (r, shown_some 3 three_space (least_of (pick_key 3) 3 (masked (zeros_at low high) (ones_at low high))) c.lesser.result r, omega (arith, least, d.ensures.2))
 
-pub pick3-spec : {M : Type 1} → statement M
-pick3-spec =
+pub pick3_spec : {M : Type 1} → statement M
+pick3_spec =
     tie.close
     (tie.spec
     block-requires

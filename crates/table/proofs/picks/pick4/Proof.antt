@@ -6,13 +6,13 @@ use native.Mathlib.Omega.{arith}
 use lib.Bits.{bit_and}
 use lib.Dec.{eqb}
 use Rattle.table.specs.Cells.{full}
-use Rattle.table.specs.Pick.{leastOf}
-use Rattle.table.specs.Inner.Ranks.{masked, narrowSpace, pickKey}
-use Rattle.table.specs.Inner.Pairs.{zerosIn, ones_in}
-use Rattle.table.specs.Inner.Blocks.{threeSpace, noTable, PickShown}
-use Rattle.table.specs.Inner.Lines.{line, needsOfFour, lineBy}
-use Rattle.table.proofs.Entries.{shown-some, line-choice, twiceShown, pairShown, twice_most}
-use Rattle.table.proofs.Places.{four-places}
+use Rattle.table.specs.Pick.{least_of}
+use Rattle.table.specs.Inner.Ranks.{masked, narrow_space, pick_key}
+use Rattle.table.specs.Inner.Pairs.{zeros_in, ones_in}
+use Rattle.table.specs.Inner.Blocks.{three_space, no_table, PickShown}
+use Rattle.table.specs.Inner.Lines.{line, needs_of_four, line_by}
+use Rattle.table.proofs.Entries.{shown_some, line_choice, twice_shown, pair_shown, twice_most}
+use Rattle.table.proofs.Places.{four_places}
 use borrow.Author.Rules.{rules}
 use Rattle.table.proofs.picks.pick4.Statement.{statement}
 use Rattle.table.proofs.picks.pick4.Tie as tie
@@ -58,20 +58,20 @@ returns c =
     let b = c.before.before.before.pick32 in
     let a = c.before.before.before.before.pick3 in
     let w = c.before.before.before.before.before.args.pair in
-    let two = pairShown threeSpace a.result b.result in
-    let told : l.result ≡ lineBy w needsOfFour (narrowSpace + line 3) two = l.ensures in
-    let least : c.lesser.result ≡ min (twiceShown threeSpace d.result) l.result = c.lesser.ensures in
-    let s = four-places w a.result b.result d.result (omega arith) a.ensures.0 b.ensures.0 d.ensures.0 in
-    let e = line-choice (eqb (bit_and w needsOfFour) needsOfFour) (narrowSpace + line 3) (noTable * narrowSpace) (twiceShown threeSpace d.result) two
+    let two = pair_shown three_space a.result b.result in
+    let told : l.result ≡ line_by w needs_of_four (narrow_space + line 3) two = l.ensures in
+    let least : c.lesser.result ≡ min (twice_shown three_space d.result) l.result = c.lesser.ensures in
+    let s = four_places w a.result b.result d.result (omega arith) a.ensures.0 b.ensures.0 d.ensures.0 in
+    let e = line_choice (eqb (bit_and w needs_of_four) needs_of_four) (narrow_space + line 3) (no_table * narrow_space) (twice_shown three_space d.result) two
     (omega (arith, d.ensures.2)) (omega (arith, a.ensures.1, b.ensures.1)) in
-    let r : PickShown 4 narrowSpace (zerosIn w) (ones_in w) c.lesser.result = rw (least, told, e) s in (
+    let r : PickShown 4 narrow_space (zeros_in w) (ones_in w) c.lesser.result = rw (least, told, e) s in (
       r,
-      shown-some 4 narrowSpace (leastOf (pickKey 4) 4 (masked (zerosIn w) (ones_in w))) c.lesser.result r,
-      omega (arith, least, twice_most threeSpace noTable d.result (omega arith) d.ensures.2),
+      shown_some 4 narrow_space (least_of (pick_key 4) 4 (masked (zeros_in w) (ones_in w))) c.lesser.result r,
+      omega (arith, least, twice_most three_space no_table d.result (omega arith) d.ensures.2),
     )
 
-pub pick4-spec : {M : Type 1} → statement M
-pick4-spec =
+pub pick4_spec : {M : Type 1} → statement M
+pick4_spec =
     tie.close
     (tie.spec
     pick3-requires

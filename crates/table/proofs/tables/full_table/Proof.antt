@@ -3,9 +3,9 @@ use mathlib.Core.Path.{ap, ◌∙◌}
 use native.Mathlib.Omega.{arith}
 use lib.Pow.{pow_pos}
 use borrow.Author.Rules.{rules}
-use Rattle.sheet.specs.Limits.{maxPatterns}
+use Rattle.sheet.specs.Limits.{max_patterns}
 use Rattle.table.specs.Cells.{full}
-use Rattle.table.proofs.Wired.{ones-shifted}
+use Rattle.table.proofs.Wired.{ones_shifted}
 use Rattle.table.proofs.tables.full_table.Statement.{statement}
 use Rattle.table.proofs.tables.full_table.Tie as tie
 
@@ -26,8 +26,8 @@ returns : tie.Need-returns
 unfolding full
 returns c =
     let k = c.patterns-of.result in
-    ones-shifted maxPatterns k c.patterns-of.ensures.1 ∙ ap (λ e. 2 ^ e - 1) (c.patterns-of.ensures.2 c.before.requires)
+    ones_shifted max_patterns k c.patterns-of.ensures.1 ∙ ap (λ e. 2 ^ e - 1) (c.patterns-of.ensures.2 c.before.requires)
 
-pub full-table-spec : {M : Type 1} → statement M
-full-table-spec =
+pub full_table_spec : {M : Type 1} → statement M
+full_table_spec =
     tie.close (tie.spec patterns-of-requires sub-result cast-result shr-result returns)

@@ -3,9 +3,9 @@ use Prim.Native.Nat.{◌*◌}
 use mathlib.Core.Path.{sym, subst}
 use native.Mathlib.Omega.{arith}
 use native.Mathlib.Nat.{le_refl}
-use Rattle.base.proofs.Tests.{told-no}
-use Rattle.table.specs.Inner.Ranks.{narrowSpace, pickKey}
-use Rattle.table.specs.Inner.Blocks.{noTable, Shown}
+use Rattle.base.proofs.Tests.{told_no}
+use Rattle.table.specs.Inner.Ranks.{narrow_space, pick_key}
+use Rattle.table.specs.Inner.Blocks.{no_table, Shown}
 use Rattle.table.proofs.Seats.{none_between}
 use borrow.Author.Rules.{rules}
 use Rattle.table.proofs.wide.common_four.Statement.{statement}
@@ -23,12 +23,12 @@ cast-result c = search rules
 returns : tie.Need-returns
 returns c = search rules
 
-returns-2 : tie.Need-returns-2
-returns-2 c =
+returns_2 : tie.Need-returns-2
+returns_2 c =
     let x = c.before.before.args.pair in
-    let none = none_between (pickKey 4) x (told-no c.before.all-covered.ensures c.if1.false) in
-    (subst (λ o. Shown (pickKey 4) narrowSpace o (noTable * narrowSpace)) (sym none) (le_refl (noTable * narrowSpace)), omega arith, omega arith)
+    let none = none_between (pick_key 4) x (told_no c.before.all-covered.ensures c.if1.false) in
+    (subst (λ o. Shown (pick_key 4) narrow_space o (no_table * narrow_space)) (sym none) (le_refl (no_table * narrow_space)), omega arith, omega arith)
 
-pub common-four-spec : {M : Type 1} → statement M
-common-four-spec =
-    tie.close (tie.spec all-covered-requires pick4-requires cast-result returns returns-2)
+pub common_four_spec : {M : Type 1} → statement M
+common_four_spec =
+    tie.close (tie.spec all-covered-requires pick4-requires cast-result returns returns_2)

@@ -9,8 +9,8 @@ line-fits-requires c κs = search rules
 returns : tie.Need-returns
 returns c = simp (← c.before.line-fits.ensures, c.if1.true)
 
-returns-2 : tie.Need-returns-2
-returns-2 c = simp (← c.before.line-fits.ensures, c.if1.false)
+returns_2 : tie.Need-returns-2
+returns_2 c = simp (← c.before.line-fits.ensures, c.if1.false)
 
-pub five-line-or-spec : {M : Type 1} → statement M
-five-line-or-spec = tie.close (tie.spec line-fits-requires returns returns-2)
+pub five_line_or_spec : {M : Type 1} → statement M
+five_line_or_spec = tie.close (tie.spec line-fits-requires returns returns_2)

@@ -27,11 +27,11 @@ add-lesser-pick-2 c = search rules
 lesser-pick-requires-2 : tie.Need-lesser-pick-requires-2
 lesser-pick-requires-2 c κs = search rules
 
-returns-2 : tie.Need-returns-2
-returns-2 c = simp c.before.if1.false c.lesser-pick2.ensures
+returns_2 : tie.Need-returns-2
+returns_2 c = simp c.before.if1.false c.lesser-pick2.ensures
 
-pub join6-spec : {M : Type 1} → statement M
-join6-spec =
+pub join6_spec : {M : Type 1} → statement M
+join6_spec =
     tie.close
     (tie.spec
     mul-table
@@ -42,4 +42,4 @@ join6-spec =
     mul-lesser-pick
     add-lesser-pick-2
     lesser-pick-requires-2
-    returns-2)
+    returns_2)

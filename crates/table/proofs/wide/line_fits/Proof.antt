@@ -12,8 +12,8 @@ has-seats-requires-2 c κs = search rules
 returns : tie.Need-returns
 returns c = simp (← c.before.before.has-seats.ensures, c.before.if1.true) c.has-seats2.ensures
 
-returns-2 : tie.Need-returns-2
-returns-2 c = simp (← c.before.has-seats.ensures, c.if1.false)
+returns_2 : tie.Need-returns-2
+returns_2 c = simp (← c.before.has-seats.ensures, c.if1.false)
 
-pub line-fits-spec : {M : Type 1} → statement M
-line-fits-spec = tie.close (tie.spec has-seats-requires has-seats-requires-2 returns returns-2)
+pub line_fits_spec : {M : Type 1} → statement M
+line_fits_spec = tie.close (tie.spec has-seats-requires has-seats-requires-2 returns returns_2)

@@ -3,13 +3,13 @@ use Prim.Native.Nat.{min}
 use mathlib.Core.Path.{◌≡◌}
 use mathlib.Core.Bool.{cond}
 use native.Mathlib.Omega.{arith}
-use Rattle.table.specs.Pick.{leastOf}
-use Rattle.table.specs.Inner.Ranks.{masked, narrowSpace, pickKey}
-use Rattle.table.specs.Inner.Pairs.{zerosIn, ones_in}
-use Rattle.table.specs.Inner.Blocks.{noTable}
-use Rattle.table.specs.Inner.Wide.{fiveSpace, twoMasks, lineFits, lineOfFive, FiveShown}
-use Rattle.table.proofs.Entries.{shown-some, twiceShown, pairShown, twice_most}
-use Rattle.table.proofs.SideBySide.{five-found}
+use Rattle.table.specs.Pick.{least_of}
+use Rattle.table.specs.Inner.Ranks.{masked, narrow_space, pick_key}
+use Rattle.table.specs.Inner.Pairs.{zeros_in, ones_in}
+use Rattle.table.specs.Inner.Blocks.{no_table}
+use Rattle.table.specs.Inner.Wide.{five_space, two_masks, line_fits, line_of_five, FiveShown}
+use Rattle.table.proofs.Entries.{shown_some, twice_shown, pair_shown, twice_most}
+use Rattle.table.proofs.SideBySide.{five_found}
 use borrow.Author.Rules.{rules}
 use Rattle.table.proofs.wide.pick5.Statement.{statement}
 use Rattle.table.proofs.wide.pick5.Tie as tie
@@ -60,18 +60,18 @@ returns c =
     let b = c.before.before.before.pick42 in
     let a = c.before.before.before.before.pick4 in
     let i = c.before.before.before.before.before.args in
-    let told : l.result ≡ cond (lineFits i.low i.high) lineOfFive (pairShown narrowSpace a.result b.result) = l.ensures in
-    let least : c.lesser-of.result ≡ min (twiceShown narrowSpace d.result) l.result = c.lesser-of.ensures in
-    let s = five-found i.low i.high a.result b.result d.result a.ensures.1 b.ensures.1 d.ensures.2 a.ensures.0 b.ensures.0 d.ensures.0 in
+    let told : l.result ≡ cond (line_fits i.low i.high) line_of_five (pair_shown narrow_space a.result b.result) = l.ensures in
+    let least : c.lesser-of.result ≡ min (twice_shown narrow_space d.result) l.result = c.lesser-of.ensures in
+    let s = five_found i.low i.high a.result b.result d.result a.ensures.1 b.ensures.1 d.ensures.2 a.ensures.0 b.ensures.0 d.ensures.0 in
     let r : FiveShown i.low i.high c.lesser-of.result = rw (least, told) s in (
       r,
-      shown-some 5 fiveSpace
-          (leastOf (pickKey 5) 5 (masked (twoMasks (zerosIn i.low) (zerosIn i.high)) (twoMasks (ones_in i.low) (ones_in i.high)))) c.lesser-of.result r,
-      omega (arith, least, twice_most narrowSpace noTable d.result (omega arith) d.ensures.2),
+      shown_some 5 five_space
+          (least_of (pick_key 5) 5 (masked (two_masks (zeros_in i.low) (zeros_in i.high)) (two_masks (ones_in i.low) (ones_in i.high)))) c.lesser-of.result r,
+      omega (arith, least, twice_most narrow_space no_table d.result (omega arith) d.ensures.2),
     )
 
-pub pick5-spec : {M : Type 1} → statement M
-pick5-spec =
+pub pick5_spec : {M : Type 1} → statement M
+pick5_spec =
     tie.close
     (tie.spec
     pick4-requires

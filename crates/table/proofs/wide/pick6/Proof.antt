@@ -1,7 +1,7 @@
 -- `pick6` meets its contract: the picks of both halves and of what they have in common.
 use mathlib.Core.Path.{sym, subst, ◌∙◌}
 use Rattle.table.specs.Inner.Wide.{SixShown}
-use Rattle.table.proofs.SideBySide.{six-found}
+use Rattle.table.proofs.SideBySide.{six_found}
 use borrow.Author.Rules.{rules}
 use Rattle.table.proofs.wide.pick6.Statement.{statement}
 use Rattle.table.proofs.wide.pick6.Tie as tie
@@ -29,10 +29,10 @@ returns c =
     let x = c.before.before.before.before.pick5 in
     let i = c.before.before.before.before.before.args in
     subst (SixShown i.a i.b i.c i.d) (sym (simp (← f.ensures) c.join6.ensures))
-    (six-found i.a i.b i.c i.d x.result y.result z.result x.ensures.1 y.ensures.1 z.ensures.2 x.ensures.0 y.ensures.0 z.ensures.0)
+    (six_found i.a i.b i.c i.d x.result y.result z.result x.ensures.1 y.ensures.1 z.ensures.2 x.ensures.0 y.ensures.0 z.ensures.0)
 
-pub pick6-spec : {M : Type 1} → statement M
-pick6-spec =
+pub pick6_spec : {M : Type 1} → statement M
+pick6_spec =
     tie.close
     (tie.spec
     pick5-requires

@@ -4,9 +4,9 @@ use mir.Syntax.{w16}
 use mir.Val.{Fits}
 use lib.Bits.{and_lt, xor_lt}
 use borrow.Author.Rules.{rules}
-use Rattle.sheet.specs.Limits.{wordBits}
-use Rattle.unit.proofs.Bits.{times-lt}
-use Rattle.unit.proofs.GateTerms.{gate-word}
+use Rattle.sheet.specs.Limits.{word_bits}
+use Rattle.unit.proofs.Bits.{times_lt}
+use Rattle.unit.proofs.GateTerms.{gate_word}
 use Rattle.unit.proofs.gates.gate_word.Statement.{statement}
 use Rattle.unit.proofs.gates.gate_word.Tie as tie
 
@@ -26,22 +26,22 @@ mul-result : tie.Need-overflow-mul-result
 mul-result c =
     let a : Fits w16 c.args.a = search rules in
     let b : Fits w16 c.args.b = search rules in
-    record { fits = times-lt wordBits (omega arith) (xor_lt wordBits c.args.a c.args.b a.fits b.fits) }
+    record { fits = times_lt word_bits (omega arith) (xor_lt word_bits c.args.a c.args.b a.fits b.fits) }
 
 mul-result-2 : tie.Need-overflow-mul-result-2
 mul-result-2 c =
     let a : Fits w16 c.args.a = search rules in
     let b : Fits w16 c.args.b = search rules in
-    record { fits = times-lt wordBits (omega arith) (and_lt wordBits c.args.a c.args.b a.fits b.fits) }
+    record { fits = times_lt word_bits (omega arith) (and_lt word_bits c.args.a c.args.b a.fits b.fits) }
 
 mul-result-3 : tie.Need-overflow-mul-result-3
 mul-result-3 c = search rules
 
 returns : tie.Need-returns
-returns c h = gate-word c.args.kind c.args.a c.args.b (omega arith) (omega arith) (omega arith) h
+returns c h = gate_word c.args.kind c.args.a c.args.b (omega arith) (omega arith) (omega arith) h
 
-pub gate-word-spec : {M : Type 1} → statement M
-gate-word-spec =
+pub gate_word_spec : {M : Type 1} → statement M
+gate_word_spec =
     tie.close
     (tie.spec
     cast-plain

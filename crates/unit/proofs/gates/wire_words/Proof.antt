@@ -4,19 +4,19 @@ use mathlib.Core.Path.{◌≡◌}
 use mathlib.Core.List.{List, ◌∷◌}
 use native.Mathlib.Omega.{arith}
 use lib.ListN.{get_or}
-use Rattle.sheet.specs.Limits.{maxWires, maxGates, maxValues}
+use Rattle.sheet.specs.Limits.{max_wires, max_gates, max_values}
 use Rattle.table.specs.Bits.{bit, tabulate}
-use Rattle.table.specs.Inner.Columns.{columnOf}
-use Rattle.table.proofs.Bits.{bit-lt}
-use Rattle.table.proofs.BitColumns.{column-test}
-use Rattle.unit.proofs.Members.{bit-by-test}
+use Rattle.table.specs.Inner.Columns.{column_of}
+use Rattle.table.proofs.Bits.{bit_lt}
+use Rattle.table.proofs.BitColumns.{column_test}
+use Rattle.unit.proofs.Members.{bit_by_test}
 use borrow.Author.Rules.{rules}
 use Rattle.unit.proofs.gates.wire_words.Statement.{statement}
 use Rattle.unit.proofs.gates.wire_words.Tie as tie
 
 -- the entries of a list that starts with those of four wires, as many as the code puts there
 by_place : (P : ℕ → ℕ → Type 0) {a b c d : ℕ} (rest : List ℕ) → P 0 a → P 1 b → P 2 c → P 3 d
-    → (j : ℕ) → j < maxWires → P j (get_or (a ∷ b ∷ c ∷ d ∷ rest) j 0)
+    → (j : ℕ) → j < max_wires → P j (get_or (a ∷ b ∷ c ∷ d ∷ rest) j 0)
 by_place P rest a b c d zero h = a
 by_place P rest a b c d (suc zero) h = b
 by_place P rest a b c d (suc (suc zero)) h = c
@@ -24,8 +24,8 @@ by_place P rest a b c d (suc (suc (suc zero))) h = d
 by_place P rest a b c d (suc (suc (suc (suc j)))) h = absurd (omega arith)
 
 -- the values that have wire j at 1 are a word with that wire's bit
-wire-bit : (j v : ℕ) → v < maxValues → bit (columnOf j 1) v ≡ bit v j
-wire-bit j v l = bit-by-test (bit (columnOf j 1) v) (bit v j) (bit-lt (columnOf j 1) v) (bit-lt v j) (column-test j 1 v l)
+wire_bit : (j v : ℕ) → v < max_values → bit (column_of j 1) v ≡ bit v j
+wire_bit j v l = bit_by_test (bit (column_of j 1) v) (bit v j) (bit_lt (column_of j 1) v) (bit_lt v j) (column_test j 1 v l)
 
 column-requires : tie.Need-column-requires
 column-requires c κs = search rules
@@ -54,13 +54,13 @@ array-write-signals-4 c = search rules
 returns : tie.Need-returns
 unfolding tabulate
 returns c j v h l =
-    by_place (λ j x. bit x v ≡ bit v j) (tabulate maxGates (λ _. 0))
-    (rw c.before.before.before.column.ensures (wire-bit 0 v l)) (rw c.before.before.column2.ensures (wire-bit 1 v l))
-    (rw c.before.column3.ensures (wire-bit 2 v l)) (rw c.column4.ensures (wire-bit 3 v l))
+    by_place (λ j x. bit x v ≡ bit v j) (tabulate max_gates (λ _. 0))
+    (rw c.before.before.before.column.ensures (wire_bit 0 v l)) (rw c.before.before.column2.ensures (wire_bit 1 v l))
+    (rw c.before.column3.ensures (wire_bit 2 v l)) (rw c.column4.ensures (wire_bit 3 v l))
     j h
 
-pub wire-words-spec : {M : Type 1} → statement M
-wire-words-spec =
+pub wire_words_spec : {M : Type 1} → statement M
+wire_words_spec =
     tie.close
     (tie.spec
     column-requires

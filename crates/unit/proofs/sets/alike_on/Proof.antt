@@ -4,7 +4,7 @@ use mir.Syntax.{w16}
 use mir.Val.{Fits}
 use borrow.Author.Rules.{rules}
 use Rattle.table.specs.Bits.{bit}
-use Rattle.unit.proofs.Members.{told-alike}
+use Rattle.unit.proofs.Members.{told_alike}
 use Rattle.unit.proofs.sets.alike_on.Statement.{statement}
 use Rattle.unit.proofs.sets.alike_on.Tie as tie
 
@@ -19,7 +19,7 @@ mul-result c = search rules
 
 returns : tie.Need-returns
 unfolding bit
-returns c = let small : Fits w16 c.args.word = search rules in told-alike c.args.word c.args.u small.fits (omega arith)
+returns c = let small : Fits w16 c.args.word = search rules in told_alike c.args.word c.args.u small.fits (omega arith)
 
-pub alike-on-spec : {M : Type 1} → statement M
-alike-on-spec = tie.close (tie.spec shr_zero sub-zero mul-result returns)
+pub alike_on_spec : {M : Type 1} → statement M
+alike_on_spec = tie.close (tie.spec shr_zero sub-zero mul-result returns)

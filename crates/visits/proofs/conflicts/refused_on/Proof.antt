@@ -1,6 +1,6 @@
 use Prim.Native.Nat.{◌+◌, ◌*◌}
-use Rattle.by_value.specs.Inner.ByValue.{sectionWords}
-use Rattle.parts.specs.Inner.States.{wholePlace}
+use Rattle.by_value.specs.Inner.ByValue.{section_words}
+use Rattle.parts.specs.Inner.States.{whole_place}
 use native.Mathlib.Omega.{arith}
 use Rattle.visits.proofs.Clearing.{clear}
 use borrow.Author.Rules.{rules}
@@ -57,10 +57,10 @@ returns c =
     let a = c.before.before.before.before.before.before.args in
     let r = c.before.allowing.result in
     let refused = c.first-refused.ensures in
-    (refused.1, rw refused.0 (clear a.state.now a.q (wholePlace + sectionWords * a.q) a.tables r c.before.before.before.before.before.before.requires (omega arith) c.before.allowing.ensures.1 (omega (arith, refused.0, refused.1))))
+    (refused.1, rw refused.0 (clear a.state.now a.q (whole_place + section_words * a.q) a.tables r c.before.before.before.before.before.before.requires (omega arith) c.before.allowing.ensures.1 (omega (arith, refused.0, refused.1))))
 
-pub refused-on-spec : {M : Type 1} → statement M
-refused-on-spec =
+pub refused_on_spec : {M : Type 1} → statement M
+refused_on_spec =
     tie.close
     (tie.spec
     mul_at

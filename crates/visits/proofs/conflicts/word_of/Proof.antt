@@ -1,7 +1,7 @@
 use mathlib.Core.Path.{sym}
 use lib.ListN.{get_or}
-use Rattle.base.proofs.Tests.{eqb_yes, eqb-not}
-use Rattle.parts.specs.Inner.States.{restPlace, sideAt}
+use Rattle.base.proofs.Tests.{eqb_yes, eqb_not}
+use Rattle.parts.specs.Inner.States.{rest_place, side_at}
 use borrow.Author.Rules.{rules}
 use Rattle.visits.proofs.conflicts.word_of.Statement.{statement}
 use Rattle.visits.proofs.conflicts.word_of.Tie as tie
@@ -16,12 +16,12 @@ element-copy-out-result : tie.Need-element-copy-out-result
 element-copy-out-result c = search rules
 
 returns : tie.Need-returns
-unfolding sideAt
-returns c = let a = c.before.args in sym (eqb_yes a.q 0 a.low (get_or a.state.now (restPlace a.q) 0) c.if1.true)
+unfolding side_at
+returns c = let a = c.before.args in sym (eqb_yes a.q 0 a.low (get_or a.state.now (rest_place a.q) 0) c.if1.true)
 
-returns-2 : tie.Need-returns-2
-unfolding sideAt
-returns-2 c = let a = c.before.before.args in sym (eqb-not a.q 0 a.low (get_or a.state.now (restPlace a.q) 0) c.before.if1.false)
+returns_2 : tie.Need-returns-2
+unfolding side_at
+returns_2 c = let a = c.before.before.args in sym (eqb_not a.q 0 a.low (get_or a.state.now (rest_place a.q) 0) c.before.if1.false)
 
-pub word-of-spec : {M : Type 1} → statement M
-word-of-spec = tie.close (tie.spec add-result mul-result element-copy-out-result returns returns-2)
+pub word_of_spec : {M : Type 1} → statement M
+word_of_spec = tie.close (tie.spec add-result mul-result element-copy-out-result returns returns_2)

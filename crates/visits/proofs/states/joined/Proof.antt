@@ -1,5 +1,5 @@
 use mathlib.Core.Path.{refl}
-use Rattle.visits.specs.Inner.States.{joinedOf}
+use Rattle.visits.specs.Inner.States.{joined_of}
 use borrow.Author.Rules.{rules}
 use Rattle.visits.proofs.states.joined.Statement.{statement}
 use Rattle.visits.proofs.states.joined.Tie as tie
@@ -35,12 +35,12 @@ add-result-3 : tie.Need-overflow-add-result-3
 add-result-3 c = search rules
 
 returns : tie.Need-returns
-unfolding joinedOf
+unfolding joined_of
 returns c =
     rw (c.before.before.before.lane.ensures.0, c.before.before.lane2.ensures.0, c.before.lane3.ensures.0, c.lane4.ensures.0) refl
 
-pub joined-spec : {M : Type 1} → statement M
-joined-spec =
+pub joined_spec : {M : Type 1} → statement M
+joined_spec =
     tie.close
     (tie.spec
     lane-requires

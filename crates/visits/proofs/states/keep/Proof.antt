@@ -1,5 +1,5 @@
 use mathlib.Core.Path.{refl}
-use Rattle.visits.specs.Inner.States.{keptBest}
+use Rattle.visits.specs.Inner.States.{kept_best}
 use borrow.Author.Rules.{rules}
 use Rattle.visits.proofs.states.keep.Statement.{statement}
 use Rattle.visits.proofs.states.keep.Tie as tie
@@ -47,7 +47,7 @@ element-write-state-5 : tie.Need-element-write-state-5
 element-write-state-5 c = search rules
 
 returns : tie.Need-returns
-unfolding keptBest
+unfolding kept_best
 returns c = refl
 
 pub keep_spec : {M : Type 1} → statement M

@@ -1,5 +1,5 @@
 use mathlib.Core.Path.{refl}
-use Rattle.visits.specs.Inner.States.{withRest}
+use Rattle.visits.specs.Inner.States.{with_rest}
 use borrow.Author.Rules.{rules}
 use Rattle.visits.proofs.states.put_back.Statement.{statement}
 use Rattle.visits.proofs.states.put_back.Tie as tie
@@ -41,11 +41,11 @@ element-write-state-3 : tie.Need-element-write-state-3
 element-write-state-3 c = search rules
 
 returns : tie.Need-returns
-unfolding withRest
+unfolding with_rest
 returns c = refl
 
-pub put-back-spec : {M : Type 1} → statement M
-put-back-spec =
+pub put_back_spec : {M : Type 1} → statement M
+put_back_spec =
     tie.close
     (tie.spec
     array-read-state

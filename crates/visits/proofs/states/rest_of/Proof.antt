@@ -36,8 +36,8 @@ returns : tie.Need-returns
 unfolding rest_of tabulate
 returns c = refl
 
-pub rest-of-spec : {M : Type 1} → statement M
-rest-of-spec =
+pub rest_of_spec : {M : Type 1} → statement M
+rest_of_spec =
     tie.close
     (tie.spec
     add-t2

@@ -1,6 +1,6 @@
 use lib.ListN.{get_or}
-use Rattle.base.proofs.Tabulate.{tabulate-four}
-use Rattle.visits.specs.Inner.States.{joinedOf, state_of}
+use Rattle.base.proofs.Tabulate.{tabulate_four}
+use Rattle.visits.specs.Inner.States.{joined_of, state_of}
 use borrow.Author.Rules.{rules}
 use Rattle.visits.proofs.states.tables_in.Statement.{statement}
 use Rattle.visits.proofs.states.tables_in.Tie as tie
@@ -33,11 +33,11 @@ returns : tie.Need-returns
 unfolding state_of
 returns c =
     let l = c.before.before.before.before.before.before.before.before.args.state.now in
-    tabulate-four (joinedOf (get_or l 0 0) (get_or l 1 0) (get_or l 2 0) (get_or l 3 0)) c.before.before.before.joined.ensures c.before.before.joined2.ensures
+    tabulate_four (joined_of (get_or l 0 0) (get_or l 1 0) (get_or l 2 0) (get_or l 3 0)) c.before.before.before.joined.ensures c.before.before.joined2.ensures
     c.before.joined3.ensures c.joined4.ensures
 
-pub tables-in-spec : {M : Type 1} → statement M
-tables-in-spec =
+pub tables_in_spec : {M : Type 1} → statement M
+tables_in_spec =
     tie.close
     (tie.spec
     element-copy-out-a
