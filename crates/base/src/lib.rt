@@ -1,4 +1,6 @@
 // What every format shares: refusals, whether something is accepted, whether it was written, and total access to bytes.
+#![tactic(auto)]
+
 ghost use Rattle.std.specs.Prelude.{◌≡◌, get_or, set};
 ghost use Rattle.base.specs.Refusals.{refusal_at};
 

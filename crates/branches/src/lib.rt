@@ -3,6 +3,8 @@
 // of the search: the best tables so far, their cells, the visits charged, 1 once a part was left, the budget, the tables of the part at hand and the whole relation by value. So few
 // things are handed down that all of them but one stand in registers, and a call takes little of the stack.
 // Inner functions: `search_whole` of the crate `search` and the cycle itself meet what they require.
+#![tactic(auto)]
+
 ghost use Rattle.std.specs.Prelude.{◌≡◌, ◌<◌, ◌≤◌, ◌^◌, T, get_or};
 ghost use Rattle.relation.specs.Tests.{of_sets, is_open};
 ghost use Rattle.branch_bound.specs.Search.{split as splitOf, search_part};

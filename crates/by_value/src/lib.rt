@@ -2,6 +2,8 @@
 // allowed is so told of all patterns of a section at once, with no step for each pattern and no branch.
 // A word has four lanes, one for each of four values, and a lane has one bit for each pattern of the section. Four words have all values of a section.
 // Inner functions: the search meets what they require, sections and patterns that there are and words that lack the pattern put in.
+#![tactic(auto)]
+
 ghost use Rattle.std.specs.Prelude.{◌≡◌, cond, ℕ, ◌+◌, ◌*◌, ◌/◌, ◌%◌, ◌<◌, ◌≤◌, ◌^◌, eqb, get_or, length};
 ghost use Rattle.sheet.specs.Limits.{max_patterns};
 ghost use Rattle.table.specs.Bits.{bit};

@@ -1,5 +1,7 @@
 // The library for C and Rust: the search, the quote and the audit, on either board, the joint quote, and clean copies, over numbers and slices. `include/dagmetzi.h` declares
 // what is exported here.
+#![tactic(auto)]
+
 ghost use Rattle.std.specs.Prelude.{◌≡◌, length};
 ghost use Rattle.sheet.specs.Limits.{max_inputs, max_shared_inputs};
 ghost use Rattle.nodes.specs.declared.BoardKind.TheVariants.{Tree, Sharing};

@@ -1,4 +1,6 @@
 // Clean copies of unit sheets: what a sheet says, written in one order.
+#![tactic(auto)]
+
 ghost use Rattle.std.specs.Prelude.{◌≡◌, length};
 ghost use Rattle.base.specs.Cases.{written_case};
 ghost use Rattle.clean.specs.Cleaned.{cleaned_of, buffer_cleaned};

@@ -1,6 +1,8 @@
 // The program. With no argument it quotes the unit sheet on standard input. Else the first argument is a word, and the others are names of files. What it finds
 // goes to standard output, and is proved. What is wrong with the arguments or the files goes to standard error, as one line, and nothing to standard output:
 // there is no exit status to tell it by.
+#![tactic(auto)]
+
 use check::same;
 use files::read_argument;
 

@@ -1,5 +1,7 @@
 // Stage sheets of the board that shares selectors: a decision diagram for each wire as bytes. The meanings and laws are here; `stage_reader` and
 // `stage_writer` have the code.
+#![tactic(auto)]
+
 use sheet::Sheet;
 use stage::{LONGEST_STAGE, SELECTOR_BYTES, SHEET_FRAME};
 

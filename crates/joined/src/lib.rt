@@ -1,4 +1,6 @@
 // One stage for two units: the quote over what two sheets both allow (document 02, E6).
+#![tactic(auto)]
+
 ghost use Rattle.std.specs.Prelude.{◌≡◌, length};
 ghost use Rattle.search.specs.Cases.{mark_case};
 ghost use Rattle.quote.specs.Cases.{quote_reply};

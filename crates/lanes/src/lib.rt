@@ -1,6 +1,8 @@
 // What is kept for all wires side by side in one number: a lane of sixteen bits for each wire, so that one step is made for all four of them. The words of
 // `by_value` have a lane for each of four values.
 // Inner functions: the search meets what they require, wires that there are, and bits in the lanes where bits are asked for.
+#![tactic(auto)]
+
 ghost use Rattle.std.specs.Prelude.{◌≡◌, not, cond, ℕ, ◌<◌, eqb};
 ghost use Rattle.sheet.specs.Limits.{max_wires};
 ghost use Rattle.table.specs.Bits.{is_one};

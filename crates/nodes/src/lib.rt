@@ -1,5 +1,7 @@
 // Nodes of a table: those of the reduced ordered binary decision diagram of its function. They are its cells on a board that shares selectors, but for plain
 // inputs, which count for none.
+#![tactic(auto)]
+
 ghost use Rattle.std.specs.Prelude.{◌≡◌};
 ghost use Rattle.nodes.specs.Counts.{most_inputs};
 

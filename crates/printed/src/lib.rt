@@ -1,4 +1,6 @@
 // What the program prints, as bytes at the start of a lent buffer: a function for each word, each with the length of what it put.
+#![tactic(auto)]
+
 ghost use Rattle.std.specs.Prelude.{◌≡◌};
 ghost use Rattle.base.specs.Refusals.{refusal_at, too_long};
 ghost use Rattle.quote.specs.Cases.{quote_reply};

@@ -1,4 +1,6 @@
 // The quote, from a unit sheet to the smallest stage, and the audit of a stage; each for either board.
+#![tactic(auto)]
+
 ghost use Rattle.std.specs.Prelude.{◌≡◌, length};
 ghost use Rattle.sheet.specs.Limits.{max_inputs, max_shared_inputs};
 ghost use Rattle.nodes.specs.declared.BoardKind.TheVariants.{Tree, Sharing};

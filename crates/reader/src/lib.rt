@@ -1,4 +1,6 @@
 // Reading unit sheets: from any bytes to the sheet that they hold, or one refusal with its place.
+#![tactic(auto)]
+
 ghost use Rattle.std.specs.Prelude.{◌≡◌, ◌≤◌};
 ghost use Rattle.sheet.specs.Limits.{max_inputs};
 ghost use Rattle.sheet.specs.Cases.{sheet_reply};

@@ -1,4 +1,6 @@
 // Boolean relations: which wire values are allowed on each input pattern.
+#![tactic(auto)]
+
 ghost use Rattle.std.specs.Prelude.{◌≡◌, ◌≤◌};
 ghost use Rattle.base.specs.Cases.{verdict_case};
 ghost use Rattle.sheet.specs.Limits.{max_inputs};

@@ -1,6 +1,8 @@
 // What the program prints for a reply of the quote, of the joint quote, of the audit and of the clean copy, as bytes in a lent buffer. Each call puts its lines at the start of
 // the buffer and hands back the length of them. Bytes that find no room are dropped, and a length above the buffer's says so; what stands behind the lines is
 // left as it was.
+#![tactic(auto)]
+
 ghost use Rattle.base.specs.Cases.{written_case};
 ghost use Rattle.quote.specs.Cases.{quote_reply, audited_case};
 ghost use Rattle.joined.specs.Cases.{joint_reply};

@@ -1,5 +1,7 @@
 // The branch and bound: the smallest stage that keeps to a relation. What it carries of a part is the crate `parts`, its cycle `branches`, and what it means
 // `branch_bound`.
+#![tactic(auto)]
+
 ghost use Rattle.std.specs.Prelude.{◌≡◌};
 ghost use Rattle.relation.specs.Source.{Rel};
 ghost use Rattle.relation.specs.Tests.{of_sets};

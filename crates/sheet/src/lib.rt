@@ -1,4 +1,6 @@
 // Unit sheets: the limits, the commands, and what the commands say, gathered into one sheet.
+#![tactic(auto)]
+
 ghost use Rattle.std.specs.Prelude.{◌≡◌};
 ghost use Rattle.sheet.specs.Judged.{refused};
 ghost use Rattle.sheet.specs.Inner.Gathering.{gathered_reply};

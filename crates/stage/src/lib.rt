@@ -1,5 +1,7 @@
 // Stage sheets: what drives each wire as bytes, over the form of a wire, and decision trees as one form. The meanings and laws are here; `stage_reader` and
 // `stage_writer` have the code.
+#![tactic(auto)]
+
 use sheet::Sheet;
 
 // What a sheet takes besides its wires: 20 and the sizes before them, and 2F after them.

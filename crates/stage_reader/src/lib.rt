@@ -1,4 +1,6 @@
 // The stage reader: what drives each wire, an ordered tree or a diagram by the board, to its truth table and its cells.
+#![tactic(auto)]
+
 ghost use Rattle.std.specs.Prelude.{◌≡◌, ◌≤◌, drop};
 ghost use Rattle.base.specs.Cases.{accepted_case, refused_case, verdict_case};
 ghost use Rattle.sheet.specs.Limits.{max_inputs, max_wires};

@@ -1,4 +1,6 @@
 // The stage writer: what drives each wire, made from the wire's table, at the start of a lent buffer. It serves both boards: sizes are tested by the board's own, and `wires` looks at which it is.
+#![tactic(auto)]
+
 ghost use Rattle.std.specs.Prelude.{◌≡◌, length};
 ghost use Rattle.stage.specs.Trees.{tree_form};
 ghost use Rattle.stage.specs.Written.{written_of, buffer_after};

@@ -1,6 +1,8 @@
 // Text put into a lent buffer at a place, each call with the place after it. Bytes that find no room are dropped: the place moves on all the same, so that the
 // last place is the length that the whole text needs. What is required is there for the sums alone: no text ends past `last_place`.
 // Inner functions: the report and the drawn cases' program stay below it.
+#![tactic(auto)]
+
 ghost use Rattle.std.specs.Prelude.{◌≡◌, [], ◌∷◌, ◌+◌, ◌*◌, ◌≤◌, ◌<◌, length, take};
 ghost use Rattle.base.specs.Inner.Put.{Put, PutWithin, last_place};
 ghost use Rattle.text.specs.Text.{decimal, hex_digit, hex_pair, hex_pairs, longest_decimal, named};

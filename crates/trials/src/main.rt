@@ -1,6 +1,8 @@
 // A program for trials of the library: it reads records from standard input, calls the library on each, and prints the reply.
 // What it prints is compared with the replies of a solver that was written apart from the library, and is not proved here; that the program is safe and
 // ends is. What the bytes of a record say and what the parts of a reply put is proved in `samples` and `report`.
+#![tactic(auto)]
+
 ghost use Rattle.std.specs.Prelude.{◌≤◌, length};
 ghost use Rattle.trials.specs.Inner.Window.{nearly_full, window};
 

@@ -1,4 +1,6 @@
 // The second stage of a unit: its gates, its outputs for all wire values, and the relation that its sheet leaves to the first stage.
+#![tactic(auto)]
+
 ghost use Rattle.std.specs.Prelude.{◌≡◌};
 ghost use Rattle.sheet.specs.Limits.{max_inputs};
 ghost use Rattle.relation.specs.Handed.{check_of};

@@ -1,5 +1,7 @@
 // Writing unit sheets: a command as bytes, put into a lent buffer at a place.
 // Inner functions: who writes a sheet stays at places that a usize holds.
+#![tactic(auto)]
+
 ghost use Rattle.std.specs.Prelude.{◌≡◌, ◌+◌, ◌/◌, ◌%◌, ◌<◌, ◌≤◌, length, take};
 ghost use Rattle.base.specs.Inner.Put.{PutWithin};
 ghost use Rattle.sheet.specs.Bytes.{command_bytes};
