@@ -5,7 +5,7 @@ usage: tools/respell.py        at the top, once, right after the kit's port scri
 
 Rows of respell.tsv: old, new, and where a third part stands, the files that declare the name, beside which those that import it from them turn too.
 What turns: in .antt files the code and the code spans of comments; in .rt files `ghost use` items, clauses and the code spans of comments; in .md files
-code spans. A name that a file takes from the kit stays there, and so does a step of the code behind a dot that is no field of a record here.
+code spans, and in comments a name with a capital inside also where it stands bare. A name that a file takes from the kit stays there, and so does a step of the code behind a dot that is no field of a record here.
 Names bound within a file (by let, a lambda, parameters, `as`) that have a dash or a capital inside turn by the same rule in that file.
 """
 import glob
@@ -69,7 +69,8 @@ def turn_words(text, table, own_fields):
 
 
 def spans(text, table, own_fields):
-    return re.sub(r"`[^`\n]+`", lambda m: turn_words(m.group(0), table, own_fields), text)
+    text = re.sub(r"`[^`\n]+`", lambda m: turn_words(m.group(0), table, own_fields), text)
+    return re.sub(r"\b[a-z]+[0-9a-z]*[A-Z]\w*", lambda m: table.get(m.group(0), m.group(0)), text)
 
 
 def antt(text, table, own_fields):
@@ -84,8 +85,12 @@ def antt(text, table, own_fields):
 
 def rust(text, table, own_fields):
     out = []
+    depth = 0
     for l in text.split("\n"):
-        if re.match(r"\s*ghost use\b", l) or re.match(r"\s*(requires|ensures)\b", l):
+        head = re.match(r"\s*(requires|ensures|ghost)\b", l)
+        if depth or re.match(r"\s*ghost use\b", l) or head:
+            if depth or head and not re.match(r"\s*ghost use\b", l):
+                depth += l.count("{") - l.count("}")
             l = turn_words(l, table, own_fields)
         elif "//" in l:
             code, slashes, comment = l.partition("//")
@@ -100,6 +105,8 @@ def table_of(path, text, ours):
         if not (m.group(1).startswith("Rattle.") and m.group(1).split(".")[1] in ours):
             kit.update(i.strip().split(" as ")[-1] for i in m.group(2).split(","))
     table = {k: v for k, v in TABLE.items() if k not in kit}
+    if path.endswith(".rt"):
+        table.update({w: snake(w) for w in re.findall(r"\bas (\w+)\}?[,};]", text) if odd(w) and "ghost use" in text})
     if path.endswith(".antt"):
         table.update({w: snake(w) for w in bound(text) if w not in table and w not in kit})
     for old, new, where in SCOPED:

@@ -4,7 +4,7 @@
 use sheet::Sheet;
 
 // The best so far (incumbent), the visits charged (nodes expanded), and whether a part was left.
-#[derive(Drop)]
+#[derive(Clone, Copy)]
 pub struct State {
     pub tables: [u64; Sheet::WIRES],
     pub cells: u32,

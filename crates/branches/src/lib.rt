@@ -7,7 +7,7 @@
 
 ghost use Rattle.std.specs.Prelude.{◌≡◌, ◌<◌, ◌≤◌, ◌^◌, T, get_or};
 ghost use Rattle.relation.specs.Tests.{of_sets, is_open};
-ghost use Rattle.branch_bound.specs.Search.{split as splitOf, search_part};
+ghost use Rattle.branch_bound.specs.Search.{split as split_of, search_part};
 ghost use Rattle.branch_bound.specs.Boards.{board_of};
 ghost use Rattle.parts.specs.Inner.Boards.{lent_kind, lent_inputs, lent_wires, lent_wide, Lent};
 ghost use Rattle.parts.specs.Inner.Cells.{cells_sum};
@@ -43,10 +43,10 @@ pub fn visit(
     from: u8,
 )
     requires { Lent e.now × Carried (lent_kind e.now) (lent_inputs e.now) (lent_wires e.now) sets.old masks.old state.old low cells
-        × Whole (lentWide e.now) (lentInputs e.now) sets.old state.old × (from ≤ 2 ^ lentInputs e.now)
-        × Settled (lentWires e.now) sets.old (tables_of (lentKind e.now) (lentInputs e.now) sets.old) from × Held state.old × (cellsSum cells < get_or state.old cellsPlace 0) }
+        × Whole (lent_wide e.now) (lent_inputs e.now) sets.old state.old × (from ≤ 2 ^ lent_inputs e.now)
+        × Settled (lent_wires e.now) sets.old (tables_of (lent_kind e.now) (lent_inputs e.now) sets.old) from × Held state.old × (cells_sum cells < get_or state.old cells_place 0) }
     ensures { (sets.new ≡ sets.old) × (masks.new ≡ masks.old) × SameRest state.old state.new
-        × Ran (searchPart (boardOf (lentKind e.now) (lentInputs e.now) (lentWires e.now)) (budgetIn state.old) (ofSets sets.old)) state.old state.new }
+        × Ran (search_part (board_of (lent_kind e.now) (lent_inputs e.now) (lent_wires e.now)) (budget_in state.old) (of_sets sets.old)) state.old state.new }
 {
     if !charge(state) {
         leave(state);
@@ -76,10 +76,10 @@ fn split(
     j: u8,
 )
     requires { Lent e.now × Carried (lent_kind e.now) (lent_inputs e.now) (lent_wires e.now) sets.old masks.old state.old low cells
-        × Whole (lentWide e.now) (lentInputs e.now) sets.old state.old × (p < 2 ^ lentInputs e.now) × (j < lentWires e.now) × T (isOpen (lentWires e.now) (ofSets sets.old p) j)
-        × Settled (lentWires e.now) sets.old (tables_of (lentKind e.now) (lentInputs e.now) sets.old) p × Held state.old × (cellsSum cells < get_or state.old cellsPlace 0) }
+        × Whole (lent_wide e.now) (lent_inputs e.now) sets.old state.old × (p < 2 ^ lent_inputs e.now) × (j < lent_wires e.now) × T (is_open (lent_wires e.now) (of_sets sets.old p) j)
+        × Settled (lent_wires e.now) sets.old (tables_of (lent_kind e.now) (lent_inputs e.now) sets.old) p × Held state.old × (cells_sum cells < get_or state.old cells_place 0) }
     ensures { (sets.new ≡ sets.old) × (masks.new ≡ masks.old) × SameRest state.old state.new
-        × Ran (splitOf (boardOf (lentKind e.now) (lentInputs e.now) (lentWires e.now)) (budgetIn state.old) (searchPart (boardOf (lentKind e.now) (lentInputs e.now) (lentWires e.now)) (budgetIn state.old)) (ofSets sets.old) p j) state.old state.new }
+        × Ran (split_of (board_of (lent_kind e.now) (lent_inputs e.now) (lent_wires e.now)) (budget_in state.old) (search_part (board_of (lent_kind e.now) (lent_inputs e.now) (lent_wires e.now)) (budget_in state.old)) (of_sets sets.old) p j) state.old state.new }
 {
     let at = p as usize;
     let set = sets[at];

@@ -109,7 +109,7 @@ pub extern "C" fn dagmetzi_quote_joined(
     ensures numbers { reply.new ≡ quote_numbers (joint_quoted first.now second.now budget (length buffer.old)) }
     ensures bytes { buffer.new ≡ joint_buffer first.now second.now budget buffer.old }
     ensures promise { JointPromised first.now second.now budget
-        (jointQuoted first.now second.now budget (length buffer.old)) buffer.new }
+        (joint_quoted first.now second.now budget (length buffer.old)) buffer.new }
 {
     let quoted = quote_joined(first, second, budget, buffer);
     let mark = quoted.mark;

@@ -26,7 +26,7 @@ pub const REFUSED: u64 = 2;
 
 const SECOND_REFUSED: u64 = 3;
 
-#[derive(Drop)]
+#[derive(Clone, Copy)]
 pub struct Told {
     pub outcome: u64,
     pub number: u32,

@@ -15,7 +15,7 @@ use sheet::Sheet;
 pub fn write_copy(sheet: Sheet, buffer: &mut [u8]) -> Written
     requires { WasRead sheet }
     ensures { (written_case result ≡ fitted (copy_bytes sheet) (length buffer.old))
-        × (buffer.new ≡ bufferWith (copyBytes sheet) buffer.old (fitted (copyBytes sheet) (length buffer.old))) }
+        × (buffer.new ≡ buffer_with (copy_bytes sheet) buffer.old (fitted (copy_bytes sheet) (length buffer.old))) }
 {
     let length = copy_length(sheet);
     if buffer.len() < length {

@@ -15,7 +15,7 @@ use sheet::{Command, Sheet};
 use writer::put_command;
 
 // The sections between the sizes and the end.
-#[derive(Drop)]
+#[derive(Clone, Copy)]
 enum Section {
     Marks,
     Limits,

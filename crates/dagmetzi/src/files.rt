@@ -4,7 +4,7 @@ ghost use Rattle.io.specs.Counts.{IsPrefixLen};
 use crate::messages;
 
 // How many bytes were read; and whether that is all there was, or as much as the buffer takes. Where it is not, the reason has been said on standard error.
-#[derive(Drop)]
+#[derive(Clone, Copy)]
 pub struct Input {
     pub length: usize,
     pub is_read: bool,

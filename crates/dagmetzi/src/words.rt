@@ -18,7 +18,7 @@ const SHEET_ROOM: usize = LONGEST_SHEET + 1;
 const STAGE_ROOM: usize = LONGEST_DIAGRAMS + 1;
 
 // The words whose first name is a sheet's.
-#[derive(Drop)]
+#[derive(Clone, Copy)]
 enum Word {
     Shared,
     Audit,

@@ -48,8 +48,8 @@ pub fn again(
     cells: u64,
 ) -> Picks
     requires { Lent e.now × ((j : ℕ) → j < max_wires → Covers (lent_inputs e.now) (words_of masks.now) j) × (length state.old ≡ state_length)
-        × ((q : ℕ) → 1 ≤ q → q < sections → get_or state.old (restPlace q) 0 < lanesSpace) × LanesBelow 2 wires × (wires < lanesSpace)
-        × FewCells cells × (cellsSum cells < get_or state.old cellsPlace 0) }
+        × ((q : ℕ) → 1 ≤ q → q < sections → get_or state.old (rest_place q) 0 < lanes_space) × LanesBelow 2 wires × (wires < lanes_space)
+        × FewCells cells × (cells_sum cells < get_or state.old cells_place 0) }
     ensures { Remade e.now (words_of masks.now) wires tables cells state.old state.new result }
 {
     let mut left = wires;

@@ -19,7 +19,7 @@ use relation::Relation;
 use search::Mark;
 
 // The mark of a joint quote. A refusal names the sheet; what both together are refused for counts as the second's.
-#[derive(Drop)]
+#[derive(Clone, Copy)]
 pub enum JointMark {
     Best,
     Stopped,
@@ -28,7 +28,7 @@ pub enum JointMark {
 }
 
 // The reply of a joint quote: as that of a quote, with the sheet named where it is refused.
-#[derive(Drop)]
+#[derive(Clone, Copy)]
 pub struct JointQuoted {
     pub cells: u64,
     pub floor: u64,
@@ -112,7 +112,7 @@ fn sizes_differ() -> JointQuoted
 // The quote of what two relations both allow, or 13 where their sizes differ.
 fn quote_both(first: Relation, second: Relation, budget: u32, buffer: &mut [u8]) -> JointQuoted
     ensures { (joint_reply result ≡ both_quoted first second budget (length buffer.old))
-        × (buffer.new ≡ bothBuffer first second budget buffer.old) }
+        × (buffer.new ≡ both_buffer first second budget buffer.old) }
 {
     if first.n != second.n {
         return sizes_differ();

@@ -10,7 +10,7 @@ use sheet::Sheet;
 pub mod picks; // the table whose nodes count for least between two masks
 
 // What drives a wire: a tree of selectors (document 01), or selectors of which one can drive more than one other (document 02, E2).
-#[derive(Drop)]
+#[derive(Clone, Copy)]
 pub enum BoardKind {
     Tree,
     Sharing,

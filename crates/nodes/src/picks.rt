@@ -267,7 +267,7 @@ fn pick4(e: &[u32; LENT], pair: u32) -> u32
 // repeated have the pick repeated.
 pub fn pick_shared(e: &[u32; LENT], n: u8, pair: u32) -> u32
     requires { Tops e.now × (1 ≤ n) × (n ≤ max_shared_inputs) × (zeros_in pair < 2 ^ (2 ^ n)) × (ones_in pair < 2 ^ (2 ^ n))
-        × Covered n (zerosIn pair) (ones_in pair) }
+        × Covered n (zeros_in pair) (ones_in pair) }
     ensures { result ≡ rank (nodes n) (pick_of (nodes n) n (zeros_in pair) (ones_in pair)) }
 {
     match n {

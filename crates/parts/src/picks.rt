@@ -44,7 +44,7 @@ fn pick_wide(
 ) -> u32
     requires { Lent e.now × (board ≡ board_in e.now) × (wide_mark ≤ board) × (j < max_wires) × Covers (lent_inputs e.now) (words_of masks.now) j × (length state.old ≡ state_length) }
     ensures { (result ≡ side_rank e.now (words_of masks.now) j)
-        × PutRest true j (pickOn e.now (words_of masks.now) j) state.old state.new }
+        × PutRest true j (pick_on e.now (words_of masks.now) j) state.old state.new }
 {
     let found = wide_pick(
         e,
@@ -61,9 +61,9 @@ fn pick_wide(
 // The rank of the pick on any other board, whose masks stand in one word.
 fn pick_narrow(e: &[u32; LENT], board: u8, x: u32) -> u32
     requires { Lent e.now × (board ≡ board_in e.now) × (board < wide_mark) × (zeros_in x < 2 ^ (2 ^ lent_inputs e.now)) × (ones_in x < 2 ^ (2 ^ lent_inputs e.now))
-        × Covered (lentInputs e.now) (zerosIn x) (ones_in x) }
+        × Covered (lent_inputs e.now) (zeros_in x) (ones_in x) }
     ensures { result ≡ rank (count_of (lent_kind e.now) (lent_inputs e.now))
-        (pick_of (count_of (lentKind e.now) (lentInputs e.now)) (lentInputs e.now) (zerosIn x) (ones_in x)) }
+        (pick_of (count_of (lent_kind e.now) (lent_inputs e.now)) (lent_inputs e.now) (zeros_in x) (ones_in x)) }
 {
     if board < SHARING {
         pick(e, board, x)
@@ -76,7 +76,7 @@ fn pick_narrow(e: &[u32; LENT], board: u8, x: u32) -> u32
 pub fn pick_at(e: &[u32; LENT], masks: &[u16; MASKS], j: u8, state: &mut [u64; STATE]) -> u32
     requires { Lent e.now × (j < max_wires) × Covers (lent_inputs e.now) (words_of masks.now) j × (length state.old ≡ state_length) }
     ensures { (result ≡ side_rank e.now (words_of masks.now) j)
-        × PutRest (lentWide e.now) j (pickOn e.now (words_of masks.now) j) state.old state.new }
+        × PutRest (lent_wide e.now) j (pick_on e.now (words_of masks.now) j) state.old state.new }
 {
     let board = e[BOARD_PLACE] as u8;
     if board == NARROW_INPUTS {

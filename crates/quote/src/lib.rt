@@ -22,7 +22,7 @@ mod audits; // the audit
 
 // The reply of a quote: the cells, the floor (lower bound), the visits and the mark of the search, and the length of the stage written. On a refusal
 // the mark has it and the numbers are 0.
-#[derive(Drop)]
+#[derive(Clone, Copy)]
 pub struct Quoted {
     pub cells: u64,
     pub floor: u64,
@@ -32,7 +32,7 @@ pub struct Quoted {
 }
 
 // The reply of an audit: the stage keeps to the sheet or not, with its cells; or the unit sheet or the stage sheet is refused.
-#[derive(Drop)]
+#[derive(Clone, Copy)]
 pub enum Audited {
     Fits(u32),
     Differs(u32),

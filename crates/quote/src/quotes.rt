@@ -29,7 +29,7 @@ pub fn refused_quote(refusal: Refusal) -> Quoted
 // The stage of an answer's tables, written.
 fn quote_answer(kind: BoardKind, n: u8, m: u8, answer: Answer, buffer: &mut [u8]) -> Quoted
     ensures { (quote_reply result ≡ with_stage (search_reply answer) (written_of (form_of kind) n m answer.tables (length buffer.old)))
-        × (buffer.new ≡ bufferAfter (form_of kind) n m answer.tables buffer.old) }
+        × (buffer.new ≡ buffer_after (form_of kind) n m answer.tables buffer.old) }
 {
     let tables = answer.tables;
     let mark = answer.mark;

@@ -13,7 +13,7 @@ use sheet::{Command, Reply, Sheet};
 mod commands; // one command at a place, and the reader behind it
 
 // A place among the bytes, with the sizes once command 01 was read.
-#[derive(Drop)]
+#[derive(Clone, Copy)]
 pub struct Reader {
     pub at: usize,
     pub started: bool,
@@ -22,20 +22,20 @@ pub struct Reader {
 }
 
 // What reading one command gives.
-#[derive(Drop)]
+#[derive(Clone, Copy)]
 pub enum Step {
     Read(Command, Reader),
     Refused(Refusal),
 }
 
 // Where one command leads: on with the moved reader, or to the verdict.
-#[derive(Drop)]
+#[derive(Clone, Copy)]
 enum Progress {
     On(Reader),
     Done(Verdict),
 }
 
-#[derive(Drop)]
+#[derive(Clone, Copy)]
 struct Turn {
     sheet: Sheet,
     progress: Progress,

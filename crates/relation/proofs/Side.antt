@@ -63,7 +63,7 @@ once = 2 ^ (narrow_patterns - 1)
 abbrev pub twice : ℕ
 twice = 2 ^ (2 * (narrow_patterns - 1))
 
--- so the two sums move them together. What else there is in the sums is a multiple of maxValues: the places of other sections' bits, as powers written out
+-- so the two sums move them together. What else there is in the sums is a multiple of max_values: the places of other sections' bits, as powers written out
 together : (b0 b1 b2 b3 y : ℕ) → b0 < 2 → b1 < 2 → b2 < 2 → b3 < 2 → y ≡ b0 + b1 * side 1 + b2 * side 2 + b3 * side 3
     → (y + y / once + (y + y / once) / twice) % max_values ≡ b0 + 2 * b1 + 4 * b2 + 8 * b3
 together b0 b1 b2 b3 y h0 h1 h2 h3 e =

@@ -18,7 +18,7 @@ pub mod patterns; // the sets of all patterns together, and the value of tables 
 mod handed; // the first pattern that a test refuses
 
 // n inputs, m wires, and for each pattern the set of allowed values: bit v of a set is value v.
-#[derive(Drop)]
+#[derive(Clone, Copy)]
 pub struct Relation {
     pub n: u8,
     pub m: u8,

@@ -35,7 +35,7 @@ use visits::states::{RESTS, begin, joined, keep, put_back, rest_of};
 const NO_BEST: u64 = CELLS_1;
 
 // The whole relation as the first part: the masks of its wires, its picks on the first section, and their cells.
-#[derive(Drop)]
+#[derive(Clone, Copy)]
 pub struct WholePart {
     pub masks: [u16; MASKS],
     pub low: u64,
@@ -49,9 +49,9 @@ pub fn whole_part(
     state: &mut [u64; STATE],
 ) -> WholePart
     requires { Lent e.now × Sized (most_inputs (lent_kind e.now)) (lent_inputs e.now) (lent_wires e.now) × PartSets (lent_inputs e.now) (lent_wires e.now) sets.now
-        × (length state.old ≡ stateLength) × ((q : ℕ) → 1 ≤ q → q < sections → get_or state.old (restPlace q) 0 ≡ 0) }
+        × (length state.old ≡ state_length) × ((q : ℕ) → 1 ≤ q → q < sections → get_or state.old (rest_place q) 0 ≡ 0) }
     ensures { Carried (lent_kind e.now) (lent_inputs e.now) (lent_wires e.now) sets.now result.masks state.new result.low result.cells
-        × (length state.new ≡ stateLength) }
+        × (length state.new ≡ state_length) }
 {
     state[CELLS] = NO_BEST;
     let words = pairs_of(inputs_of(e[BOARD_PLACE] as u8), sets);
@@ -94,11 +94,11 @@ pub fn keep_first(
     state: &mut [u64; STATE],
 )
     requires { Lent e.now × Sized (most_inputs (lent_kind e.now)) (lent_inputs e.now) (lent_wires e.now) × PartSets (lent_inputs e.now) (lent_wires e.now) sets
-        × AtHand low state.old (tables_of (lentKind e.now) (lentInputs e.now) sets) × (cells ≡ cells_of (lentKind e.now) (lentInputs e.now) sets)
-        × (length state.old ≡ stateLength) }
+        × AtHand low state.old (tables_of (lent_kind e.now) (lent_inputs e.now) sets) × (cells ≡ cells_of (lent_kind e.now) (lent_inputs e.now) sets)
+        × (length state.old ≡ state_length) }
     ensures { SameRest state.old state.new × (length state.new ≡ state_length)
-        × ((state_of state.new).tables ≡ (start (boardOf (lentKind e.now) (lentInputs e.now) (lentWires e.now)) (ofSets sets)).tables)
-        × ((state_of state.new).cells ≡ (start (boardOf (lentKind e.now) (lentInputs e.now) (lentWires e.now)) (ofSets sets)).cells) }
+        × ((state_of state.new).tables ≡ (start (board_of (lent_kind e.now) (lent_inputs e.now) (lent_wires e.now)) (of_sets sets)).tables)
+        × ((state_of state.new).cells ≡ (start (board_of (lent_kind e.now) (lent_inputs e.now) (lent_wires e.now)) (of_sets sets)).cells) }
 {
     let rest = rest_of(state);
     let table = joined(low, rest[0], rest[1], rest[2], 0);
@@ -128,7 +128,7 @@ pub fn begin_search(
     requires { Lent e.now × (length state.old ≡ state_length) }
     ensures { Held state.new × (budget_in state.new ≡ budget) × SameRest state.old state.new
         × (state_of state.new ≡ record { tables = (state_of state.old).tables; cells = (state_of state.old).cells; visits = 0; stopped = false })
-        × Seen (lentWide e.now) (lentInputs e.now) sets.now state.new }
+        × Seen (lent_wide e.now) (lent_inputs e.now) sets.now state.new }
 {
     let seen = seen_of(is_wide(e[BOARD_PLACE] as u8));
     let whole = whole_of(e[COUNT_PLACE] as u8, seen, sets);

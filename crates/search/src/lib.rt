@@ -5,7 +5,7 @@
 ghost use Rattle.std.specs.Prelude.{◌≡◌};
 ghost use Rattle.relation.specs.Source.{Rel};
 ghost use Rattle.relation.specs.Tests.{of_sets};
-ghost use Rattle.branch_bound.specs.Search.{Board, floor as floorOf, search_part, run};
+ghost use Rattle.branch_bound.specs.Search.{Board, floor as floor_of, search_part, run};
 ghost use Rattle.nodes.specs.declared.BoardKind.TheVariants.{Tree, Sharing};
 ghost use Rattle.nodes.specs.Counts.{most_inputs};
 ghost use Rattle.branch_bound.specs.Boards.{board_of};
@@ -37,7 +37,7 @@ mod beginning; // what the search begins with
 mod quick_solver; // the first answer
 
 // The mark of a reply.
-#[derive(Drop)]
+#[derive(Clone, Copy)]
 pub enum Mark {
     Best,
     Stopped,
@@ -45,7 +45,7 @@ pub enum Mark {
 }
 
 // The reply (document 01, "Search"): a table for each wire that there may be, their cells, the floor (lower bound) and the visits. All 0 on a refusal.
-#[derive(Drop)]
+#[derive(Clone, Copy)]
 pub struct Answer {
     pub tables: [u64; Sheet::WIRES],
     pub cells: u64,
@@ -64,7 +64,7 @@ fn search_whole(
     state: &mut [u64; STATE],
 )
     requires { Lent e.now × Carried (lent_kind e.now) (lent_inputs e.now) (lent_wires e.now) sets masks state.old low cells
-        × Seen (lentWide e.now) (lentInputs e.now) sets state.old × Held state.old }
+        × Seen (lent_wide e.now) (lent_inputs e.now) sets state.old × Held state.old }
     ensures { Ran (search_part (board_of (lent_kind e.now) (lent_inputs e.now) (lent_wires e.now)) (budget_in state.old) (of_sets sets))
         state.old state.new }
 {
@@ -78,7 +78,7 @@ fn search_whole(
 
 // The reply from the state that the search ends in, and the floor of the relation.
 fn reply(state: &[u64; STATE], floor: u64) -> Answer
-    ensures { (b : Board) → (R : Rel) → floor ≡ floorOf b R → search_reply result ≡ answer_of b R (state_of state.now) }
+    ensures { (b : Board) → (R : Rel) → floor ≡ floor_of b R → search_reply result ≡ answer_of b R (state_of state.now) }
 {
     let tables = tables_in(state);
     let cells = state[CELLS];
@@ -107,7 +107,7 @@ fn reply(state: &[u64; STATE], floor: u64) -> Answer
 fn search_sets(e: &[u32; LENT], sets: [u16; Sheet::MAX_PATTERNS], budget: u32) -> Answer
     requires { Lent e.now × Sized (most_inputs (lent_kind e.now)) (lent_inputs e.now) (lent_wires e.now) × PartSets (lent_inputs e.now) (lent_wires e.now) sets }
     ensures { search_reply result ≡ answer_of (board_of (lent_kind e.now) (lent_inputs e.now) (lent_wires e.now)) (of_sets sets)
-        (run (boardOf (lentKind e.now) (lentInputs e.now) (lentWires e.now)) budget (ofSets sets)) }
+        (run (board_of (lent_kind e.now) (lent_inputs e.now) (lent_wires e.now)) budget (of_sets sets)) }
 {
     let mut state = [0u64; STATE];
     let whole = whole_part(e, &sets, &mut state);

@@ -29,8 +29,8 @@ use visits::states::joined;
 fn table_at(wide: bool, found: u32, j: u8, state: &[u64; STATE]) -> u64
     requires { j < max_wires }
     ensures { result ≡ cond wide
-        (found % narrowSpace + joinedOf 0 (get_or state.now (restPlace 1) 0) (get_or state.now (restPlace 2) 0) (get_or state.now (restPlace 3) 0) j)
-        (found % narrowSpace) }
+        (found % narrow_space + joined_of 0 (get_or state.now (rest_place 1) 0) (get_or state.now (rest_place 2) 0) (get_or state.now (rest_place 3) 0) j)
+        (found % narrow_space) }
 {
     let low = side_in(found);
     if wide {
@@ -51,11 +51,11 @@ fn pick_left(
     state: &mut [u64; STATE],
 ) -> u32
     requires { Lent e.now × Sized (most_inputs (lent_kind e.now)) (lent_inputs e.now) (lent_wires e.now) × PartSets (lent_inputs e.now) (lent_wires e.now) left.now × (j < max_wires)
-        × (j ≡ 0 → (table ≡ table_of (lentKind e.now) (lentInputs e.now) left.now 0) × (first ≡ count_of (lentKind e.now) (lentInputs e.now) table))
-        × (length tables.old ≡ maxWires) × (length state.old ≡ stateLength) }
+        × (j ≡ 0 → (table ≡ table_of (lent_kind e.now) (lent_inputs e.now) left.now 0) × (first ≡ count_of (lent_kind e.now) (lent_inputs e.now) table))
+        × (length tables.old ≡ max_wires) × (length state.old ≡ state_length) }
     ensures { (tables.new ≡ put tables.old j (table_of (lent_kind e.now) (lent_inputs e.now) left.now j))
-        × (result ≡ count_of (lentKind e.now) (lentInputs e.now) (table_of (lentKind e.now) (lentInputs e.now) left.now j))
-        × (length state.new ≡ stateLength) }
+        × (result ≡ count_of (lent_kind e.now) (lent_inputs e.now) (table_of (lent_kind e.now) (lent_inputs e.now) left.now j))
+        × (length state.new ≡ state_length) }
 {
     if j == 0 {
         tables[0] = table;
@@ -77,7 +77,7 @@ pub fn quick(
     state: &mut [u64; STATE],
 ) -> State
     requires { Lent e.now × Sized (most_inputs (lent_kind e.now)) (lent_inputs e.now) (lent_wires e.now) × PartSets (lent_inputs e.now) (lent_wires e.now) sets
-        × (table ≡ table_of (lentKind e.now) (lentInputs e.now) sets 0) × (first ≡ count_of (lentKind e.now) (lentInputs e.now) table) × (length state.old ≡ stateLength) }
+        × (table ≡ table_of (lent_kind e.now) (lent_inputs e.now) sets 0) × (first ≡ count_of (lent_kind e.now) (lent_inputs e.now) table) × (length state.old ≡ state_length) }
     ensures { (result ≡ start (board_of (lent_kind e.now) (lent_inputs e.now) (lent_wires e.now)) (of_sets sets)) × (length state.new ≡ state_length) }
 {
     let n = inputs_of(e[BOARD_PLACE] as u8);

@@ -36,7 +36,7 @@ sizes_out most n m = count_out n most || count_out m max_wires
 abbrev pub is_beyond : ℕ → ℕ → Bool
 is_beyond k x = leb (2 ^ k) x
 
--- a set of values is a number of 2 ^ wordPower bits
+-- a set of values is a number of 2 ^ word_power bits
 abbrev pub word_power : ℕ
 word_power = 4
 

@@ -11,7 +11,7 @@ pub mod limits; // sizes and sets against the limits
 mod gather; // the sheet with one command more
 
 // A command of a unit sheet: first bytes 00 to 06, in this order.
-#[derive(Drop)]
+#[derive(Clone, Copy)]
 pub enum Command {
     End,
     Sizes { n: u8, m: u8 },
@@ -23,7 +23,7 @@ pub enum Command {
 }
 
 // What the commands of a sheet say. Entries past the last pattern, gate or output are 0.
-#[derive(Drop)]
+#[derive(Clone, Copy)]
 pub struct Sheet {
     pub n: u8,
     pub m: u8,
@@ -68,7 +68,7 @@ impl Sheet {
 }
 
 // What was gathered, and whether it is accepted. Where it is refused, the sheet is a fresh one without sizes.
-#[derive(Drop)]
+#[derive(Clone, Copy)]
 pub struct Reply {
     pub sheet: Sheet,
     pub answer: Verdict,

@@ -56,7 +56,7 @@ fn entry_refusal(n: u8, own: u8, i: u8, zero: u8, one: u8, inputs: &[u8; NUMBERS
 fn judge_entry(s: &[u8], at: usize, n: u8, own: u8, inputs: &[u8; NUMBERS]) -> u8
     requires { (at ≤ length s.now) × (own < most_numbers) }
     ensures { (es : List Entry) → next_number es ≡ own → InputsTell n es inputs.now
-        → entry_at n es at (drop at s.now) ≡ entryBy result s.now at }
+        → entry_at n es at (drop at s.now) ≡ entry_by result s.now at }
 {
     if s.len() - at < SELECTOR_BYTES {
         return Refusal::CUT_SHORT;
@@ -75,7 +75,7 @@ fn keep_entry(
 )
     requires { (n ≤ max_inputs) × (at + 3 ≤ length s.now) × (own < most_numbers) × Selects n own tables.old (entry_there s.now at) }
     ensures { (tables.new ≡ set tables.old own (table_by n tables.old (entry_there s.now at)))
-        × (inputs.new ≡ set inputs.old own (entryThere s.now at).input) }
+        × (inputs.new ≡ set inputs.old own (entry_there s.now at).input) }
 {
     let i = s[at];
     let zero = s[at + 1] as usize;
@@ -102,7 +102,7 @@ fn count_entry(s: &[u8], at: usize, cells: u16) -> u16
 fn read_top(s: &[u8], at: usize, next: u8, cells: u16, tables: &[u64; NUMBERS]) -> WireStep
     requires { next ≤ most_numbers }
     ensures { (n : ℕ) (es : List Entry) → next_number es ≡ next → TablesTell n es tables.now → cells ≡ entries_cells es
-        → wireReply result ≡ step_of diagramDrawing n (topAt es at (drop at s.now)) }
+        → wire_reply result ≡ step_of diagram_drawing n (top_at es at (drop at s.now)) }
 {
     if s.len() <= at {
         return WireStep::Refused(Refusal::at(Refusal::CUT_SHORT, at));

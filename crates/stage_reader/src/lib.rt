@@ -28,7 +28,7 @@ mod trees; // one wire's tree
 mod diagrams; // one wire's diagram
 
 // What a stage sheet says. A wire that it does not have is given table 0; after a refusal all numbers are 0.
-#[derive(Drop)]
+#[derive(Clone, Copy)]
 pub struct StageRead {
     pub n: u8,
     pub m: u8,

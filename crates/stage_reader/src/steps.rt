@@ -2,7 +2,7 @@
 use base::Refusal;
 
 // A wire that was read: its truth table over all inputs, its cells, and the place after it.
-#[derive(Drop)]
+#[derive(Clone, Copy)]
 pub enum WireStep {
     Wire { table: u64, cells: u16, next: usize },
     Refused(Refusal),

@@ -31,7 +31,7 @@ pub fn write_on(
     buffer: &mut [u8],
 ) -> Written
     ensures { (written_case result ≡ written_of (form_of kind) n m tables (length buffer.old))
-        × (buffer.new ≡ bufferAfter (form_of kind) n m tables buffer.old) }
+        × (buffer.new ≡ buffer_after (form_of kind) n m tables buffer.old) }
 {
     if sizes_out(most_inputs(kind), n, m) {
         return Written::Refused(Refusal::at(Refusal::OUT_OF_RANGE, 0));

@@ -156,7 +156,7 @@ pub fn pick4(e: &[u32; LENT], pair: u32) -> u32
 // One input is looked up as two, the patterns of each mask beside themselves.
 pub fn pick(e: &[u32; LENT], n: u8, pair: u32) -> u32
     requires { Blocks e.now × (1 ≤ n) × (n ≤ narrow_inputs) × (zeros_in pair < 2 ^ (2 ^ n)) × (ones_in pair < 2 ^ (2 ^ n))
-        × Covered n (zerosIn pair) (ones_in pair) }
+        × Covered n (zeros_in pair) (ones_in pair) }
     ensures { result ≡ rank (cells n) (pick_of (cells n) n (zeros_in pair) (ones_in pair)) }
 {
     match n {

@@ -16,7 +16,7 @@ use crate::picks::{
 use sheet::Sheet;
 
 // A pick: its cells, and its table.
-#[derive(Drop)]
+#[derive(Clone, Copy)]
 pub struct Pick {
     pub cells: u32,
     pub table: u64,
@@ -167,8 +167,8 @@ fn lesser_pick(key: u64, table: u64, cost: u64, other: u64) -> Pick
 fn join6(low: u64, high: u64, both: u64, line: bool) -> Pick
     requires { (five_space ≤ low) × (low ≤ no_table * five_space) × (five_space ≤ high) × (high ≤ no_table * five_space) × (five_space ≤ both) × (both ≤ no_table * five_space) }
     ensures { (1 + result.cells) * six_space + result.table
-        ≡ min (both / fiveSpace * sixSpace + (both % fiveSpace * fiveSpace + both % fiveSpace))
-        (cond line lineOfSix ((low / fiveSpace + high / fiveSpace) * sixSpace + (high % fiveSpace * fiveSpace + low % fiveSpace))) }
+        ≡ min (both / five_space * six_space + (both % five_space * five_space + both % five_space))
+        (cond line line_of_six ((low / five_space + high / five_space) * six_space + (high % five_space * five_space + low % five_space))) }
 {
     let key = both / FIVE_SPACE;
     let half = both % FIVE_SPACE;
@@ -199,8 +199,8 @@ fn pick6(e: &[u32; LENT], a: u32, b: u32, c: u32, d: u32) -> Pick
 // the masks of a wire, which cover every pattern.
 pub fn wide_pick(e: &[u32; LENT], n: u8, a: u32, b: u32, c: u32, d: u32) -> Pick
     requires { Blocks e.now × (narrow_inputs < n) × (n ≤ max_inputs)
-        × (fourMasks (zerosIn a) (zerosIn b) (zerosIn c) (zerosIn d) < 2 ^ (2 ^ n)) × (fourMasks (ones_in a) (ones_in b) (ones_in c) (ones_in d) < 2 ^ (2 ^ n))
-        × Covered n (fourMasks (zerosIn a) (zerosIn b) (zerosIn c) (zerosIn d)) (fourMasks (ones_in a) (ones_in b) (ones_in c) (ones_in d)) }
+        × (four_masks (zeros_in a) (zeros_in b) (zeros_in c) (zeros_in d) < 2 ^ (2 ^ n)) × (four_masks (ones_in a) (ones_in b) (ones_in c) (ones_in d) < 2 ^ (2 ^ n))
+        × Covered n (four_masks (zeros_in a) (zeros_in b) (zeros_in c) (zeros_in d)) (four_masks (ones_in a) (ones_in b) (ones_in c) (ones_in d)) }
     ensures { (result.table ≡ pick_of (cells n) n (four_masks (zeros_in a) (zeros_in b) (zeros_in c) (zeros_in d)) (four_masks (ones_in a) (ones_in b) (ones_in c) (ones_in d)))
         × (result.cells ≡ cells n result.table) }
 {

@@ -17,7 +17,7 @@ mod gates; // gates.rt: signals and outputs, for all wire values at once
 mod sets; // sets.rt: the relation, pattern by pattern
 
 // The relation of a sheet, or the refusal; the relation has no sizes and empty sets on a refusal.
-#[derive(Drop)]
+#[derive(Clone, Copy)]
 pub struct Formed {
     pub relation: Relation,
     pub answer: Verdict,

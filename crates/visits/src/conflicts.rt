@@ -95,10 +95,10 @@ pub fn first_open(
     low: u64,
 ) -> SplitPlace
     requires { Lent e.now × Sized (most_inputs (lent_kind e.now)) (lent_inputs e.now) (lent_wires e.now) × PartSets (lent_inputs e.now) (lent_wires e.now) sets.now
-        × AtHand low state.now (tables_of (lentKind e.now) (lentInputs e.now) sets.now) × (from ≤ 2 ^ lentInputs e.now)
-        × Settled (lentWires e.now) sets.now (tables_of (lentKind e.now) (lentInputs e.now) sets.now) from }
+        × AtHand low state.now (tables_of (lent_kind e.now) (lent_inputs e.now) sets.now) × (from ≤ 2 ^ lent_inputs e.now)
+        × Settled (lent_wires e.now) sets.now (tables_of (lent_kind e.now) (lent_inputs e.now) sets.now) from }
     ensures { result ≡ split_place (lent_inputs e.now) (lent_wires e.now) (of_sets sets.now)
-        (wires (tables_of (lentKind e.now) (lentInputs e.now) sets.now)) }
+        (wires (tables_of (lent_kind e.now) (lent_inputs e.now) sets.now)) }
 {
     let count = e[COUNT_PLACE] as u8;
     let m = e[WIRES_PLACE] as u8;

@@ -32,7 +32,7 @@ pub fn leave(state: &mut [u64; STATE])
 pub fn charge(state: &mut [u64; STATE]) -> bool
     requires { Held state.old }
     ensures { (result ≡ not (spent_in state.old))
-        × (state.new ≡ cond (spentIn state.old) state.old (set state.old visitsPlace (get_or state.old visitsPlace 0 + 1))) }
+        × (state.new ≡ cond (spent_in state.old) state.old (set state.old visits_place (get_or state.old visits_place 0 + 1))) }
 {
     let visits = state[VISITS];
     if state[BUDGET] <= visits {

@@ -29,7 +29,7 @@ pub const LIMIT_WIDTH: usize = 4;
 const LONGEST_COMMAND: usize = 4;
 
 // A command as bytes: its own at the front, and how many they are.
-#[derive(Drop)]
+#[derive(Clone, Copy)]
 struct Encoded {
     bytes: [u8; LONGEST_COMMAND],
     length: usize,

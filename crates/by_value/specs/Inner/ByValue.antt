@@ -91,6 +91,6 @@ WordsBelow seen sets words =
     ((q k : ℕ) → narrow_patterns * q < seen → k < section_words → get_or words (value_word_place q k) 0 ≡ value_word sets q k)
     × ((q k : ℕ) → seen ≤ narrow_patterns * q → q < sections → k < section_words → get_or words (value_word_place q k) 0 ≡ 0)
 
--- the lowest pattern of a section that is not allowed, by the bits that say which are; narrowPatterns where all are
+-- the lowest pattern of a section that is not allowed, by the bits that say which are; narrow_patterns where all are
 abbrev pub first_refused : ℕ → ℕ
 first_refused fine = lowest narrow_patterns (λ p. eqb (bit fine p) 0)

@@ -40,6 +40,6 @@ put_lane x j y = lanes_of (λ i. cond (eqb i j) y (lane_of x i))
 abbrev pub LanesBelow : (k x : ℕ) → Type 0
 LanesBelow k x = (j : ℕ) → j < max_wires → lane_of x j < k
 
--- the first wire whose lane is 1; maxWires where there is none
+-- the first wire whose lane is 1; max_wires where there is none
 abbrev pub first_wire : ℕ → ℕ
 first_wire x = lowest max_wires (λ j. eqb (lane_of x j) 1)

@@ -10,7 +10,7 @@ use Rattle.nodes.specs.Inner.Tops.{top_price, four_times}
 abbrev pub one_node : ℕ
 one_node = narrow_space
 
--- the places of quarters in a table of four inputs: digits to the base blockSpace
+-- the places of quarters in a table of four inputs: digits to the base block_space
 abbrev pub place_of : ℕ → ℕ
 place_of j = block_space ^ j
 

@@ -1,4 +1,4 @@
--- The two masks of a wire on one section, narrowPatterns patterns, in one number: how a pattern's bits stand there, and how it is cut.
+-- The two masks of a wire on one section, narrow_patterns patterns, in one number: how a pattern's bits stand there, and how it is cut.
 use Rattle.std.specs.Prelude.{ℕ, ◌+◌, ◌*◌, Bool, not, List, get_or}
 use Rattle.sheet.specs.Limits.{max_wires}
 use Rattle.table.specs.Bits.{tabulate, is_one}

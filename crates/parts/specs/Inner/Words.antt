@@ -1,4 +1,4 @@
--- The two masks of each wire's projection as words: a pair of masks for each section of narrowPatterns patterns, one section after the other, and in each
+-- The two masks of each wire's projection as words: a pair of masks for each section of narrow_patterns patterns, one section after the other, and in each
 -- section one wire after the other.
 use Rattle.std.specs.Prelude.{ℕ, ◌+◌, ◌*◌, ◌/◌, ◌%◌, ◌^◌, ◌<◌, cond, List, eqb, get_or}
 use Rattle.sheet.specs.Limits.{max_wires, max_patterns}

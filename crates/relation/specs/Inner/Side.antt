@@ -5,7 +5,7 @@ use Rattle.table.specs.Bits.{bit, of_bits}
 use Rattle.table.specs.Inner.Pairs.{narrow_patterns}
 use Rattle.table.specs.Inner.Ranks.{narrow_space}
 
--- section q of a table: its bits on narrowPatterns patterns, from narrowPatterns * q on
+-- section q of a table: its bits on narrow_patterns patterns, from narrow_patterns * q on
 unfoldable pub section : (t q : ℕ) → ℕ
 section t q = t / 2 ^ (narrow_patterns * q) % narrow_space
 

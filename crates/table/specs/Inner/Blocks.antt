@@ -32,7 +32,7 @@ block_entry count (some t) = count t * three_space + t * (block_space + 1)
 unfoldable pub best_block : (ℕ → ℕ) → (zeros ones : ℕ) → ℕ
 best_block count zeros ones = block_entry count (least_of count 2 (masked zeros ones))
 
--- the entry of two masks stands at the place zeros * blockSpace + ones, in the form that a board has its entries written in
+-- the entry of two masks stands at the place zeros * block_space + ones, in the form that a board has its entries written in
 pub record BestBlocks (written count : ℕ → ℕ) (e : List ℕ) : Type 0 where
   pub entry : (zeros ones : ℕ) → zeros < block_space → ones < block_space → get_or e (zeros * block_space + ones) 0 ≡ written (best_block count zeros ones)
 
@@ -57,7 +57,7 @@ zeros_at low high = high / block_space * block_space + low / block_space
 abbrev pub ones_at : (low high : ℕ) → ℕ
 ones_at low high = high % block_space * block_space + low % block_space
 
--- a number shows a table by its key: the key times w, and the table; where there is none, at least as much as noTable times w
+-- a number shows a table by its key: the key times w, and the table; where there is none, at least as much as no_table times w
 abbrev pub Shown : (ℕ → ℕ) → ℕ → Option ℕ → ℕ → Type 0
 Shown key w none x = no_table * w ≤ x
 Shown key w (some t) x = x ≡ key t * w + t

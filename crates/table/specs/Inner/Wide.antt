@@ -6,7 +6,7 @@ use Rattle.table.specs.Inner.Ranks.{narrow_space}
 use Rattle.table.specs.Inner.Pairs.{narrow_inputs, narrow_patterns, upper_half, zeros_in, ones_in}
 use Rattle.table.specs.Inner.Blocks.{PickShown}
 
--- a section of a table is its bits on narrowPatterns patterns: so many sections of the largest
+-- a section of a table is its bits on narrow_patterns patterns: so many sections of the largest
 abbrev pub sections : ℕ
 sections = max_patterns / narrow_patterns
 
