@@ -1,15 +1,15 @@
 -- `count8` meets its contract: the table's halving rule is one test over all of its entries.
+use borrow.Author.Rules.{rules}
 use mathlib.Core.List.{List, [], ◌∷◌}
 use mathlib.Core.Bool.{Bool}
 use Prim.Native.Nat.{ℕ}
 use lib.Dec.{eqb, eqb→eq}
 use lib.ListN.{get_or}
-use borrow.Author.Rules.{rules}
 use Rattle.table.specs.Cells.{low, high, full, wired_table, selector_cells, cells}
 use Rattle.base.proofs.Table.{at}
-use Rattle.table.proofs.cell_counts.count8.Statement.{statement}
-use Rattle.table.proofs.cell_counts.count8.Tie as tie
+use Rattle.table.proofs.cell_counts.count8.Goals as goal
 
+-- `count8` meets its contract: the table's halving rule is one test over all of its entries.
 -- the entries as the code has them
 table : List ℕ
 table =
@@ -26,12 +26,6 @@ table =
 right : ℕ → ℕ → Bool
 right k x = eqb x (cells 3 k)
 
-array-read-result : tie.Need-array-read-result
-array-read-result c = search rules
-
-returns : tie.Need-returns
+pub returns : goal.returns
 unfolding table right cells low high full wired_table selector_cells
 returns c = eqb→eq (get_or table c.args.t 0) (cells 3 c.args.t) (at right table tt c.args.t (search rules))
-
-pub count8_spec : {M : Type 1} → statement M
-count8_spec = tie.close (tie.spec array-read-result returns)

@@ -11,48 +11,22 @@ use Rattle.table.specs.Inner.Blocks.{entries, three_space, no_entry, zeros_at, o
 use Rattle.table.specs.Inner.Lines.{line, needs_of_three, line_by}
 use Rattle.table.proofs.Entries.{shown_some, two_blocks, line_choice}
 use Rattle.table.proofs.Places.{three_places}
-use borrow.Author.Rules.{rules}
-use Rattle.table.proofs.picks.pick3.Statement.{statement}
-use Rattle.table.proofs.picks.pick3.Tie as tie
+use Rattle.table.proofs.picks.pick3.Goals as goal
 
-block-requires : tie.Need-block-requires
-block-requires c κs = search rules
-
-block-requires-2 : tie.Need-block-requires-2
-block-requires-2 c κs = search rules
-
-block-requires-3 : tie.Need-block-requires-3
-block-requires-3 c κs =
-    let i = c.before.before in
+pub block-c-requires : goal.block-c-requires
+block-c-requires c =
+    let i = c in
     let w = i.args.pair in
     (i.requires, omega (arith, and_le_l (w % entries) (w / entries % entries)))
 
-mul-two : tie.Need-overflow-mul-two
-mul-two c = search rules
-
-add-two : tie.Need-overflow-add-two
-add-two c = search rules
-
-mul-two-2 : tie.Need-overflow-mul-two-2
-mul-two-2 c = search rules
-
-add-two-2 : tie.Need-overflow-add-two-2
-add-two-2 c = search rules
-
-line-or-requires : tie.Need-line-or-requires
-line-or-requires c κs = search rules
-
-lesser-requires : tie.Need-lesser-requires
-lesser-requires c κs = search rules
-
-returns : tie.Need-returns
+pub returns : goal.returns
 unfolding line full
 returns c =
-    let l = c.before.line-or in
-    let d = c.before.before.block3 in
-    let b = c.before.before.before.block2 in
-    let a = c.before.before.before.before.block in
-    let w = c.before.before.before.before.before.args.pair in
+    let l = c.line_or in
+    let d = c.block-c in
+    let b = c.block-b in
+    let a = c.block-a in
+    let w = c.args.pair in
     let two = two_blocks a.result b.result in
     let told : l.result ≡ line_by w needs_of_three (three_space + line 2) two = l.ensures in
     let least : c.lesser.result ≡ min d.result l.result = c.lesser.ensures in
@@ -63,18 +37,3 @@ returns c =
     let high = w / entries % entries in
     let r : HalvesShow low high c.lesser.result = rw (least, told, e) s in
     (r, shown_some 3 three_space (least_of (pick_key 3) 3 (masked (zeros_at low high) (ones_at low high))) c.lesser.result r, omega (arith, least, d.ensures.2))
-
-pub pick3_spec : {M : Type 1} → statement M
-pick3_spec =
-    tie.close
-    (tie.spec
-    block-requires
-    block-requires-2
-    block-requires-3
-    mul-two
-    add-two
-    mul-two-2
-    add-two-2
-    line-or-requires
-    lesser-requires
-    returns)

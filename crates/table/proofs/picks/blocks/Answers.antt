@@ -6,12 +6,8 @@ use Rattle.table.specs.Pick.{suits, nearer, least, least_of}
 use Rattle.table.specs.Inner.Ranks.{masked, pick_key}
 use Rattle.table.specs.Inner.Blocks.{block_entry, best_block}
 use Rattle.table.proofs.BestBlocks.{right, tested}
-use Rattle.table.proofs.picks.blocks.Statement.{statement}
-use Rattle.table.proofs.picks.blocks.Tie as tie
+use Rattle.table.proofs.picks.blocks.Goals as goal
 
-returns : tie.Need-returns
+pub returns : goal.returns
 unfolding right best_block block_entry least_of least nearer suits masked all bit cells low high full wired_table selector_cells
 returns c = tested (λ x. x) (pick_key 2) _ (omega arith) tt
-
-pub blocks_spec : {M : Type 1} → statement M
-blocks_spec = tie.close (tie.spec returns)
