@@ -8,12 +8,8 @@ use Rattle.table.specs.Inner.Blocks.{block_entry, best_block}
 use Rattle.table.proofs.BestBlocks.{right, tested}
 use Rattle.nodes.specs.Nodes.{price}
 use Rattle.nodes.specs.Inner.Tops.{top_price, four_times}
-use Rattle.nodes.proofs.picks.tops.Statement.{statement}
-use Rattle.nodes.proofs.picks.tops.Tie as tie
+use Rattle.nodes.proofs.picks.tops.Goals as goal
 
-returns : tie.Need-returns
+pub returns : goal.returns
 unfolding right best_block block_entry top_price price least_of least nearer suits masked all bit low high full wired_table selector_cells
 returns c = tested four_times top_price _ (omega arith) tt
-
-pub tops_spec : {M : Type 1} → statement M
-tops_spec = tie.close (tie.spec returns)
