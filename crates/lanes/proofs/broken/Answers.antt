@@ -1,12 +1,11 @@
 -- `broken` meets its contract: in each lane the bit that the wire drives chooses.
+use borrow.Author.Rules.{rules}
 use mir.Val.{Fits}
 use mir.Syntax.{w64}
 use Rattle.lanes.proofs.Chosen.{lane_chosen, chosen_bits, chosen_lt}
-use borrow.Author.Rules.{rules}
-use Rattle.lanes.proofs.broken.Statement.{statement}
-use Rattle.lanes.proofs.broken.Tie as tie
+use Rattle.lanes.proofs.broken.Goals as goal
 
-returns : tie.Need-returns
+pub returns : goal.returns
 returns c =
     let d = c.args.driven in
     let z = c.args.zeroless in
@@ -19,6 +18,3 @@ returns c =
       chosen_bits d z o p.0 p.1 p.2,
       chosen_lt d z o p.0 p.1 p.2 fd.fits fz.fits fo.fits,
     )
-
-pub broken_spec : {M : Type 1} → statement M
-broken_spec = tie.close (tie.spec returns)

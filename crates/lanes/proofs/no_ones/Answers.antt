@@ -1,4 +1,5 @@
 -- `no_ones` meets its contract: its mask has in each lane the values that have the wire at 1, one bit lower.
+use borrow.Author.Rules.{rules}
 use mathlib.Core.Path.{◌∙◌}
 use Prim.Native.Nat.{◌*◌, ◌/◌}
 use mir.Val.{Fits}
@@ -7,23 +8,15 @@ use Rattle.lanes.proofs.Projected.{kept_low, ones_absent}
 use Rattle.table.specs.Bits.{bit, sum, of_bits, is_one, all}
 use Rattle.table.specs.Inner.Columns.{column_of}
 use Rattle.lanes.specs.Inner.Lanes.{each_lane, lane_of, lanes_of}
-use borrow.Author.Rules.{rules}
-use Rattle.lanes.proofs.no_ones.Statement.{statement}
-use Rattle.lanes.proofs.no_ones.Tie as tie
+use Rattle.lanes.proofs.no_ones.Goals as goal
 
-mul-vacant : tie.Need-overflow-mul-vacant
-mul-vacant c = search rules
-
-vacant-requires : tie.Need-vacant-requires
+pub vacant-requires : goal.vacant-requires
 unfolding all lane_of
-vacant-requires c κs = kept_low (c.args.set * each_lane / 2) _ tt
+vacant-requires c = kept_low (c.args.set * each_lane / 2) _ tt
 
-returns : tie.Need-returns
+pub returns : goal.returns
 unfolding lanes_of sum column_of of_bits bit is_one
 returns c =
-    let s = c.before.args.set in
+    let s = c.args.set in
     let fit : Fits w16 s = search rules in
     c.vacant.ensures ∙ ones_absent s fit.fits _ tt
-
-pub no_ones_spec : {M : Type 1} → statement M
-no_ones_spec = tie.close (tie.spec mul-vacant vacant-requires returns)
