@@ -3,7 +3,6 @@ use Prim.Native.Nat.{ℕ, zero, suc, ◌<◌}
 use mathlib.Core.Path.{◌≡◌, refl, ap, ap₂, ◌∙◌}
 use mathlib.Core.Bool.{Bool, not, cond}
 use native.Mathlib.Omega.{arith}
-use borrow.Author.Rules.{rules}
 use lib.Dec.{eqb}
 use Rattle.sheet.specs.Limits.{max_wires}
 use Rattle.table.specs.Bits.{is_one}
@@ -12,9 +11,9 @@ use Rattle.relation.specs.Tests.{occurs}
 use Rattle.relation.specs.Inner.Members.{member}
 use Rattle.lanes.specs.Inner.Lanes.{lane_of, lanes_of, LanesBelow}
 use Rattle.lanes.proofs.Lanes.{lane_lanes}
-use Rattle.halves.proofs.remaking.lost_wires.Statement.{statement}
-use Rattle.halves.proofs.remaking.lost_wires.Tie as tie
+use Rattle.halves.proofs.remaking.lost_wires.Goals as goal
 
+-- `lost_wires` meets its contract: of each wire what is told of the bit that it drives.
 -- lanes of tests
 module _ (f : ℕ → Bool) {x : ℕ} (e : x ≡ lanes_of (λ j. is_one (f j))) where
   lane_is : (j : ℕ) → j < max_wires → lane_of x j ≡ is_one (f j)
@@ -29,32 +28,23 @@ by_bit f zero l = refl
 by_bit f (suc zero) l = refl
 by_bit f (suc (suc b)) l = absurd (omega arith)
 
-no-zeros-requires : tie.Need-no-zeros-requires
-no-zeros-requires c κs = search rules
-
-no-ones-requires : tie.Need-no-ones-requires
-no-ones-requires c κs = search rules
-
-broken-requires : tie.Need-broken-requires
-broken-requires c κs =
-    let w = c.before.before.args.set in (
-      c.before.before.requires,
-      lanes_bits (λ j. not (occurs max_wires (member w) j 0)) c.before.no-zeros.ensures,
+pub broken-requires : goal.broken-requires
+broken-requires c =
+    let w = c.args.set in (
+      c.requires,
+      lanes_bits (λ j. not (occurs max_wires (member w) j 0)) c.no_zeros.ensures,
       lanes_bits (λ j. not (occurs max_wires (member w) j 1)) c.no_ones.ensures,
     )
 
-returns : tie.Need-returns
+pub returns : goal.returns
 returns c =
-    let i = c.before.before.before in
+    let i = c in
     let w = i.args.set in (
       λ j l.
           c.broken.ensures.0 j l
-          ∙ ap₂ (cond (eqb (lane_of i.args.driven j) 1)) (lane_is (λ j. not (occurs max_wires (member w) j 1)) c.before.no_ones.ensures j l)
-          (lane_is (λ j. not (occurs max_wires (member w) j 0)) c.before.before.no-zeros.ensures j l)
+          ∙ ap₂ (cond (eqb (lane_of i.args.driven j) 1)) (lane_is (λ j. not (occurs max_wires (member w) j 1)) c.no_ones.ensures j l)
+          (lane_is (λ j. not (occurs max_wires (member w) j 0)) c.no_zeros.ensures j l)
           ∙ by_bit (λ b. is_one (not (occurs max_wires (member w) j b))) (lane_of i.args.driven j) (i.requires j l),
       c.broken.ensures.1,
       c.broken.ensures.2,
     )
-
-pub lost_wires_spec : {M : Type 1} → statement M
-lost_wires_spec = tie.close (tie.spec no-zeros-requires no-ones-requires broken-requires returns)
