@@ -119,6 +119,17 @@ uint32_t dagmetzi_search_shared(uint8_t n, uint8_t m, const uint16_t sets[DAGMET
 uint32_t dagmetzi_clean(const uint8_t *sheet, size_t sheet_length, uint8_t *buffer, size_t buffer_length,
                         uint64_t reply[DAGMETZI_NUMBERS]);
 
+/* The smallest stage that serves two unit sheets at once, or the best found under the budget, written at the start of
+ * `buffer`; later bytes stay. Refused are the first sheet, which reading refuses (1 to 9), with the outcome
+ * DAGMETZI_REFUSED; else the second (1 to 9); else the two together: sheets of other sizes (13, place 0), a pattern that
+ * both leave no value (10; place: the lowest), a buffer that is too short (12). All but the first's have the outcome
+ * DAGMETZI_SECOND_REFUSED. The two sheets may be one. */
+enum { DAGMETZI_SECOND_REFUSED = 3 };
+
+uint32_t dagmetzi_quote_joined(const uint8_t *first, size_t first_length, const uint8_t *second, size_t second_length,
+                               uint32_t budget, uint8_t *buffer, size_t buffer_length,
+                               uint64_t reply[DAGMETZI_NUMBERS]);
+
 #ifdef __cplusplus
 }
 #endif

@@ -26,7 +26,7 @@ fn do_word(word: &[u8], count: usize) {
         messages::advise(
             b"unknown word ",
             word,
-            b": try shared SHEET, audit SHEET STAGE, audit-shared SHEET STAGE, clean SHEET or joined FIRST SECOND",
+            b": try shared SHEET, audit SHEET STAGE, audit-shared SHEET STAGE or clean SHEET",
         );
     }
 }

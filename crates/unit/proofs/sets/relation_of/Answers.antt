@@ -1,5 +1,5 @@
--- `relation_of` meets its contract: the patterns passed have their sets, and the others none.
-use Prim.Native.Nat.{ℕ, ◌-◌, ◌^◌, ◌<◌, ◌≤◌}
+use borrow.Author.Rules.{rules}
+use Prim.Native.Nat.{ℕ, ◌^◌, ◌<◌, ◌≤◌}
 use mathlib.Core.Path.{◌≡◌, ap, subst, ◌∙◌}
 use mathlib.Core.Bool.{cond}
 use mathlib.Core.List.{List}
@@ -7,7 +7,6 @@ use native.Mathlib.Omega.{arith}
 use lib.Dec.{ltb, ltb→lt, nltb→le}
 use lib.ListN.{length, get_or, length-set}
 use lib.Seq.{get_or-set_other}
-use borrow.Author.Rules.{rules}
 use Rattle.base.proofs.Tests.{cond_has}
 use Rattle.table.specs.Bits.{tabulate}
 use Rattle.relation.specs.declared.Relation.{Relation}
@@ -19,16 +18,7 @@ use Rattle.sheet.proofs.Fields.{inputs_field, wires_field}
 use Rattle.unit.specs.Formed.{set_on, relation_in}
 use Rattle.reader.specs.Inner.WasRead.{WasRead}
 use Rattle.reader.proofs.Placed.{placed}
-use Rattle.unit.proofs.sets.relation_of.Statement.{statement}
-use Rattle.unit.proofs.sets.relation_of.Tie as tie
-
-abbrev invariant_loop : tie.invariant-loop
-invariant_loop sheet n m outputs sets₀ p₀ p-end sets p =
-    (p ≤ p-end) × (length sets ≡ max_patterns) × ((q : ℕ) → p ≤ q → get_or sets q 0 ≡ 0)
-    × ((h : WasRead sheet) (q : ℕ) → q < p → get_or sets q 0 ≡ set_on h.commands q)
-
-abbrev decreases_loop : tie.decreases-loop
-decreases_loop sheet n m outputs sets₀ p₀ p-end sets p = p-end - p
+use Rattle.unit.proofs.sets.relation_of.Goals as goal
 
 -- the sets of the patterns there are, and none past them
 module _ {sheet : Sheet} (h : WasRead sheet) (sets : List ℕ) (long : length sets ≡ max_patterns)
@@ -52,70 +42,37 @@ module _ {sheet : Sheet} (h : WasRead sheet) (sets : List ℕ) (long : length se
           → ◌≡◌ {A = Relation} (record { n = n; m = m; sets = s }) (record { n = n'; m = m'; sets = s' })
       same a b d = cc
 
-output-words-requires : tie.Need-output-words-requires invariant_loop decreases_loop
-output-words-requires c κs = c.requires
+pub output_words-outputs-requires : goal.output_words-outputs-requires
+output_words-outputs-requires c = c.requires
 
-patterns-of-requires : tie.Need-patterns-of-requires invariant_loop decreases_loop
-patterns-of-requires c κs = search rules
-
-loop-holds : tie.Need-loop-init invariant_loop decreases_loop
+pub loop-p-init : goal.loop-p-init
 unfolding tabulate
-loop-holds c =
+loop-p-init c =
     (omega arith, search rules, λ q l. zeros_entry max_patterns q, λ h q l. absurd (omega arith))
 
-set-on-requires : tie.Need-set-on-requires invariant_loop decreases_loop
-set-on-requires c κs =
-    let read = c.before.before.before.before.requires in
-    (read, omega (arith, c.before.before.patterns-of.ensures.2 (placed read).few_inputs))
+pub set_on-requires : goal.set_on-requires
+set_on-requires c =
+    let read = c.requires in
+    (read, omega (arith, c.patterns_of-p-end.ensures.2 (placed read).few_inputs))
 
-cast-sets : tie.Need-overflow-cast-sets invariant_loop decreases_loop
-cast-sets c = search rules
+pub bounds-sets-p : goal.bounds-sets-p
+bounds-sets-p c = omega (arith, c.patterns_of-p-end.ensures.1)
 
-mul-sets : tie.Need-overflow-mul-sets invariant_loop decreases_loop
-mul-sets c = search rules
-
-array-write-sets : tie.Need-array-write-sets invariant_loop decreases_loop
-array-write-sets c = omega (arith, c.before.before.before.patterns-of.ensures.1)
-
-add-p : tie.Need-overflow-add-p invariant_loop decreases_loop
-add-p c = search rules
-
-loop-less : tie.Need-loop-smaller invariant_loop decreases_loop
-loop-less c = search rules
-
-loop-again : tie.Need-loop-preserved invariant_loop decreases_loop
-loop-again c =
-    let l = c.before.before.loop in
-    let outputs = c.before.before.before.before.output-words in
-    let b : l.p < length l.sets = omega (arith, c.before.before.before.patterns-of.ensures.1) in (
+pub loop-p-preserved : goal.loop-p-preserved
+loop-p-preserved c =
+    let l = c.loop-p in
+    let outputs = c.output_words-outputs in
+    let b : l.p < length l.sets = omega (arith, c.patterns_of-p-end.ensures.1) in (
       omega arith,
       simp length-set l.invariant.1,
       λ q d. get_or-set_other l.sets l.p q c.set_on.result 0 (λ e. omega arith) ∙ l.invariant.2 q (omega arith),
       λ h. filled_more (set_on h.commands) l.sets l.p c.set_on.result b (l.invariant.3 h) (c.set_on.ensures h (outputs.ensures h)),
     )
 
-returns : tie.Need-returns invariant_loop decreases_loop
+pub returns : goal.returns
 returns c =
-    let l = c.before.loop in
-    let sheet = c.before.before.before.before.args.sheet in
-    let few = (placed c.before.before.before.before.requires).few_inputs in
-    let e : l.p ≡ 2 ^ sheet.n = omega (arith, c.before.before.patterns-of.ensures.2 few) in
+    let l = c.loop-p in
+    let sheet = c.args.sheet in
+    let few = (placed c.requires).few_inputs in
+    let e : l.p ≡ 2 ^ sheet.n = omega (arith, c.patterns_of-p-end.ensures.2 few) in
     λ h. whole h l.sets l.invariant.1 (λ q d. l.invariant.3 h q (omega arith)) (λ q d. l.invariant.2 q (omega arith))
-
-pub relation_of_spec : {M : Type 1} → statement M
-relation_of_spec =
-    tie.close
-    (tie.spec
-    invariant_loop
-    decreases_loop
-    output-words-requires
-    patterns-of-requires
-    loop-holds
-    set-on-requires
-    cast-sets
-    mul-sets
-    array-write-sets
-    add-p
-    loop-less
-    loop-again
-    returns)

@@ -18,10 +18,9 @@ use Rattle.reader.proofs.Placed.{held_sound}
 use Rattle.unit.proofs.Allowed.{HasAlike, set_unmarked, set_marked, present_below}
 use Rattle.unit.proofs.Members.{told_test}
 use Rattle.unit.proofs.Outputs.{words_test}
-use borrow.Author.Rules.{rules}
-use Rattle.unit.proofs.sets.set_on.Statement.{statement}
-use Rattle.unit.proofs.sets.set_on.Tie as tie
+use Rattle.unit.proofs.sets.set_on.Goals as goal
 
+-- `set_on` meets its contract: by the pattern's mark.
 module _ {sheet : Sheet} (h : WasRead sheet) (p : ℕ) (l : p < 2 ^ sheet.n) where
   inside : p < 2 ^ inputs_of h.commands
   inside = subst (λ n. p < 2 ^ n) (ap (λ (x : Sheet). x.n) h.gathers ∙ inputs_field h.commands) l
@@ -48,48 +47,33 @@ module _ {sheet : Sheet} (h : WasRead sheet) (p : ℕ) (l : p < 2 ^ sheet.n) whe
       subst (λ (x : Sheet). get_or x.marks p 0 ≡ row_mark → get_or x.values p 0 < max_values) (sym h.gathers)
       (present_below h.commands (held_sound h) p inside)
 
-mul-allowed : tie.Need-overflow-mul-allowed
-mul-allowed c = search rules
+pub bounds-sheet-at : goal.bounds-sheet-at
+bounds-sheet-at c = omega (arith, room c.requires.0 c.args.p c.requires.1)
 
-element-copy-out-allowed : tie.Need-element-copy-out-allowed
-element-copy-out-allowed c = omega (arith, room c.requires.0 c.args.p c.requires.1)
+pub bounds-sheet-at-2 : goal.bounds-sheet-at-2
+bounds-sheet-at-2 c = omega (arith, room c.requires.0 c.args.p c.requires.1)
 
-element-copy-out-if1 : tie.Need-element-copy-out-if1
-element-copy-out-if1 c = omega (arith, room c.before.requires.0 c.before.args.p c.before.requires.1)
+pub returns-then-sheet-at-ne-ROW : goal.returns-then-sheet-at-ne-ROW
+returns-then-sheet-at-ne-ROW c =
+    let i = c in
+    λ h is. unmarked h i.args.p i.requires.1 c.if-sheet-at-ne-ROW.true
 
-returns : tie.Need-returns
+pub bounds-sheet-at-3 : goal.bounds-sheet-at-3
+bounds-sheet-at-3 c = let i = c in omega (arith, room i.requires.0 i.args.p i.requires.1)
+
+pub alike-requires : goal.alike-requires
+alike-requires c =
+    let i = c in
+    present_room i.requires.0 i.args.p i.requires.1 c.if-sheet-at-ne-ROW.false
+
+pub returns : goal.returns
 returns c =
-    let i = c.before.before.before in
-    λ h is. unmarked h i.args.p i.requires.1 c.if1.true
-
-element-copy-out-alike : tie.Need-element-copy-out-alike
-element-copy-out-alike c = let i = c.before.before.before in omega (arith, room i.requires.0 i.args.p i.requires.1)
-
-alike-requires : tie.Need-alike-requires
-alike-requires c κs =
-    let i = c.before.before.before.before in
-    present_room i.requires.0 i.args.p i.requires.1 c.before.if1.false
-
-returns_2 : tie.Need-returns-2
-returns_2 c =
-    let i = c.before.before.before.before.before in
-    let u = get_or i.args.t1.values i.args.p 0 in
+    let i = c in
+    let u = get_or i.args.sheet.values i.args.p 0 in
     λ h is.
     marked h i.args.p i.requires.1 c.alike.result
     (λ v l.
     ap (λ x. eqb (bit x v) 1) c.alike.ensures
     ∙ told_test (same_outputs i.args.outputs u) max_values v l
-    ∙ words_test h.commands (held_sound h).outputs.few i.args.outputs is u v (present_room h i.args.p i.requires.1 c.before.before.if1.false) l)
-    c.before.before.if1.false
-
-pub set_on_spec : {M : Type 1} → statement M
-set_on_spec =
-    tie.close
-    (tie.spec
-    mul-allowed
-    element-copy-out-allowed
-    element-copy-out-if1
-    returns
-    element-copy-out-alike
-    alike-requires
-    returns_2)
+    ∙ words_test h.commands (held_sound h).outputs.few i.args.outputs is u v (present_room h i.args.p i.requires.1 c.if-sheet-at-ne-ROW.false) l)
+    c.if-sheet-at-ne-ROW.false
