@@ -1,7 +1,21 @@
-// Reading: an argument, a descriptor, or a file by its name, put at the start of a lent buffer.
-ghost use Rattle.io.specs.Counts.{IsPrefixLen};
+// Reading: an argument, an open input, or a file by its name, put at the start of a lent buffer.
+ghost use Rattle.dagmetzi.specs.Counts.{IsPrefixLen};
 
 use crate::messages;
+use std::env::{Env, FillError};
+use std::fs::File;
+use std::io;
+use std::io::Read;
+
+// What the system says where an argument is missing, where it is longer than the buffer, and where a name is no text.
+const INVALID_ARGUMENT: i32 = 22;
+
+const NAME_TOO_LONG: i32 = 36;
+
+const NO_TEXT: i32 = 84;
+
+// The longest argument that is taken, in bytes: longer than any name that the system opens.
+pub const LONGEST_ARGUMENT: usize = 4096;
 
 // How many bytes were read; and whether that is all there was, or as much as the buffer takes. Where it is not, the reason has been said on standard error.
 #[derive(Clone, Copy)]
@@ -10,75 +24,116 @@ pub struct Input {
     pub is_read: bool,
 }
 
-// Reads until the buffer is full or the input ends. Unlike `io::read_full` it tells a read that fails from the end: bytes that are cut short by a fault
+// How many bytes were read, and the fault that cut them short, if one did.
+#[derive(Clone, Copy)]
+struct Reading {
+    length: usize,
+    fault: Option<io::Error>,
+}
+
+// Reads until the buffer is full or the input ends. A read that fails is told from the end: bytes that are cut short by a fault
 // must not pass for a sheet that ends there. Each turn reads a byte at least, so that there are no more turns than the buffer has bytes.
-fn read_all(fd: i32, buffer: &mut [u8]) -> Input
+fn read_all(input: &mut impl Read, buffer: &mut [u8]) -> Reading
     ensures { IsPrefixLen result.length buffer.new }
 {
     let mut length: usize = 0;
     for _ in 0..buffer.len() {
-        let got = libc::read(fd, &mut buffer[length..]);
-        if got <= 0 {
-            return Input {
-                length,
-                is_read: got == 0,
-            };
+        match input.read(&mut buffer[length..]) {
+            Ok(0) => break,
+            Ok(more) => length += more,
+            Err(fault) => {
+                return Reading {
+                    length,
+                    fault: Some(fault),
+                };
+            }
         }
-        let more = io::count(got, &buffer[length..]);
-        length += more;
     }
-    Input {
+    Reading {
         length,
-        is_read: true,
+        fault: None,
     }
 }
 
-// Reads from a descriptor, which messages call by a name.
-pub fn read_open(fd: i32, name: &[u8], buffer: &mut [u8]) -> Input
+// Reads from an open input, which messages call by a name.
+pub fn read_open(rt: &HostRuntime, input: &mut impl Read, name: &[u8], buffer: &mut [u8]) -> Input
     ensures { IsPrefixLen result.length buffer.new }
 {
-    let input = read_all(fd, buffer);
-    if !input.is_read {
-        messages::fail(b"cannot read ", name);
+    let reading = read_all(input, buffer);
+    let length = reading.length;
+    match reading.fault {
+        None => Input {
+            length,
+            is_read: true,
+        },
+        Some(fault) => {
+            messages::fail(rt, b"cannot read ", name, fault);
+            Input {
+                length,
+                is_read: false,
+            }
+        }
     }
-    input
+}
+
+// Opens a file by its name, for reading. A name of today's library is text.
+fn open(rt: &HostRuntime, name: &[u8]) -> io::Result<File> {
+    match std::str::from_utf8(name) {
+        Ok(text) => File::open(rt, text),
+        Err(_) => Err(io::Error::from_raw_os_error(NO_TEXT)),
+    }
 }
 
 // Reads a file by its name. A folder opens, and cannot be read.
-fn read_file(name: &[u8], buffer: &mut [u8]) -> Input
+fn read_file(rt: &HostRuntime, name: &[u8], buffer: &mut [u8]) -> Input
     ensures { IsPrefixLen result.length buffer.new }
 {
-    let fd = os::open_read(name);
-    if fd < 0 {
-        messages::fail(b"cannot open ", name);
-        return Input {
-            length: 0,
-            is_read: false,
-        };
+    match open(rt, name) {
+        Ok(mut file) => read_open(rt, &mut file, name, buffer),
+        Err(fault) => {
+            messages::fail(rt, b"cannot open ", name, fault);
+            Input {
+                length: 0,
+                is_read: false,
+            }
+        }
     }
-    let input = read_open(fd, name, buffer);
-    libc::close(fd);
-    input
 }
 
 // Reads an argument itself, an empty one too. One that the buffer cannot hold is not cut, since its start is another word or name.
-pub fn read_argument(i: usize, buffer: &mut [u8]) -> Input
+pub fn read_argument(rt: &HostRuntime, i: usize, buffer: &mut [u8]) -> Input
     ensures { IsPrefixLen result.length buffer.new }
 {
-    let length = os::arg(i, buffer);
-    let is_read = os::errno() == 0;
-    if !is_read {
-        messages::fail(b"cannot take ", b"an argument that long");
+    match rt.arg(i, buffer) {
+        Ok(length) => Input {
+            length,
+            is_read: true,
+        },
+        Err(why) => {
+            let code = match why {
+                FillError::TooLong => NAME_TOO_LONG,
+                FillError::NotPresent => INVALID_ARGUMENT,
+            };
+            messages::fail(
+                rt,
+                b"cannot take ",
+                b"an argument that long",
+                io::Error::from_raw_os_error(code),
+            );
+            Input {
+                length: 0,
+                is_read: false,
+            }
+        }
     }
-    Input { length, is_read }
 }
 
 // Reads the file that an argument names.
-pub fn read_named(i: usize, buffer: &mut [u8]) -> Input
+pub fn read_named(rt: &HostRuntime, i: usize, buffer: &mut [u8]) -> Input
     ensures { IsPrefixLen result.length buffer.new }
 {
-    let mut name = io::buffer();
-    let argument = read_argument(i, &mut name);
+    let mut name = [0u8; LONGEST_ARGUMENT];
+    let argument = read_argument(rt, i, &mut name);
     if !argument.is_read {
         return Input {
             length: 0,
@@ -86,5 +141,5 @@ pub fn read_named(i: usize, buffer: &mut [u8]) -> Input
         };
     }
     let length = argument.length;
-    read_file(&name[..length], buffer)
+    read_file(rt, &name[..length], buffer)
 }

@@ -6,37 +6,40 @@
 ghost use Rattle.std.specs.Prelude.{◌≤◌, length};
 ghost use Rattle.trials.specs.Inner.Window.{nearly_full, window};
 
-use libc::{STDIN_FILENO, STDOUT_FILENO};
+use std::io::{Print, Read};
 
 mod replies; // the reply to a record
+
+// The bytes of the window on the input, and of the buffer for replies.
+const WINDOW: usize = 65536;
 
 // Replies are written out once they come to this many bytes: a buffer of 65,536 then still has room for the longest.
 const NEARLY_FULL: usize = 60000;
 
-// Writes the first `count` bytes of a buffer.
-fn write_first(out: &[u8], count: usize) {
+// Writes the first `count` bytes of a buffer. What is not written is missed where the output is compared.
+fn write_first(rt: &HostRuntime, out: &[u8], count: usize) {
     if count <= out.len() {
-        io::write_all(STDOUT_FILENO, &out[0..count]);
+        let _ = rt.write_all(&out[0..count]);
     }
 }
 
 // Writes the replies out where they nearly fill the buffer, and hands back the place for the next.
-fn make_room(out: &[u8], used: usize) -> usize
+fn make_room(rt: &HostRuntime, out: &[u8], used: usize) -> usize
     ensures { result ≤ nearly_full }
 {
     if used < NEARLY_FULL {
         return used;
     }
-    write_first(out, used);
+    write_first(rt, out, used);
     0
 }
 
 // Answers the records that are whole, and hands back the place after them.
-fn answer_whole(s: &[u8]) -> usize
+fn answer_whole(rt: &HostRuntime, s: &[u8]) -> usize
     requires { length s.now ≤ window }
     ensures { result ≤ length s.now }
 {
-    let mut space = io::large_buffer();
+    let mut space = [0u8; WINDOW];
     let out: &mut [u8] = &mut space;
     let mut used: usize = 0;
     let mut at: usize = 0;
@@ -46,19 +49,35 @@ fn answer_whole(s: &[u8]) -> usize
             break;
         }
         let end = replies::put_any_reply(out, used, s, at);
-        used = make_room(out, end);
+        used = make_room(rt, out, end);
         at = next;
     }
-    write_first(out, used);
+    write_first(rt, out, used);
     at
 }
 
+// Reads until the buffer is full, the input ends or a read fails, and hands back how many bytes that gave. Each turn reads a byte at least, so that there are
+// no more turns than the buffer has bytes.
+fn read_full(input: &mut impl Read, buffer: &mut [u8]) -> usize
+    ensures { result ≤ length buffer.new }
+{
+    let mut done: usize = 0;
+    for _ in 0..buffer.len() {
+        match input.read(&mut buffer[done..]) {
+            Ok(0) => break,
+            Ok(more) => done += more,
+            Err(_) => break,
+        }
+    }
+    done
+}
+
 // Reads behind the bytes that are held, and hands back how many are held then.
-fn refill(window: &mut [u8], held: usize) -> usize
+fn refill(rt: &HostRuntime, window: &mut [u8], held: usize) -> usize
     requires { held ≤ length window.old }
     ensures { result ≤ length window.old }
 {
-    held + io::read_full(STDIN_FILENO, &mut window[held..])
+    held + read_full(&mut rt.stdin(), &mut window[held..])
 }
 
 // Moves the bytes from one place to another to the front, and hands back how many they are.
@@ -77,14 +96,14 @@ fn move_to_front(window: &mut [u8], from: usize, end: usize) -> usize
 
 // A turn takes what the window holds of the input; the turns are bounded, since nothing says that an input ends. It ends where no record is whole: a record
 // that is cut short, or longer than the window, has no reply.
-fn main() {
-    let mut window = io::large_buffer();
+fn main(rt: HostRuntime) {
+    let mut window = [0u8; WINDOW];
     let mut held: usize = 0;
     let mut turns: u32 = 1000000;
     while turns > 0 {
         turns -= 1;
-        let end = refill(&mut window, held);
-        let done = answer_whole(&window[0..end]);
+        let end = refill(&rt, &mut window, held);
+        let done = answer_whole(&rt, &window[0..end]);
         if done == 0 {
             break;
         }

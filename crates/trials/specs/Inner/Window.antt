@@ -1,7 +1,7 @@
 -- How much the program holds: of the input, and of its replies before it writes them out.
 use Rattle.std.specs.Prelude.{ℕ}
 
--- the bytes of the window on the input, and of the buffer for replies: what `io::large_buffer` has
+-- the bytes of the window on the input, and of the buffer for replies: as many as `WINDOW` of src/main.rt says
 abbrev pub window : ℕ
 window = 65536
 
