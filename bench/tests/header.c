@@ -1,7 +1,7 @@
-/* A caller in C: the constants of the header; then sheet A quoted, its stage audited, its relation searched, the same
- * for the board that shares selectors, its clean copy written, a sheet of five inputs refused by that board and beside
- * A, a relation of six inputs searched, and A quoted together with its copy, as the header declares the calls. Prints
- * the constants, what each call returns and the numbers of its reply, then the stages, the tables and the copy. */
+/* A caller in C: the constants of the header; then sheet A quoted, its stage audited, its relation searched, the same for
+ * the board that shares selectors, its clean copy written, a sheet of five inputs refused by that board, and a relation of
+ * six inputs searched, as the header declares the calls. Prints the constants, what each call returns and the numbers of
+ * its reply, then the stages, the tables and the copy. */
 #include "../../include/dagmetzi.h"
 #include <stdio.h>
 
@@ -54,9 +54,8 @@ static void print_tables(const uint64_t tables[DAGMETZI_WIRES]) {
     printf("\n");
 }
 
-/* Five inputs and one wire, with every pattern impossible: only the board, or a second sheet, can have something
- * against it. */
-static void quote_five(const uint8_t *other, size_t other_length) {
+/* Five inputs and one wire, with every pattern impossible: only the board can have something against it. */
+static void quote_five(void) {
     uint8_t sheet[3 + 2 * FIVE_PATTERNS + 1] = {0x01, FIVE_INPUTS, 0x01};
     uint8_t buffer[DAGMETZI_LONGEST_SHARED] = {0};
     uint64_t reply[DAGMETZI_NUMBERS];
@@ -66,8 +65,6 @@ static void quote_five(const uint8_t *other, size_t other_length) {
         sheet[4 + 2 * p] = (uint8_t)p;
     }
     print_reply(dagmetzi_quote_shared(sheet, sizeof sheet, BUDGET, buffer, sizeof buffer, reply), reply);
-    print_reply(dagmetzi_quote_joined(sheet, sizeof sheet, other, other_length, BUDGET, buffer, sizeof buffer, reply),
-                reply);
 }
 
 int main(void) {
@@ -77,7 +74,6 @@ int main(void) {
     uint8_t stage[DAGMETZI_LONGEST_STAGE] = {0};
     uint8_t shared[DAGMETZI_LONGEST_SHARED] = {0};
     uint8_t copy[DAGMETZI_LONGEST_COPY] = {0};
-    uint8_t joined[DAGMETZI_LONGEST_STAGE] = {0};
     uint16_t wide[DAGMETZI_PATTERNS];
     uint64_t tables[DAGMETZI_WIRES];
     uint64_t shared_tables[DAGMETZI_WIRES];
@@ -86,7 +82,6 @@ int main(void) {
     uint64_t stage_length;
     uint64_t shared_length;
     uint64_t copy_length;
-    uint64_t joined_length;
 
     for (int p = 0; p < DAGMETZI_PATTERNS; p++) {
         wide[p] = p == DAGMETZI_PATTERNS - 1 ? 2 : 1;
@@ -102,18 +97,13 @@ int main(void) {
     print_reply(dagmetzi_search_shared(2, 2, sets, BUDGET, shared_tables, reply), reply);
     print_reply(dagmetzi_clean(sheet, sizeof sheet, copy, sizeof copy, reply), reply);
     copy_length = reply[DAGMETZI_LENGTH];
-    quote_five(sheet, sizeof sheet);
+    quote_five();
     print_reply(dagmetzi_search(DAGMETZI_INPUTS, 1, wide, BUDGET, wide_tables, reply), reply);
-    print_reply(dagmetzi_quote_joined(sheet, sizeof sheet, copy, (size_t)copy_length, BUDGET, joined, sizeof joined,
-                                      reply),
-                reply);
-    joined_length = reply[DAGMETZI_LENGTH];
     print_bytes(stage, stage_length);
     print_tables(tables);
     print_bytes(shared, shared_length);
     print_tables(shared_tables);
     print_bytes(copy, copy_length);
     print_tables(wide_tables);
-    print_bytes(joined, joined_length);
     return reply[DAGMETZI_OUTCOME] != DAGMETZI_BEST;
 }

@@ -1,15 +1,14 @@
 //! The header against the archive: a caller in C is compiled with it and linked, and must print what the calls give
 //! through the declarations of this crate. Its constants, and what it says of a sheet that is too wide for the board that
-//! shares selectors and of another size than a second one, must be the independent solver's.
+//! shares selectors, must be the independent solver's.
 
-use bench::{Told, BEST, DIFFERS, FITS, REFUSED, SECOND_REFUSED, STAGE_REFUSED, STOPPED, WRITTEN};
+use bench::{Told, BEST, DIFFERS, FITS, REFUSED, STAGE_REFUSED, STOPPED, WRITTEN};
 use std::path::{Path, PathBuf};
 use std::process::{Command, Output};
 use trials::board::{Board, BOARDS};
 use trials::cells::Tables;
 use trials::clean::LONGEST_COPY;
 use trials::diagram::{LONGEST_LISTS, LONGEST_SHARED};
-use trials::joined::Which;
 use trials::pick::Picker;
 use trials::refusal::*;
 use trials::relation::Sets;
@@ -63,14 +62,6 @@ fn five_refused() -> Told {
     Told { refusal: refusal.number.into(), outcome: REFUSED, cells: 0, floor: 0, visits: 0, length: 0, place: 0 }
 }
 
-/// And of five inputs beside sheet A: 13, at the front of the second.
-fn other_size_refused() -> Told {
-    let refused = trials::joined::quote_joined(&five_inputs(), &A, BUDGET, &mut [], &mut Picker::new());
-    let it = refused.expect_err("of another size");
-    assert_eq!((it.which, it.refusal.number, it.refusal.place), (Which::Second, SIZES_DIFFER, 0));
-    Told { refusal: SIZES_DIFFER.into(), outcome: SECOND_REFUSED, ..five_refused() }
-}
-
 fn tables_line(tables: Tables) -> String {
     numbers_line(tables)
 }
@@ -96,12 +87,8 @@ fn expected() -> String {
     let mut copy = [0; LONGEST_COPY];
     let clean = bench::clean(&A, &mut copy);
     let (wide, wide_tables) = bench::search(Board::Tree, 6, 1, &last_alone(), BUDGET);
-    let copy = &copy[..clean.length as usize];
-    let mut buffer = [0; LONGEST_STAGE];
-    let joined = bench::quote_joined(&A, copy, BUDGET, &mut buffer);
-    replies += &[clean, five_refused(), other_size_refused(), wide, joined].map(|told| line(&told)).concat();
-    lent += &(bytes_line(copy) + &tables_line(wide_tables));
-    replies + &lent + &bytes_line(&buffer[..joined.length as usize])
+    replies += &[clean, five_refused(), wide].map(|told| line(&told)).concat();
+    replies + &lent + &bytes_line(&copy[..clean.length as usize]) + &tables_line(wide_tables)
 }
 
 fn run(command: &mut Command) -> Output {

@@ -89,7 +89,8 @@ fn program(path: &Path) -> ExitCode {
     for (name, board) in NAMES {
         println!("program, {name}: {} quotes, {} audits", quotes[board as usize], audits[board as usize]);
     }
-    println!("program: {copies} copies, {joined} joined, {complaints} complaints, {faults} not as expected");
+    println!("program: {joined} joined quotes");
+    println!("program: {copies} copies, {complaints} complaints, {faults} not as expected");
     if faults == 0 {
         ExitCode::SUCCESS
     } else {

@@ -56,8 +56,7 @@ const ONE_JOINED_IN: usize = 12;
 const ONE_WIDE_IN: usize = 4;
 
 /// What is said behind a word that there is not.
-const ADVICE: &str =
-    ": try shared SHEET, audit SHEET STAGE, audit-shared SHEET STAGE, clean SHEET or joined FIRST SECOND";
+const ADVICE: &str = ": try shared SHEET, audit SHEET STAGE, audit-shared SHEET STAGE or clean SHEET";
 
 /// What was run, for each board where it has one, and what did not come out as
 /// expected.
@@ -296,15 +295,17 @@ impl Bench {
         let near_shared = ["Shared", "shared ", "shareds", "share", "quote-shared"];
         let near_audit_shared =
             ["Audit-shared", "audit-share", "audit-shareds", "audit_shared", "audit shared", "audit-"];
-        let near_joined = ["Joined", "joined ", "joineds", "joine", "join"];
-        let near = near_a_word.into_iter().chain(near_shared).chain(near_audit_shared).chain(near_joined);
-        let said = |word: &str| format!("dagmetzi: unknown word {word}{ADVICE}");
+        let near = near_a_word.into_iter().chain(near_shared).chain(near_audit_shared);
         for word in near.chain(["frob", "-h", "--help", "quote"]) {
-            self.complains(&[word], &said(word))?;
-            self.complains(&[word, "sheet", "stage"], &said(word))?;
+            self.complains(&[word], &format!("dagmetzi: unknown word {word}: "))?;
+            self.complains(&[word, "sheet", "stage"], &format!("dagmetzi: unknown word {word}: "))?;
         }
-        self.complains(&[""], &said("(empty)"))?;
-        self.complains(&["a\nb"], &said("a?b"))
+        for word in ["Joined", "joined ", "joineds", "joine", "join"] {
+            self.complains(&[word], &format!("dagmetzi: unknown word {word}{ADVICE}"))?;
+            self.complains(&[word, "sheet", "stage"], &format!("dagmetzi: unknown word {word}{ADVICE}"))?;
+        }
+        self.complains(&[""], "dagmetzi: unknown word (empty): ")?;
+        self.complains(&["a\nb"], "dagmetzi: unknown word a?b: ")
     }
 
     fn wrong_counts(&mut self) -> Result<()> {

@@ -118,6 +118,8 @@ impl Tally {
             ));
         }
         line(format!("audits: fits {} differs {}", self.fits, self.differs));
+        let [best, stopped] = [self.best, self.stopped].map(|by_kind| by_kind.iter().sum::<usize>());
+        line(format!("searches: best {best} stopped {stopped}"));
         line(format!("visits: all {} most {}", self.visits, self.most_visits));
         for n in 1..=6 {
             line(format!("searches with n = {n} and m = 1 to 4: {:?}", &self.sizes[n][1..]));

@@ -101,10 +101,10 @@ module _ {e : List ℕ} {m : ℕ} {S ws l : List ℕ} {p j b : ℕ} {sets masks 
   part_masks_lem er eM = eM ∙ ap (λ x. with_lanes masks (p / row_patterns) (cut_row x p w)) er ∙ at.rows (cut_row (mask_row ws (p / row_patterns)) p w)
 
   part_keep : of_sets (set sets p w) ≡ keep (of_sets S) p j b
-  part_keep = ap of_sets part_sets_lem ∙ with_keep kind h.carried.sized h.carried.sets h.pattern h.wire h.is_open h.side
+  part_keep = ap of_sets part_sets_lem ∙ with_keep kind h.carried.sized h.carried.sets h.pattern h.wire h.is_open_lem h.side
 
   pub part_fewer : open_pairs n m (of_sets (set sets p w)) < open_pairs n m (of_sets S)
-  part_fewer = rw part_keep (keep_closes n m (of_sets S) p j b h.pattern h.wire h.is_open)
+  part_fewer = rw part_keep (keep_closes n m (of_sets S) p j b h.pattern h.wire h.is_open_lem)
 
   rows_after : {M : List ℕ} → M ≡ part_masks h → (row : ℕ) → with_lanes M (p / row_patterns) row ≡ with_lanes ws (p / row_patterns) row
   rows_after eM row = ap (λ x. with_lanes x (p / row_patterns) row) eM ∙ row_again ws (p / row_patterns) row (cut_row (mask_row ws (p / row_patterns)) p w)

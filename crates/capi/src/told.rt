@@ -11,7 +11,7 @@ use joined::JointMark;
 use quote::Audited;
 use search::Mark;
 
-// Outcomes of a search and of a quote, of an audit, of a copy, and of a refusal; of two things handed in, the stage or the second sheet has its own.
+// Outcomes of a search and of a quote, of an audit, of a copy, and of a refusal; of two things handed in, the stage and the second sheet have their own.
 const BEST: u64 = 0;
 
 const STOPPED: u64 = 1;
@@ -23,6 +23,8 @@ const DIFFERS: u64 = 1;
 const WRITTEN: u64 = 0;
 
 pub const REFUSED: u64 = 2;
+
+const STAGE_REFUSED: u64 = 3;
 
 const SECOND_REFUSED: u64 = 3;
 
@@ -81,7 +83,7 @@ pub fn audit_told(audited: Audited) -> Told
         Audited::Fits(_) => tell(FITS),
         Audited::Differs(_) => tell(DIFFERS),
         Audited::SheetRefused(refusal) => tell_refusal(REFUSED, refusal),
-        Audited::StageRefused(refusal) => tell_refusal(SECOND_REFUSED, refusal),
+        Audited::StageRefused(refusal) => tell_refusal(STAGE_REFUSED, refusal),
     }
 }
 

@@ -22,7 +22,7 @@ fn do_word(rt: &HostRuntime, word: &[u8], count: usize) {
             rt,
             b"unknown word ",
             word,
-            b": try shared SHEET, audit SHEET STAGE, audit-shared SHEET STAGE, clean SHEET or joined FIRST SECOND",
+            b": try shared SHEET, audit SHEET STAGE, audit-shared SHEET STAGE or clean SHEET",
         ),
     }
 }

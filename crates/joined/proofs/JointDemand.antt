@@ -29,8 +29,8 @@ use Rattle.unit.specs.Formed.{relation_in}
 use Rattle.unit.proofs.Rivals.{commands_only}
 use Rattle.quote.specs.Cases.{QuoteReply}
 use Rattle.quote.specs.Quote.{no_quote, searched}
-use Rattle.quote.specs.Promised.{inputs_in, wires_in}
-use Rattle.quote.proofs.Demand.{read_is}
+use Rattle.quote.specs.AnyQuote.{inputs_in, wires_in}
+use Rattle.quote.proofs.OneSheet.{read_is}
 use Rattle.quote.proofs.Searched.{refused_promise, Tells, searched_promise}
 use Rattle.joined.specs.Joint.{are_sized, joint_quoted, joint_buffer}
 use Rattle.joined.specs.Promised.{JointRival, NoJointRival, JointPromised}

@@ -8,8 +8,7 @@ use Rattle.reader.specs.Reading.{reading_of}
 use Rattle.stage.specs.Trees.{tree_drawing}
 use Rattle.unit.specs.Rival.{Rival}
 use Rattle.quote.specs.Cases.{QuoteReply}
-use Rattle.quote.specs.AnyQuote.{PromisedOf}
-use Rattle.quote.specs.Promised.{inputs_in, wires_in}
+use Rattle.quote.specs.AnyQuote.{inputs_in, wires_in, PromisedOf}
 
 -- one stage that serves both units: on every pattern its value is permitted by both sheets, and each unit answers as before where its own sheet has a present
 -- value; a pattern that one sheet calls impossible is left to the other

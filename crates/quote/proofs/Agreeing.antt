@@ -32,13 +32,12 @@ use Rattle.unit.specs.Relation.{unit_relation}
 use Rattle.unit.specs.Formed.{relation_in, turned_away, formed_of}
 use Rattle.unit.specs.Rival.{Rival}
 use Rattle.unit.proofs.Forming.{formed_refused, formed_empty, formed_whole}
-use Rattle.unit.proofs.Rivals.{rival_told, no_rival}
+use Rattle.unit.proofs.Rivals.{commands_only, rival_told, no_rival}
 use Rattle.quote.specs.Cases.{fits_outcome, differs_outcome}
 use Rattle.quote.specs.Audit.{keeps_to, sizes_apart, audited_stage, audited_from, audited_of}
-use Rattle.quote.specs.AnyQuote.{Accepted as Quotes}
-use Rattle.quote.specs.Promised.{RivalStage}
+use Rattle.quote.specs.Promised.{Accepted as Quotes, RivalStage}
 use Rattle.quote.specs.Quote.{quoted_of, buffer_quoted}
-use Rattle.quote.proofs.Demand.{read_is, promised}
+use Rattle.quote.proofs.Demand.{promised}
 
 -- another outcome than yes
 never : {A : Type 0} {c : Case} {k : ℕ} → c ≡ accepting fits_outcome k → (c.outcome ≡ fits_outcome → ⊥) → A
@@ -87,12 +86,13 @@ module _ (kind : BoardKind) (sheet stage : List ℕ) (c : ℕ) where
         ⊎_elim
         (λ k.
         let f = kept_family m drawn d' em k in
-        let ec = read_is sheet cs e in
+        let r = (told drawn).1 f in
+        let ec = commands_only sheet r.commands cs r.held e in
         let counted : accepting fits_outcome (drawn_cells (drawing_of kind) drawn) ≡ accepting fits_outcome c =
         rw (test_yes (eqb n (inputs_of cs) && eqb m (wires_of cs)) t, test_yes (keeps_to (drawing_of kind) (relation_in cs) drawn) k) at h in
         record {
           stage = drawn;
-          wanted = (told drawn).1 f;
+          rival = r;
           taken = d ∙ ap₂ (λ a b. got a b drawn) (en ∙ ap inputs_of (sym ec)) (em ∙ ap wires_of (sym ec));
           counted = ap (λ (x : Case). x.value) counted;
         })
@@ -107,8 +107,8 @@ module _ (kind : BoardKind) (sheet stage : List ℕ) (c : ℕ) where
     rival_yes : RivalStage (drawing_of kind) sheet stage c → audited_stage (drawing_of kind) (relation_in cs) (read_sheet (form_of kind) stage) ≡ accepting fits_outcome c
     unfolding audited_stage relation_in
     rival_yes y =
-        let ec = read_is sheet cs e in
-        let f = (told y.stage).0 y.wanted in
+        let ec = commands_only sheet y.rival.commands cs y.rival.held e in
+        let f = (told y.stage).0 y.rival in
         let d : read_sheet (form_of kind) stage ≡ got (inputs_of cs) (wires_of cs) y.stage = y.taken ∙ ap₂ (λ a b. got a b y.stage) (ap inputs_of ec) (ap wires_of ec) in
         rw (
           d,
@@ -122,7 +122,7 @@ module _ (kind : BoardKind) (sheet stage : List ℕ) (c : ℕ) where
   audit_yes = go (reading_of sheet) refl
     where
       unread_not : (f : Refusal) → reading_of sheet ≡ unread f → RivalStage (drawing_of kind) sheet stage c → ⊥
-      unread_not f e y = let d : holds y.wanted.commands ≡ unread f = sym y.wanted.held ∙ e in let z : ◌≡◌ {A = ℕ} 0 1 = cc in omega arith
+      unread_not f e y = let d : holds y.rival.commands ≡ unread f = sym y.rival.held ∙ e in let z : ◌≡◌ {A = ℕ} 0 1 = cc in omega arith
 
       go : (x : Reading) → reading_of sheet ≡ x → (audited_of kind sheet stage ≡ accepting fits_outcome c) ↔ RivalStage (drawing_of kind) sheet stage c
       go (unread f) e = (λ h. absurd (turned f (formed_refused sheet f e) h), λ y. absurd (unread_not f e y))
@@ -132,7 +132,7 @@ module _ (kind : BoardKind) (sheet stage : List ℕ) (c : ℕ) where
           (λ t.
           let l = ltb→lt q (2 ^ inputs_of cs) t in (
             λ h. absurd (turned (refusal_at empty q) (formed_empty sheet cs e l) h),
-            λ y. absurd ((no_rival (drawing_of kind) sheet cs e (count_of kind (inputs_of cs)) (form_fair kind (inputs_of cs) (sound sheet cs e).sizes.n_most)).0 l y.stage y.wanted),
+            λ y. absurd ((no_rival (drawing_of kind) sheet cs e (count_of kind (inputs_of cs)) (form_fair kind (inputs_of cs) (sound sheet cs e).sizes.n_most)).0 l y.stage y.rival),
           ))
           (λ t.
           let w = formed_whole sheet cs e (nltb→le q (2 ^ inputs_of cs) t) in (
@@ -147,4 +147,4 @@ pub own_audit : (kind : BoardKind) (sheet : List ℕ) (budget : ℕ) (buffer : L
     ≡ accepting fits_outcome (quoted_of kind sheet budget (length buffer)).cells
 own_audit kind sheet budget buffer a =
     (audit_yes kind sheet (take (quoted_of kind sheet budget (length buffer)).length (buffer_quoted kind sheet budget buffer)) (quoted_of kind sheet budget (length buffer)).cells).1
-    ((promised kind sheet budget buffer).kept.own a)
+    ((promised kind sheet budget buffer).own a)

@@ -29,15 +29,11 @@ use Rattle.unit.proofs.Rivals.{rival_told}
 use Rattle.quote.specs.Quote.{searched, quoted_of, buffer_searched, buffer_quoted}
 use Rattle.quote.specs.Cases.{QuoteReply}
 use Rattle.quote.specs.Inner.Refused.{refused_quote}
-use Rattle.quote.specs.AnyQuote.{PromisedOf}
-use Rattle.quote.specs.Promised.{commands_read, inputs_in, wires_in, NoRival, Promised}
+use Rattle.quote.specs.AnyQuote.{inputs_in, wires_in, PromisedOf}
+use Rattle.quote.specs.Promised.{NoRival, Promised}
 use Rattle.quote.proofs.Told.{is_wide, NumberTold, unread_told, empty_told, wide_told, other_told}
+use Rattle.quote.proofs.OneSheet.{read_is, packed}
 use Rattle.quote.proofs.Searched.{refused_promise, Tells, searched_promise, searched_number}
-
--- the commands of a sheet that was read
-pub read_is : (sheet : List ℕ) (cs : List Command) → reading_of sheet ≡ holds cs → commands_read (reading_of sheet) ≡ cs
-unfolding commands_read
-read_is sheet cs e = ap commands_read e
 
 module _ (kind : BoardKind) (sheet : List ℕ) (budget : ℕ) (buffer : List ℕ) where
   abbrev PromiseKept : Type 0
@@ -46,7 +42,7 @@ module _ (kind : BoardKind) (sheet : List ℕ) (budget : ℕ) (buffer : List ℕ
   -- what every quote promises, with what the number tells
   with_number : {r : QuoteReply} {b : List ℕ} → PromisedOf (drawing_of kind) (inputs_in sheet) (wires_in sheet) (Rival (drawing_of kind) sheet) (NoRival (drawing_of kind) sheet) budget r b
       → NumberTold kind sheet r.mark.number → Promised (drawing_of kind) (most_inputs kind) sheet budget r b
-  with_number p told = record { kept = p; by_trees = told.by_trees; wide = told.wide }
+  with_number p told = packed (drawing_of kind) sheet (most_inputs kind) budget _ _ p told.by_trees told.wide
 
   refusal : (f : Refusal) → NumberTold kind sheet f.number → Promised (drawing_of kind) (most_inputs kind) sheet budget (refused_quote f) buffer
   refusal f told =

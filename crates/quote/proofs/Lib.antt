@@ -1,5 +1,6 @@
 pub mod Own
 pub mod Told
+pub mod OneSheet
 pub mod Searched
 pub mod Demand
 pub mod Quoting

@@ -1,20 +1,26 @@
 -- Demand 3 of document 01, "Quote, audit, program": what a quote promises about stages that nobody drew, whatever was sent to be quoted.
 -- It is told by the reply and by the bytes written, which the stage reader takes; of the search it names the two marks alone.
-use Rattle.std.specs.Prelude.{ℕ, ◌≤◌, ◌≡◌, ◌⊎◌, ◌↔◌, List, take}
+-- The promise of a quote of one sheet (`Promised`) comes of this with its rivals as the stages wanted (quote/proofs/OneSheet `packed`).
+use Rattle.std.specs.Prelude.{ℕ, ◌≤◌, ◌≡◌, ◌↔◌, List, [], take}
 use Rattle.base.specs.Refusals.{empty}
 use Rattle.table.specs.Drawing.{Drawing, drawn_cells, got}
-use Rattle.branch_bound.specs.Reply.{best_outcome, stopped_outcome}
+use Rattle.sheet.specs.declared.Command.{Command}
+use Rattle.sheet.specs.Commands.{inputs_of, wires_of}
+use Rattle.sheet.specs.Judged.{Reading, holds, refused}
+use Rattle.reader.specs.Reading.{reading_of}
 use Rattle.quote.specs.Cases.{QuoteReply}
+use Rattle.quote.specs.Promised.{IsBest, IsStopped, Accepted}
 
--- the quote is marked best, or stopped; it has a stage
-abbrev pub IsBest : QuoteReply → Type 0
-IsBest r = r.mark.outcome ≡ best_outcome
+-- the commands that were read, none where reading refused; and the sizes that they give
+unfoldable pub commands_read : Reading → List Command
+commands_read (holds cs) = cs
+commands_read (refused f) = []
 
-abbrev pub IsStopped : QuoteReply → Type 0
-IsStopped r = r.mark.outcome ≡ stopped_outcome
+abbrev pub inputs_in : List ℕ → ℕ
+inputs_in sheet = inputs_of (commands_read (reading_of sheet))
 
-abbrev pub Accepted : QuoteReply → Type 0
-Accepted r = IsBest r ⊎ IsStopped r
+abbrev pub wires_in : List ℕ → ℕ
+wires_in sheet = wires_of (commands_read (reading_of sheet))
 
 -- what is read from these bytes has n inputs and m wires, is a stage that is wanted, and has so many cells
 pub record WantedStage (D : Drawing) (n m : ℕ) (Wanted : List D.Shape → Type 0) (bytes : List ℕ) (cells : ℕ) : Type 0 where

@@ -49,8 +49,8 @@ fn quote_answer(kind: BoardKind, n: u8, m: u8, answer: Answer, buffer: &mut [u8]
 // The relation searched, and the stage found written. A relation of more inputs than the board has lines is not searched.
 // Every quote comes to this, whatever its relation was formed of; what the reply promises is said where that is known.
 pub fn quote_relation(kind: BoardKind, relation: Relation, budget: u32, buffer: &mut [u8]) -> Quoted
-    ensures reply { quote_reply result ≡ searched kind relation budget (length buffer.old) }
-    ensures bytes { buffer.new ≡ buffer_searched kind relation budget buffer.old }
+    ensures { (quote_reply result ≡ searched kind relation budget (length buffer.old))
+        × (buffer.new ≡ buffer_searched kind relation budget buffer.old) }
 {
     let n = relation.n;
     let m = relation.m;

@@ -37,7 +37,7 @@ module _ (r : Relation) (R : Rel) (told : (p v : ℕ) → p < 2 ^ r.n → v < 2 
       same : {Q : ℕ → ℕ → Bool} → Family D r.n r.m Q xs → (p : ℕ) → p < 2 ^ r.n → relation_of r p (drawn_value D r.n xs p) ≡ R p (drawn_value D r.n xs p)
       same {Q} f p l = told p (drawn_value D r.n xs p) l (value_below D r.n count counts r.m Q xs f p)
 
-  empty_told : empty_pattern r.n r.m (relation_of r) ≡ empty_pattern r.n r.m R
+  pub empty_told : empty_pattern r.n r.m (relation_of r) ≡ empty_pattern r.n r.m R
   unfolding empty_pattern
   empty_told =
       lowest_cong (2 ^ r.n) (λ p. not (any (2 ^ r.m) (relation_of r p))) (λ p. not (any (2 ^ r.m) (R p)))

@@ -4,8 +4,8 @@
 ghost use Rattle.std.specs.Prelude.{◌≡◌, ◌+◌, ◌*◌, ◌≤◌};
 ghost use Rattle.sheet.specs.Limits.{max_patterns, max_wires};
 ghost use Rattle.base.specs.Inner.Put.{last_place};
-ghost use Rattle.samples.specs.Inner.Records.{call_of, eight_at, four_at, part_of, record_length, sets_at, tables_at, two_at};
-ghost use Rattle.samples.specs.Inner.Lengths.{longest_part, longest_record};
+ghost use Rattle.samples.specs.Inner.Records.{any_record_length, call_of, eight_at, four_at, part_of, record_length, sets_at, tables_at, two_at};
+ghost use Rattle.samples.specs.Inner.Lengths.{longest_any_record, longest_part, longest_record};
 
 use base::byte_at;
 use sheet::Sheet;
@@ -115,7 +115,18 @@ pub fn record_length(s: &[u8], at: usize) -> usize
         b'W' => WRITE_RECORD,
         b'R' => 3 + length_at(s, at + 1),
         b'C' => 5 + length_at(s, at + 3),
-        b'J' => 11 + length_at(s, at + 7) + length_at(s, at + 9),
         _ => 1,
+    }
+}
+
+// The same with the record of a joint quote, which has the letter J.
+pub fn any_record_length(s: &[u8], at: usize) -> usize
+    requires { at + longest_any_record ≤ last_place }
+    ensures { (result ≡ any_record_length s.now at) × (1 ≤ result) × (result ≤ longest_any_record) }
+{
+    let letter = byte_at(s, at);
+    match letter {
+        b'J' => 11 + length_at(s, at + 7) + length_at(s, at + 9),
+        _ => record_length(s, at),
     }
 }

@@ -44,11 +44,11 @@ fn answer_whole(rt: &HostRuntime, s: &[u8]) -> usize
     let mut used: usize = 0;
     let mut at: usize = 0;
     while at < s.len() {
-        let next = at + samples::records::record_length(s, at);
+        let next = at + samples::records::any_record_length(s, at);
         if s.len() < next {
             break;
         }
-        let end = replies::put_reply(out, used, s, at);
+        let end = replies::put_any_reply(out, used, s, at);
         used = make_room(rt, out, end);
         at = next;
     }

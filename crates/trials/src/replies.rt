@@ -1,10 +1,10 @@
 // The reply to a record: the library is called on what it holds, and its answer put as text into a lent buffer at a place; the place after it is handed back.
-// Inner functions: the main loop meets what `put_reply` requires, and the functions here what the others do: bounds that are there for the sums alone.
+// Inner functions: the main loop meets what `put_any_reply` requires, and the functions here what the others do: bounds that are there for the sums alone.
 ghost use Rattle.std.specs.Prelude.{◌+◌, ◌≤◌, length};
 ghost use Rattle.base.specs.Inner.Put.{last_place};
 ghost use Rattle.diagram.specs.Bytes.{longest_written};
 ghost use Rattle.report.specs.Lines.{longest_pairs, longest_word};
-ghost use Rattle.samples.specs.Inner.Lengths.{longest_kept, longest_number_line, longest_record, longest_reply};
+ghost use Rattle.samples.specs.Inner.Lengths.{longest_any_record, longest_kept, longest_number_line, longest_record, longest_reply};
 ghost use Rattle.trials.specs.Inner.Window.{most_room};
 
 use base::{Refusal, Verdict, Written, byte_at};
@@ -35,13 +35,12 @@ fn put_shown(out: &mut [u8], at: usize, buffer: &[u8], k: usize, most: usize) ->
     put_kept(out, next, buffer, k)
 }
 
-// The line of a refusal by a call with a buffer, after the word for what is refused where several things were handed in.
-fn put_refused(out: &mut [u8], at: usize, whose: &[u8], refusal: Refusal, buffer: &[u8]) -> usize
-    requires { (at + longest_reply ≤ last_place) × (length whose.now ≤ longest_word) }
+// The line of a refusal by a call with a buffer.
+fn put_refused(out: &mut [u8], at: usize, refusal: Refusal, buffer: &[u8]) -> usize
+    requires { at + longest_reply ≤ last_place }
     ensures { result ≤ at + longest_reply }
 {
-    let start = put_text(out, at, whose);
-    let next = put_refusal(out, start, refusal);
+    let next = put_refusal(out, at, refusal);
     put_kept(out, next, buffer, 0)
 }
 
@@ -64,7 +63,7 @@ fn put_quoted(out: &mut [u8], at: usize, q: Quoted, buffer: &[u8]) -> usize
     match mark {
         Mark::Best => put_quote_line(out, at, q, b" best\n", buffer),
         Mark::Stopped => put_quote_line(out, at, q, b" stopped\n", buffer),
-        Mark::Refused(refusal) => put_refused(out, at, b"", refusal, buffer),
+        Mark::Refused(refusal) => put_refused(out, at, refusal, buffer),
     }
 }
 
@@ -102,50 +101,6 @@ fn put_quote(kind: BoardKind, out: &mut [u8], at: usize, s: &[u8], from: usize) 
     let sheet = part(s, from + 9, length_at(s, from + 7));
     let mut space = [FILL; MOST_ROOM];
     put_quote_into(kind, out, at, sheet, budget, &mut space[0..room])
-}
-
-// The lines of a joint quote: a refusal names the sheet.
-fn put_joint(out: &mut [u8], at: usize, q: JointQuoted, buffer: &[u8]) -> usize
-    requires { at + longest_reply ≤ last_place }
-    ensures { result ≤ at + longest_reply }
-{
-    let mark = q.mark;
-    match mark {
-        JointMark::Best => put_quoted(out, at, q.unnamed(), buffer),
-        JointMark::Stopped => put_quoted(out, at, q.unnamed(), buffer),
-        JointMark::FirstRefused(refusal) => put_refused(out, at, b"first ", refusal, buffer),
-        JointMark::SecondRefused(refusal) => put_refused(out, at, b"second ", refusal, buffer),
-    }
-}
-
-// The lines of the joint quote for two sheets, with a buffer for its stage.
-fn put_joined_into(
-    out: &mut [u8],
-    at: usize,
-    first: &[u8],
-    second: &[u8],
-    budget: u32,
-    buffer: &mut [u8],
-) -> usize
-    requires { at + longest_reply ≤ last_place }
-    ensures { result ≤ at + longest_reply }
-{
-    let q = joined::quote_joined(first, second, budget, buffer);
-    put_joint(out, at, q, buffer)
-}
-
-// Joint quote: budget (4 bytes), buffer length (2), first sheet's length (2), second sheet's length (2), first sheet, second sheet.
-fn put_joined(out: &mut [u8], at: usize, s: &[u8], from: usize) -> usize
-    requires { (at + longest_reply ≤ last_place) × (from + longest_record ≤ last_place) }
-    ensures { result ≤ at + longest_reply }
-{
-    let budget = u32_at(s, from + 1);
-    let room = room_at(s, from + 5);
-    let first_length = length_at(s, from + 7);
-    let first = part(s, from + 11, first_length);
-    let second = part(s, from + 11 + first_length, length_at(s, from + 9));
-    let mut space = [FILL; MOST_ROOM];
-    put_joined_into(out, at, first, second, budget, &mut space[0..room])
 }
 
 // The line of a stage that was judged: the word of the judgement, and the stage's cells.
@@ -219,7 +174,7 @@ fn put_written(out: &mut [u8], at: usize, written: Written, buffer: &[u8], most:
             let next = put_spaced(out, at, k as u64);
             put_shown(out, next, buffer, k, most)
         }
-        Written::Refused(refusal) => put_refused(out, at, b"", refusal, buffer),
+        Written::Refused(refusal) => put_refused(out, at, refusal, buffer),
     }
 }
 
@@ -329,7 +284,72 @@ pub fn put_reply(out: &mut [u8], at: usize, s: &[u8], from: usize) -> usize
         b'W' => put_write(kind, out, at, s, from),
         b'R' => put_read(kind, out, at, s, from),
         b'C' => put_clean(out, at, s, from),
-        b'J' => put_joined(out, at, s, from),
         _ => put_text(out, at, b"unknown letter\n"),
+    }
+}
+
+// The line of a refusal by a call with a buffer, after the word for what is refused.
+fn put_refused_of(out: &mut [u8], at: usize, whose: &[u8], refusal: Refusal, buffer: &[u8]) -> usize
+    requires { (at + longest_reply ≤ last_place) × (length whose.now ≤ longest_word) }
+    ensures { result ≤ at + longest_reply }
+{
+    let start = put_text(out, at, whose);
+    let next = put_refusal(out, start, refusal);
+    put_kept(out, next, buffer, 0)
+}
+
+// The lines of a joint quote: a refusal names the sheet.
+fn put_joint(out: &mut [u8], at: usize, q: JointQuoted, buffer: &[u8]) -> usize
+    requires { at + longest_reply ≤ last_place }
+    ensures { result ≤ at + longest_reply }
+{
+    let mark = q.mark;
+    match mark {
+        JointMark::Best => put_quoted(out, at, q.unnamed(), buffer),
+        JointMark::Stopped => put_quoted(out, at, q.unnamed(), buffer),
+        JointMark::FirstRefused(refusal) => put_refused_of(out, at, b"first ", refusal, buffer),
+        JointMark::SecondRefused(refusal) => put_refused_of(out, at, b"second ", refusal, buffer),
+    }
+}
+
+// The lines of the joint quote for two sheets, with a buffer for its stage.
+fn put_joined_into(
+    out: &mut [u8],
+    at: usize,
+    first: &[u8],
+    second: &[u8],
+    budget: u32,
+    buffer: &mut [u8],
+) -> usize
+    requires { at + longest_reply ≤ last_place }
+    ensures { result ≤ at + longest_reply }
+{
+    let q = joined::quote_joined(first, second, budget, buffer);
+    put_joint(out, at, q, buffer)
+}
+
+// Joint quote: budget (4 bytes), buffer length (2), first sheet's length (2), second sheet's length (2), first sheet, second sheet.
+fn put_joined(out: &mut [u8], at: usize, s: &[u8], from: usize) -> usize
+    requires { (at + longest_reply ≤ last_place) × (from + longest_any_record ≤ last_place) }
+    ensures { result ≤ at + longest_reply }
+{
+    let budget = u32_at(s, from + 1);
+    let room = room_at(s, from + 5);
+    let first_length = length_at(s, from + 7);
+    let first = part(s, from + 11, first_length);
+    let second = part(s, from + 11 + first_length, length_at(s, from + 9));
+    let mut space = [FILL; MOST_ROOM];
+    put_joined_into(out, at, first, second, budget, &mut space[0..room])
+}
+
+// The reply to the record at a place, which may be that of a joint quote.
+pub fn put_any_reply(out: &mut [u8], at: usize, s: &[u8], from: usize) -> usize
+    requires { (at + longest_reply ≤ last_place) × (from + longest_any_record ≤ last_place) }
+    ensures { result ≤ at + longest_reply }
+{
+    let letter = byte_at(s, from);
+    match letter {
+        b'J' => put_joined(out, at, s, from),
+        _ => put_reply(out, at, s, from),
     }
 }

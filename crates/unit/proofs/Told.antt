@@ -20,6 +20,8 @@ use Rattle.table.proofs.Bits.{zero_bit}
 use Rattle.relation.specs.Tests.{of_sets, empty_pattern}
 use Rattle.relation.specs.Handed.{relation_of, check_of}
 use Rattle.relation.specs.Families.{Family}
+use Rattle.relation.specs.Inner.Source.{WellDefined}
+use Rattle.relation.proofs.Fits.{Fit}
 use Rattle.base.proofs.Tabulate.{tabulate_entry, take_entry}
 use Rattle.relation.proofs.Telling as Telling
 use Rattle.sheet.specs.declared.Command.{Command}
@@ -79,11 +81,21 @@ module _ (cs : List Command) (s : Sound cs) where
   pub set_told : (p v : ℕ) → p < 2 ^ inputs_of cs → v < 2 ^ wires_of cs → relation_of (relation_in cs) p v ≡ unit_relation cs p v
   set_told p v l b = sets_told p v ∙ rw (lt-ltb p (2 ^ inputs_of cs) l, lt-ltb v (2 ^ wires_of cs) b)
 
-  -- the same stages are compatible
+  -- the same stages are compatible, and the same patterns are empty
   pub family_told : (D : Drawing) (count : ℕ → ℕ) → FairCount D (inputs_of cs) count → (xs : List D.Shape)
       → Family D (inputs_of cs) (wires_of cs) (relation_of (relation_in cs)) xs ↔ Family D (inputs_of cs) (wires_of cs) (unit_relation cs) xs
   unfolding relation_in
-  family_told = Telling.family-told (relation_in cs) (unit_relation cs) set_told
+  family_told = Telling.family_told (relation_in cs) (unit_relation cs) set_told
+
+  pub well_defined_told : WellDefined (inputs_of cs) (wires_of cs) (relation_of (relation_in cs)) ↔ WellDefined (inputs_of cs) (wires_of cs) (unit_relation cs)
+  well_defined_told = (
+    λ w p l. let u = w p l in (u.0, u.1, subst T (set_told p u.0 l u.1) u.2),
+    λ w p l. let u = w p l in (u.0, u.1, subst T (sym (set_told p u.0 l u.1)) u.2),
+  )
+
+  pub empty_told : empty_pattern (inputs_of cs) (wires_of cs) (relation_of (relation_in cs)) ≡ empty_in cs
+  unfolding relation_in
+  empty_told = Telling.empty_told (relation_in cs) (unit_relation cs) set_told
 
   pub entry_below : (p : ℕ) → get_or (relation_in cs).sets p 0 < 2 ^ (2 ^ wires_of cs)
   entry_below p =
@@ -97,8 +109,17 @@ module _ (cs : List Command) (s : Sound cs) where
 
     pub refused_empty : empty_in cs < 2 ^ inputs_of cs → check_of most (relation_in cs) ≡ refused_case (refusal_at empty (empty_in cs))
     unfolding relation_in
-    refused_empty = Telling.refused-empty (relation_in cs) (unit_relation cs) set_told most sized_in (λ p _. entry_below p)
+    refused_empty = Telling.refused_empty (relation_in cs) (unit_relation cs) set_told most sized_in (λ p _. entry_below p)
 
     pub passes_whole : 2 ^ inputs_of cs ≤ empty_in cs → check_of most (relation_in cs) ≡ accepted_case
     unfolding relation_in
-    passes_whole = Telling.passes-whole (relation_in cs) (unit_relation cs) set_told most sized_in (λ p _. entry_below p)
+    passes_whole = Telling.passes_whole (relation_in cs) (unit_relation cs) set_told most sized_in (λ p _. entry_below p)
+
+    -- a relation with no empty pattern is fit for the search
+    pub fit_told : WellDefined (inputs_of cs) (wires_of cs) (unit_relation cs) → Fit most (relation_in cs)
+    unfolding relation_in
+    fit_told w = record {
+      sizes = sized_in;
+      small = λ p _. entry_below p;
+      well_defined = well_defined_told.1 w;
+    }

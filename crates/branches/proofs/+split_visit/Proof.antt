@@ -8,7 +8,7 @@ use borrow.Author.Rules.{rules}
 use lib.Dec.{T}
 use lib.ListN.{length, get_or, set}
 use lib.Seq.{set-get_or}
-use Rattle.base.proofs.Tests.{denied, granted}
+use Rattle.base.proofs.Tests.{told_no, told_yes}
 use Rattle.sheet.specs.Limits.{max_wires, max_patterns}
 use Rattle.table.specs.Bits.{bit, is_one}
 use Rattle.branch_bound.specs.Search.{halted, charged, improved}
@@ -38,6 +38,7 @@ use borrow.Fn.PlainCycle.{Measures, is, falls, and}
 use Rattle.branches.proofs.split.Reads as split
 use Rattle.branches.proofs.split.Kinds as split_kinds
 use Rattle.branches.proofs.+split_visit.Lts-split as split_lts
+use Rattle.branches.proofs.+split_visit.Lts-split.{then-a, else-a, then-b, else-b, then-sum_of-state, else-sum_of-state}
 use Rattle.branches.proofs.visit.Reads as visit
 use Rattle.branches.proofs.visit.Kinds as visit_kinds
 use Rattle.branches.proofs.+split_visit.Lts-visit as visit_lts
@@ -134,239 +135,240 @@ split_half : {t : ℕ} (c : split_lts.Start (split_claims t) (split_at t) split.
     → let a = c.args in Half a.e.now (lent_wires a.e.now) a.sets.now a.masks.now l a.low a.cells a.p a.j b w
 split_half c b lb e same =
     let q = c.requires.1 in
-    record { lent = q.0; carried = carried_back q.1 same; pattern = q.3; wire = q.4; is_open = q.5; side = lb; left = e }
+    record { lent = q.0; carried = carried_back q.1 same; pattern = q.3; wire = q.4; is_open_lem = q.5; side = lb; left = e }
 
-split_mul_set : (t : ℕ) → split_lts.Need-overflow-mul-set (split_claims t) (split_at t) split.Post
+split_mul_set : (t : ℕ) → split_lts.Need-offset_bounds-sets-at (split_claims t) (split_at t) split.Post
 split_mul_set t c = omega arith
 
-split_element_copy_out_set : (t : ℕ) → split_lts.Need-element-copy-out-set (split_claims t) (split_at t) split.Post
-split_element_copy_out_set t c = split_pattern c
+split_element_copy_out_set : (t : ℕ) → split_lts.Need-bounds-sets-at (split_claims t) (split_at t) split.Post
+split_element_copy_out_set t c = split_pattern c.before
 
-split_row_of_requires : (t : ℕ) → split_lts.Need-row-of-requires (split_claims t) (split_at t) split.Post
+split_row_of_requires : (t : ℕ) → split_lts.Need-row_of-row-requires (split_claims t) (split_at t) split.Post
 split_row_of_requires t c κs = split_pattern c.before.before
 
-split_driven_on_requires : (t : ℕ) → split_lts.Need-driven-on-requires (split_claims t) (split_at t) split.Post
-split_driven_on_requires t c κs = split_pattern c.before.before.before.before
+split_driven_on_requires : (t : ℕ) → split_lts.Need-driven_on-driven-requires (split_claims t) (split_at t) split.Post
+split_driven_on_requires t c κs = split_pattern c.before.before.before
 
-split_element_copy_out_is_wide : (t : ℕ) → split_lts.Need-element-copy-out-is-wide (split_claims t) (split_at t) split.Post
+split_element_copy_out_is_wide : (t : ℕ) → split_lts.Need-bounds-e-256 (split_claims t) (split_at t) split.Post
 split_element_copy_out_is_wide t c = search rules
 
-split_cast_is_wide : (t : ℕ) → split_lts.Need-overflow-cast-is-wide (split_claims t) (split_at t) split.Post
-split_cast_is_wide t c = omega (arith, board_small c.before.before.before.before.before.before.requires.1.0)
+split_cast_is_wide : (t : ℕ) → split_lts.Need-overflow_cast-e (split_claims t) (split_at t) split.Post
+split_cast_is_wide t c = omega (arith, board_small c.requires.1.0)
 
-split_is_wide_requires : (t : ℕ) → split_lts.Need-is-wide-requires (split_claims t) (split_at t) split.Post
+split_is_wide_requires : (t : ℕ) → split_lts.Need-is_wide-wide-requires (split_claims t) (split_at t) split.Post
 split_is_wide_requires t c κs = search rules
 
-split_saved_requires : (t : ℕ) → split_lts.Need-saved-requires (split_claims t) (split_at t) split.Post
+split_saved_requires : (t : ℕ) → split_lts.Need-saved-rest-requires (split_claims t) (split_at t) split.Post
 split_saved_requires t c κs = search rules
 
-split_with_bit_requires : (t : ℕ) → split_lts.Need-with-bit-requires (split_claims t) (split_at t) split.Post
-split_with_bit_requires t c κs = let q = c.before.before.before.before.before.before.before.before.before.requires.1 in (omega (arith, q.4, q.1.sized.m_most), omega arith)
+split_with_bit_requires : (t : ℕ) → split_lts.Need-with_bit-zero-requires (split_claims t) (split_at t) split.Post
+split_with_bit_requires t c κs = let q = c.requires.1 in (omega (arith, q.4, q.1.sized.m_most), omega arith)
 
-split_with_bit_requires_2 : (t : ℕ) → split_lts.Need-with-bit-requires-2 (split_claims t) (split_at t) split.Post
-split_with_bit_requires_2 t c κs = let q = c.before.before.before.before.before.before.before.before.before.before.requires.1 in (omega (arith, q.4, q.1.sized.m_most), omega arith)
+split_with_bit_requires_2 : (t : ℕ) → split_lts.Need-with_bit-one-requires (split_claims t) (split_at t) split.Post
+split_with_bit_requires_2 t c κs = let q = c.requires.1 in (omega (arith, q.4, q.1.sized.m_most), omega arith)
 
-split_cut_at_requires : (t : ℕ) → split_lts.Need-cut-at-requires (split_claims t) (split_at t) split.Post
-split_cut_at_requires t c κs = (split_pattern c.before.before.before.before.before.before.before.before.before.before.before.before, c.before.before.before.before.before.before.before.before.before.before.before.before.requires.1.1.long)
+split_cut_at_requires : (t : ℕ) → split_lts.Need-cut_at-requires (split_claims t) (split_at t) split.Post
+split_cut_at_requires t c κs = (split_pattern c.before.before.before.before.before.before.before.before.before.before.before, c.requires.1.1.long)
 
-split_lost_wires_requires : (t : ℕ) → split_lts.Need-lost-wires-requires (split_claims t) (split_at t) split.Post
-split_lost_wires_requires t c κs = c.before.before.before.before.before.before.before.before.driven-on.ensures.1
+split_lost_wires_requires : (t : ℕ) → split_lts.Need-lost_wires-lost-requires (split_claims t) (split_at t) split.Post
+split_lost_wires_requires t c κs = c.driven_on-driven.ensures.1
 
 -- the first part: wire j at 0
-split_zero : {t : ℕ} (c : split_lts.After-lost-wires (split_claims t) (split_at t) split.Post)
-    → let a = c.before.before.before.before.before.before.before.before.before.before.before.before.before.before.args in Half a.e.now (lent_wires a.e.now) a.sets.now a.masks.now a.state.now a.low a.cells a.p a.j 0 c.before.before.before.before.with-bit.result
-split_zero c = split_half c.before.before.before.before.before.before.before.before.before.before.before.before.before.before 0 (omega arith) c.before.before.before.before.with-bit.ensures (λ q _ _. refl)
+split_zero : {t : ℕ} (c : split_lts.After-lost_wires-lost (split_claims t) (split_at t) split.Post)
+    → let a = c.args in Half a.e.now (lent_wires a.e.now) a.sets.now a.masks.now a.state.now a.low a.cells a.p a.j 0 c.with_bit-zero.result
+split_zero c = split_half c.before.before.before.before.before.before.before.before.before.before.before.before.before 0 (omega arith) c.with_bit-zero.ensures (λ q _ _. refl)
 
-split_none : {t : ℕ} (c : split_lts.After-lost-wires (split_claims t) (split_at t) split.Post)
-    → let a = c.before.before.before.before.before.before.before.before.before.before.before.before.before.before.args in Reached a.e.now (lent_wires a.e.now) a.sets.now a.masks.now a.p a.j a.state.now 0 a.sets.now a.masks.now a.state.now
-split_none c = none_reached c.before.before.before.before.before.before.before.before.before.before.before.before.before.before.requires.1.1.long c.before.before.before.before.before.before.before.before.before.before.before.before.before.before.requires.1.7.long
+split_none : {t : ℕ} (c : split_lts.After-lost_wires-lost (split_claims t) (split_at t) split.Post)
+    → let a = c.args in Reached a.e.now (lent_wires a.e.now) a.sets.now a.masks.now a.p a.j a.state.now 0 a.sets.now a.masks.now a.state.now
+split_none c = none_reached c.requires.1.1.long c.requires.1.7.long
 
-split_zero_masks : {t : ℕ} (c : split_lts.After-lost-wires (split_claims t) (split_at t) split.Post) → c.before.cut_at.new.0 ≡ part_masks (split_zero c)
-split_zero_masks c = part_masks_lem (split_none c) (split_zero c) c.before.before.before.before.before.before.before.before.before.before.before.row_of.ensures c.before.cut_at.ensures
+split_zero_masks : {t : ℕ} (c : split_lts.After-lost_wires-lost (split_claims t) (split_at t) split.Post) → c.cut_at.new.masks ≡ part_masks (split_zero c)
+split_zero_masks c = part_masks_lem (split_none c) (split_zero c) c.row_of-row.ensures c.cut_at.ensures
 
-split_zero_told : {t : ℕ} (c : split_lts.After-lost-wires (split_claims t) (split_at t) split.Post) → let a = c.before.before.before.before.before.before.before.before.before.before.before.before.before.before.args in
-    (i : ℕ) → i < max_wires → lane_of c.lost-wires.result i ≡ is_one (not (occurs max_wires (member c.before.before.before.before.with-bit.result) i (bit (table_of (lent_kind a.e.now) (lent_inputs a.e.now) a.sets.now i) a.p)))
-split_zero_told c = lost_told c.before.before.before.before.before.before.before.before.before.before.before.before.before.before.requires.1.1 c.before.before.before.before.before.before.before.before.before.before.before.before.before.before.args.p (split_pattern c.before.before.before.before.before.before.before.before.before.before.before.before.before.before) c.before.before.before.before.before.before.before.before.before.driven-on.result c.before.before.before.before.before.before.before.before.before.driven-on.ensures.0 c.before.before.before.before.with-bit.result c.lost-wires.result c.lost-wires.ensures.0
+split_zero_told : {t : ℕ} (c : split_lts.After-lost_wires-lost (split_claims t) (split_at t) split.Post) → let a = c.args in
+    (i : ℕ) → i < max_wires → lane_of c.lost_wires-lost.result i ≡ is_one (not (occurs max_wires (member c.with_bit-zero.result) i (bit (table_of (lent_kind a.e.now) (lent_inputs a.e.now) a.sets.now i) a.p)))
+split_zero_told c = lost_told c.requires.1.1 c.args.p (split_pattern c.before.before.before.before.before.before.before.before.before.before.before.before.before) c.driven_on-driven.result c.driven_on-driven.ensures.0 c.with_bit-zero.result c.lost_wires-lost.result c.lost_wires-lost.ensures.0
 
-split_again_requires : (t : ℕ) → split_lts.Need-again-requires (split_claims t) (split_at t) split.Post
-split_again_requires t c κs = let d = c.before.before in asked (split_zero d) (split_zero_masks d) c.before.before.before.before.before.before.before.before.before.before.before.before.before.before.before.before.requires.1.7.long c.before.before.lost-wires.ensures.1 c.before.before.lost-wires.ensures.2 c.before.before.before.before.before.before.before.before.before.before.before.before.before.before.before.before.requires.1.8
+split_again_requires : (t : ℕ) → split_lts.Need-again-a-requires (split_claims t) (split_at t) split.Post
+split_again_requires t c κs = let d = c in asked (split_zero d.before) (split_zero_masks d.before) c.requires.1.7.long c.lost_wires-lost.ensures.1 c.lost_wires-lost.ensures.2 c.requires.1.8
 
-split_zero_made : {t : ℕ} (c : split_lts.After-again (split_claims t) (split_at t) split.Post)
-    → let a = c.before.before.before.before.before.before.before.before.before.before.before.before.before.before.before.before.before.args in Remade a.e.now (words_of (part_masks (split_zero c.before.before.before))) c.before.before.before.lost-wires.result a.low a.cells a.state.now c.again.new.1.1.0 c.again.result
-split_zero_made c = subst (λ M. Remade c.before.before.before.before.before.before.before.before.before.before.before.before.before.before.before.before.before.args.e.now (words_of M) c.before.before.before.lost-wires.result c.before.before.before.before.before.before.before.before.before.before.before.before.before.before.before.before.before.args.low c.before.before.before.before.before.before.before.before.before.before.before.before.before.before.before.before.before.args.cells c.before.before.before.before.before.before.before.before.before.before.before.before.before.before.before.before.before.args.state.now c.again.new.1.1.0 c.again.result) (split_zero_masks c.before.before.before) c.again.ensures
+split_zero_made : {t : ℕ} (c : split_lts.After-again-a (split_claims t) (split_at t) split.Post)
+    → let a = c.args in Remade a.e.now (words_of (part_masks (split_zero c.before.before))) c.lost_wires-lost.result a.low a.cells a.state.now c.again-a.new.state c.again-a.result
+split_zero_made c = subst (λ M. Remade c.args.e.now (words_of M) c.lost_wires-lost.result c.args.low c.args.cells c.args.state.now c.again-a.new.state c.again-a.result) (split_zero_masks c.before.before) c.again-a.ensures
 
-split_mul_sets : (t : ℕ) → split_lts.Need-overflow-mul-sets (split_claims t) (split_at t) split.Post
-split_mul_sets t c = omega (arith, split_pattern c.before.before.before.before.before.before.before.before.before.before.before.before.before.before.before.before.before.before)
+split_mul_sets : (t : ℕ) → split_lts.Need-offset_bounds-sets-at-then-a (split_claims t) (split_at t) split.Post
+split_mul_sets t c = omega (arith, split_pattern c.before.before.before.before.before.before.before.before.before.before.before.before.before.before.before.before)
 
-split_element_write_sets : (t : ℕ) → split_lts.Need-element-write-sets (split_claims t) (split_at t) split.Post
-split_element_write_sets t c = split_pattern c.before.before.before.before.before.before.before.before.before.before.before.before.before.before.before.before.before.before
+split_element_write_sets : (t : ℕ) → split_lts.Need-bounds-sets-at-then-a (split_claims t) (split_at t) split.Post
+split_element_write_sets t c = split_pattern c.before.before.before.before.before.before.before.before.before.before.before.before.before.before.before.before
 
-split_begin_at_requires : (t : ℕ) → split_lts.Need-begin-at-requires (split_claims t) (split_at t) split.Post
-split_begin_at_requires t c κs = c.before.before.before.before.before.before.before.before.before.before.before.before.before.before.before.before.before.before.before.requires.1.0
+split_begin_at_requires : (t : ℕ) → split_lts.Need-begin_at-from-requires (split_claims t) (split_at t) split.Post
+split_begin_at_requires t c κs = c.requires.1.0
 
 split_visit_requires : (t : ℕ) → split_lts.Need-visit-requires (split_claims t) (split_at t) split.Post
 split_visit_requires t c κs =
-    let i = c.before.before.before.before.before.before.before.before.before.before.before.before.before.before.before.before.before.before.before.before.before.before.before in
+    let i = c in
     let q = i.requires.1 in
-    let d = c.before.before.before.before.before.before.before.before.before in
-    let at = split_none d in
-    let h = split_zero d in
-    let r = ready at h c.before.before.before.before.before.before.before.before.before.lost-wires.result (split_zero_told d) q.2 q.6 q.7 (split_zero_made c.before.before.before.before.before.before) (rw c.before.before.before.before.before.if1.true tt) (split_zero_masks d) c.before.before.before.begin-at.result c.before.before.before.begin-at.ensures in
+    let d = c in
+    let at = split_none d.before.before.before.before.before.before.before in
+    let h = split_zero d.before.before.before.before.before.before.before in
+    let r = ready at h c.lost_wires-lost.result (split_zero_told d.before.before.before.before.before.before.before) q.2 q.6 q.7 (split_zero_made c.before.before.before.before.before) (rw c.if-a.true tt) (split_zero_masks d.before.before.before.before.before.before.before) c.begin_at-from.result c.begin_at-from.ensures in
     (omega (arith, part_fewer at h, i.requires.0), (q.0, r.0, r.1, r.2, r.3, r.4, r.5))
 
 -- the first part is visited or passed over, and the tables at hand are put back
-split_zero_tried : {t : ℕ} (c : split_lts.Joined1 (split_claims t) (split_at t) split.Post)
-    → let a = c.before.before.before.before.before.before.before.before.before.before.before.before.before.before.before.before.before.before.args in Tried a.e.now (lent_wires a.e.now) a.sets.now c.before.before.before.before.before.cut_at.new.0 c.before.again.new.1.1.0 a.p c.before.before.before.before.before.before.before.before.with-bit.result c.before.again.result.kept c.if1.sets c.if1.masks c.if1.state
+split_zero_tried : {t : ℕ} (c : split_lts.Joined-a (split_claims t) (split_at t) split.Post)
+    → let a = c.args in Tried a.e.now (lent_wires a.e.now) a.sets.now c.cut_at.new.masks c.again-a.new.state a.p c.with_bit-zero.result c.again-a.result.kept c.if-a.sets c.if-a.masks c.if-a.state
 split_zero_tried c =
-    let a = c.before.before.before.before.before.before.before.before.before.before.before.before.before.before.before.before.before.before.args in
-    ⊎_elim
-    (λ v. inl (rw v.0.taken tt, v.7 ∙ v.6.ensures.0, v.8 ∙ v.6.ensures.1, rw v.9 v.6.ensures.2, rw v.9 v.6.ensures.3))
-    (λ v. inr (rw v.0.left tt, v.1, v.2, v.3))
-    c.if1.branch
+    let a = c.args in
+    elim c.if-a.branch [
+      then-a v ↦ inl (rw v.if-a.true tt, v.sets-is ∙ v.visit.ensures.0, v.masks-is ∙ v.visit.ensures.1, rw v.state-is v.visit.ensures.2, rw v.state-is v.visit.ensures.3)
+      | else-a v ↦ inr (rw v.if-a.false tt, v.sets-is, v.masks-is, v.state-is)
+    ]
 
-split_wide : {t : ℕ} (c : split_lts.After-is-wide (split_claims t) (split_at t) split.Post) → c.is_wide.result ≡ lent_wide c.before.before.before.before.before.before.before.args.e.now
+split_wide : {t : ℕ} (c : split_lts.After-is_wide-wide (split_claims t) (split_at t) split.Post) → c.is_wide-wide.result ≡ lent_wide c.args.e.now
 unfolding board_in
-split_wide c = c.is_wide.ensures
+split_wide c = c.is_wide-wide.ensures
 
-split_rest : {t : ℕ} (c : split_lts.After-saved (split_claims t) (split_at t) split.Post) → T (lent_wide c.before.before.before.before.before.before.before.before.before.args.e.now) → c.saved.result ≡ rest_of c.before.before.before.before.before.before.before.before.before.args.state.now
-split_rest c w = c.saved.ensures ∙ saved_wide c.before.before.is_wide.result _ (subst T (sym (split_wide c.before.before)) w)
+split_rest : {t : ℕ} (c : split_lts.After-saved-rest (split_claims t) (split_at t) split.Post) → T (lent_wide c.args.e.now) → c.saved-rest.result ≡ rest_of c.args.state.now
+split_rest c w = c.saved-rest.ensures ∙ saved_wide c.is_wide-wide.result _ (subst T (sym (split_wide c.before)) w)
 
-split_zero_treated : {t : ℕ} (c : split_lts.Joined1 (split_claims t) (split_at t) split.Post)
-    → let a = c.before.before.before.before.before.before.before.before.before.before.before.before.before.before.before.before.before.before.args in Reached a.e.now (lent_wires a.e.now) a.sets.now a.masks.now a.p a.j a.state.now 1 c.if1.sets c.if1.masks (restored (lent_wide a.e.now) c.before.before.before.before.before.before.before.before.before.saved.result c.if1.state)
-    × (length c.if1.state ≡ state_length)
+split_zero_treated : {t : ℕ} (c : split_lts.Joined-a (split_claims t) (split_at t) split.Post)
+    → let a = c.args in Reached a.e.now (lent_wires a.e.now) a.sets.now a.masks.now a.p a.j a.state.now 1 c.if-a.sets c.if-a.masks (restored (lent_wide a.e.now) c.saved-rest.result c.if-a.state)
+    × (length c.if-a.state ≡ state_length)
 split_zero_treated c =
-    let d = c.before.before.before.before in
-    treated (split_none d) (split_zero d) c.before.before.before.before.before.before.before.before.before.saved.result (split_rest c.before.before.before.before.before.before.before.before.before) c.before.before.before.before.lost-wires.result (split_zero_told d) (split_zero_made c.before) (split_zero_masks d) (split_zero_tried c)
+    let d = c in
+    treated (split_none d.before.before.before) (split_zero d.before.before.before) c.saved-rest.result (split_rest c.before.before.before.before.before.before.before.before) c.lost_wires-lost.result (split_zero_told d.before.before.before) (split_zero_made c.before) (split_zero_masks d.before.before.before) (split_zero_tried c)
 
 split_restore_requires : (t : ℕ) → split_lts.Need-restore-requires (split_claims t) (split_at t) split.Post
 split_restore_requires t c κs = (split_zero_treated c.before).1
 
 split_first : {t : ℕ} (c : split_lts.After-restore (split_claims t) (split_at t) split.Post)
-    → let a = c.before.before.before.before.before.before.before.before.before.before.before.before.before.before.before.before.before.before.before.before.args in Reached a.e.now (lent_wires a.e.now) a.sets.now a.masks.now a.p a.j a.state.now 1 c.before.before.if1.sets c.before.before.if1.masks c.restore.new.1.0
-split_first c = rw (c.restore.ensures, split_wide c.before.before.before.before.before.before.before.before.before.before.before.before.before) (split_zero_treated c.before.before).0
+    → let a = c.args in Reached a.e.now (lent_wires a.e.now) a.sets.now a.masks.now a.p a.j a.state.now 1 c.if-a.sets c.if-a.masks c.restore.new.state
+split_first c = rw (c.restore.ensures, split_wide c.before.before.before.before.before.before.before.before.before.before.before) (split_zero_treated c.before.before).0
 
-split_sum_of_requires : (t : ℕ) → split_lts.Need-sum-of-requires (split_claims t) (split_at t) split.Post
-split_sum_of_requires t c κs = carried_fit c.before.before.before.before.before.before.before.before.before.before.before.before.before.before.before.before.before.before.before.before.requires.1.1
+split_sum_of_requires : (t : ℕ) → split_lts.Need-sum_of-requires (split_claims t) (split_at t) split.Post
+split_sum_of_requires t c κs = carried_fit c.requires.1.1
 
-split_cast_if2 : (t : ℕ) → split_lts.Need-overflow-cast-if2 (split_claims t) (split_at t) split.Post
+split_cast_if2 : (t : ℕ) → split_lts.Need-overflow_cast-sum_of (split_claims t) (split_at t) split.Post
 split_cast_if2 t c = search rules
 
-split_element_copy_out_if2 : (t : ℕ) → split_lts.Need-element-copy-out-if2 (split_claims t) (split_at t) split.Post
+split_element_copy_out_if2 : (t : ℕ) → split_lts.Need-bounds-state-4 (split_claims t) (split_at t) split.Post
 split_element_copy_out_if2 t c = search rules
 
-split_cut_at_requires_2 : (t : ℕ) → split_lts.Need-cut-at-requires-2 (split_claims t) (split_at t) split.Post
-split_cut_at_requires_2 t c κs = (split_pattern c.before.before.before.before.before.before.before.before.before.before.before.before.before.before.before.before.before.before.before.before.before.before.before.before, (split_first c.before.before.before.before).long)
+split_cut_at_requires_2 : (t : ℕ) → split_lts.Need-cut_at-requires-then-sum_of-state (split_claims t) (split_at t) split.Post
+split_cut_at_requires_2 t c κs = (split_pattern c.before.before.before.before.before.before.before.before.before.before.before.before.before.before.before.before.before.before.before.before.before.before.before, (split_first c.before.before.before.before.before).long)
 
-split_lost_wires_requires_2 : (t : ℕ) → split_lts.Need-lost-wires-requires-2 (split_claims t) (split_at t) split.Post
-split_lost_wires_requires_2 t c κs = c.before.before.before.before.before.before.before.before.before.before.before.before.before.before.before.before.before.before.before.before.driven-on.ensures.1
+split_lost_wires_requires_2 : (t : ℕ) → split_lts.Need-lost_wires-gone-requires (split_claims t) (split_at t) split.Post
+split_lost_wires_requires_2 t c κs = c.driven_on-driven.ensures.1
 
 -- the second part: wire j at 1
-split_one : {t : ℕ} (c : split_lts.After-lost-wires2 (split_claims t) (split_at t) split.Post)
-    → let a = c.before.before.before.before.before.before.before.before.before.before.before.before.before.before.before.before.before.before.before.before.before.before.before.before.before.before.args in Half a.e.now (lent_wires a.e.now) a.sets.now a.masks.now c.before.before.before.before.before.before.restore.new.1.0 a.low a.cells a.p a.j 1 c.before.before.before.before.before.before.before.before.before.before.before.before.before.before.before.with-bit2.result
-split_one c = split_half c.before.before.before.before.before.before.before.before.before.before.before.before.before.before.before.before.before.before.before.before.before.before.before.before.before.before 1 (omega arith) c.before.before.before.before.before.before.before.before.before.before.before.before.before.before.before.with-bit2.ensures (split_first c.before.before.before.before.before.before).rest
+split_one : {t : ℕ} (c : split_lts.After-lost_wires-gone (split_claims t) (split_at t) split.Post)
+    → let a = c.args in Half a.e.now (lent_wires a.e.now) a.sets.now a.masks.now c.restore.new.state a.low a.cells a.p a.j 1 c.with_bit-one.result
+split_one c = split_half c.before.before.before.before.before.before.before.before.before.before.before.before.before.before.before.before.before.before.before.before.before.before.before.before.before 1 (omega arith) c.with_bit-one.ensures (split_first c.before.before.before.before.before.before.before).rest
 
-split_one_masks : {t : ℕ} (c : split_lts.After-lost-wires2 (split_claims t) (split_at t) split.Post) → c.before.cut-at2.new.0 ≡ part_masks (split_one c)
-split_one_masks c = part_masks_lem (split_first c.before.before.before.before.before.before) (split_one c) c.before.before.before.before.before.before.before.before.before.before.before.before.before.before.before.before.before.before.before.before.before.before.before.row_of.ensures c.before.cut-at2.ensures
+split_one_masks : {t : ℕ} (c : split_lts.After-lost_wires-gone (split_claims t) (split_at t) split.Post) → c.cut_at-then-sum_of-state.new.masks ≡ part_masks (split_one c)
+split_one_masks c = part_masks_lem (split_first c.before.before.before.before.before.before.before) (split_one c) c.row_of-row.ensures c.cut_at-then-sum_of-state.ensures
 
-split_one_told : {t : ℕ} (c : split_lts.After-lost-wires2 (split_claims t) (split_at t) split.Post) → let a = c.before.before.before.before.before.before.before.before.before.before.before.before.before.before.before.before.before.before.before.before.before.before.before.before.before.before.args in
-    (i : ℕ) → i < max_wires → lane_of c.lost-wires2.result i ≡ is_one (not (occurs max_wires (member c.before.before.before.before.before.before.before.before.before.before.before.before.before.before.before.with-bit2.result) i (bit (table_of (lent_kind a.e.now) (lent_inputs a.e.now) a.sets.now i) a.p)))
-split_one_told c = lost_told c.before.before.before.before.before.before.before.before.before.before.before.before.before.before.before.before.before.before.before.before.before.before.before.before.before.before.requires.1.1 c.before.before.before.before.before.before.before.before.before.before.before.before.before.before.before.before.before.before.before.before.before.before.before.before.before.before.args.p (split_pattern c.before.before.before.before.before.before.before.before.before.before.before.before.before.before.before.before.before.before.before.before.before.before.before.before.before.before) c.before.before.before.before.before.before.before.before.before.before.before.before.before.before.before.before.before.before.before.before.before.driven-on.result c.before.before.before.before.before.before.before.before.before.before.before.before.before.before.before.before.before.before.before.before.before.driven-on.ensures.0 c.before.before.before.before.before.before.before.before.before.before.before.before.before.before.before.with-bit2.result c.lost-wires2.result c.lost-wires2.ensures.0
+split_one_told : {t : ℕ} (c : split_lts.After-lost_wires-gone (split_claims t) (split_at t) split.Post) → let a = c.args in
+    (i : ℕ) → i < max_wires → lane_of c.lost_wires-gone.result i ≡ is_one (not (occurs max_wires (member c.with_bit-one.result) i (bit (table_of (lent_kind a.e.now) (lent_inputs a.e.now) a.sets.now i) a.p)))
+split_one_told c = lost_told c.requires.1.1 c.args.p (split_pattern c.before.before.before.before.before.before.before.before.before.before.before.before.before.before.before.before.before.before.before.before.before.before.before.before.before) c.driven_on-driven.result c.driven_on-driven.ensures.0 c.with_bit-one.result c.lost_wires-gone.result c.lost_wires-gone.ensures.0
 
-split_again_requires_2 : (t : ℕ) → split_lts.Need-again-requires-2 (split_claims t) (split_at t) split.Post
-split_again_requires_2 t c κs = let d = c.before.before in asked (split_one d) (split_one_masks d) (split_first c.before.before.before.before.before.before.before.before).ran.long c.before.before.lost-wires2.ensures.1 c.before.before.lost-wires2.ensures.2 (subst (λ x. x < get_or c.before.before.before.before.before.before.before.before.restore.new.1.0 cells_place 0) c.before.before.before.before.before.before.before.sum_of.ensures.0 c.before.before.before.before.before.if2.true)
+split_again_requires_2 : (t : ℕ) → split_lts.Need-again-b-requires (split_claims t) (split_at t) split.Post
+split_again_requires_2 t c κs = let d = c in asked (split_one d.before) (split_one_masks d.before) (split_first c.before.before.before.before.before.before.before.before).ran.long c.lost_wires-gone.ensures.1 c.lost_wires-gone.ensures.2 (subst (λ x. x < get_or c.restore.new.state cells_place 0) c.sum_of.ensures.0 c.if-sum_of-state.true)
 
-split_one_made : {t : ℕ} (c : split_lts.After-again2 (split_claims t) (split_at t) split.Post)
-    → let a = c.before.before.before.before.before.before.before.before.before.before.before.before.before.before.before.before.before.before.before.before.before.before.before.before.before.before.before.before.before.args in Remade a.e.now (words_of (part_masks (split_one c.before.before.before))) c.before.before.before.lost-wires2.result a.low a.cells c.before.before.before.before.before.before.before.before.before.restore.new.1.0 c.again2.new.1.1.0 c.again2.result
-split_one_made c = subst (λ M. Remade c.before.before.before.before.before.before.before.before.before.before.before.before.before.before.before.before.before.before.before.before.before.before.before.before.before.before.before.before.before.args.e.now (words_of M) c.before.before.before.lost-wires2.result c.before.before.before.before.before.before.before.before.before.before.before.before.before.before.before.before.before.before.before.before.before.before.before.before.before.before.before.before.before.args.low c.before.before.before.before.before.before.before.before.before.before.before.before.before.before.before.before.before.before.before.before.before.before.before.before.before.before.before.before.before.args.cells c.before.before.before.before.before.before.before.before.before.restore.new.1.0 c.again2.new.1.1.0 c.again2.result) (split_one_masks c.before.before.before) c.again2.ensures
+split_one_made : {t : ℕ} (c : split_lts.After-again-b (split_claims t) (split_at t) split.Post)
+    → let a = c.args in Remade a.e.now (words_of (part_masks (split_one c.before.before))) c.lost_wires-gone.result a.low a.cells c.restore.new.state c.again-b.new.state c.again-b.result
+split_one_made c = subst (λ M. Remade c.args.e.now (words_of M) c.lost_wires-gone.result c.args.low c.args.cells c.restore.new.state c.again-b.new.state c.again-b.result) (split_one_masks c.before.before) c.again-b.ensures
 
-split_mul_sets_2 : (t : ℕ) → split_lts.Need-overflow-mul-sets-2 (split_claims t) (split_at t) split.Post
-split_mul_sets_2 t c = omega (arith, split_pattern c.before.before.before.before.before.before.before.before.before.before.before.before.before.before.before.before.before.before.before.before.before.before.before.before.before.before.before.before.before.before)
+split_mul_sets_2 : (t : ℕ) → split_lts.Need-offset_bounds-sets-at-then-b (split_claims t) (split_at t) split.Post
+split_mul_sets_2 t c = omega (arith, split_pattern c.before.before.before.before.before.before.before.before.before.before.before.before.before.before.before.before.before.before.before.before.before.before.before.before.before.before.before.before)
 
-split_element_write_sets_2 : (t : ℕ) → split_lts.Need-element-write-sets-2 (split_claims t) (split_at t) split.Post
-split_element_write_sets_2 t c = split_pattern c.before.before.before.before.before.before.before.before.before.before.before.before.before.before.before.before.before.before.before.before.before.before.before.before.before.before.before.before.before.before
+split_element_write_sets_2 : (t : ℕ) → split_lts.Need-bounds-sets-at-then-b (split_claims t) (split_at t) split.Post
+split_element_write_sets_2 t c = split_pattern c.before.before.before.before.before.before.before.before.before.before.before.before.before.before.before.before.before.before.before.before.before.before.before.before.before.before.before.before.before
 
-split_begin_at_requires_2 : (t : ℕ) → split_lts.Need-begin-at-requires-2 (split_claims t) (split_at t) split.Post
-split_begin_at_requires_2 t c κs = c.before.before.before.before.before.before.before.before.before.before.before.before.before.before.before.before.before.before.before.before.before.before.before.before.before.before.before.before.before.before.before.requires.1.0
+split_begin_at_requires_2 : (t : ℕ) → split_lts.Need-begin_at-from-requires-then-b (split_claims t) (split_at t) split.Post
+split_begin_at_requires_2 t c κs = c.requires.1.0
 
-split_visit_requires_2 : (t : ℕ) → split_lts.Need-visit-requires-2 (split_claims t) (split_at t) split.Post
+split_visit_requires_2 : (t : ℕ) → split_lts.Need-visit-requires-then-b (split_claims t) (split_at t) split.Post
 split_visit_requires_2 t c κs =
-    let i = c.before.before.before.before.before.before.before.before.before.before.before.before.before.before.before.before.before.before.before.before.before.before.before.before.before.before.before.before.before.before.before.before.before.before.before in
+    let i = c in
     let q = i.requires.1 in
-    let d = c.before.before.before.before.before.before.before.before.before in
+    let d = c in
     let at = split_first c.before.before.before.before.before.before.before.before.before.before.before.before.before.before.before in
-    let h = split_one d in
-    let r = ready at h c.before.before.before.before.before.before.before.before.before.lost-wires2.result (split_one_told d) q.2 q.6 q.7 (split_one_made c.before.before.before.before.before.before) (rw c.before.before.before.before.before.if3.true tt) (split_one_masks d) c.before.before.before.begin-at2.result c.before.before.before.begin-at2.ensures in
+    let h = split_one d.before.before.before.before.before.before.before.before in
+    let r = ready at h c.lost_wires-gone.result (split_one_told d.before.before.before.before.before.before.before.before) q.2 q.6 q.7 (split_one_made c.before.before.before.before.before.before) (rw c.if-b.true tt) (split_one_masks d.before.before.before.before.before.before.before.before) c.begin_at-from-then-b.result c.begin_at-from-then-b.ensures in
     (omega (arith, part_fewer at h, i.requires.0), (q.0, r.0, r.1, r.2, r.3, r.4, r.5))
 
-split_one_tried : {t : ℕ} (c : split_lts.Joined3 (split_claims t) (split_at t) split.Post)
-    → let a = c.before.before.before.before.before.before.before.before.before.before.before.before.before.before.before.before.before.before.before.before.before.before.before.before.before.before.before.before.before.before.args in Tried a.e.now (lent_wires a.e.now) c.before.before.before.before.before.before.before.before.before.before.before.before.if1.sets c.before.before.before.before.before.cut-at2.new.0 c.before.again2.new.1.1.0 a.p c.before.before.before.before.before.before.before.before.before.before.before.before.before.before.before.before.before.before.before.with-bit2.result c.before.again2.result.kept c.if3.sets c.if3.masks c.if3.state
+split_one_tried : {t : ℕ} (c : split_lts.Joined-b (split_claims t) (split_at t) split.Post)
+    → let a = c.args in Tried a.e.now (lent_wires a.e.now) c.if-a.sets c.cut_at-then-sum_of-state.new.masks c.again-b.new.state a.p c.with_bit-one.result c.again-b.result.kept c.if-b.sets c.if-b.masks c.if-b.state
 split_one_tried c =
-    ⊎_elim
-    (λ v. inl (rw v.0.taken tt, v.7 ∙ v.6.ensures.0, v.8 ∙ v.6.ensures.1, rw v.9 v.6.ensures.2, rw v.9 v.6.ensures.3))
-    (λ v. inr (rw v.0.left tt, v.1, v.2, v.3))
-    c.if3.branch
+    elim c.if-b.branch [
+      then-b v ↦ inl (rw v.if-b.true tt, v.sets-is ∙ v.visit-then-b.ensures.0, v.masks-is ∙ v.visit-then-b.ensures.1, rw v.state-is v.visit-then-b.ensures.2, rw v.state-is v.visit-then-b.ensures.3)
+      | else-b v ↦ inr (rw v.if-b.false tt, v.sets-is, v.masks-is, v.state-is)
+    ]
 
-split_one_treated : {t : ℕ} (c : split_lts.Joined3 (split_claims t) (split_at t) split.Post)
-    → let a = c.before.before.before.before.before.before.before.before.before.before.before.before.before.before.before.before.before.before.before.before.before.before.before.before.before.before.before.before.before.before.args in Reached a.e.now (lent_wires a.e.now) a.sets.now a.masks.now a.p a.j a.state.now 2 c.if3.sets c.if3.masks (restored (lent_wide a.e.now) c.before.before.before.before.before.before.before.before.before.before.before.before.before.before.before.before.before.before.before.before.before.saved.result c.if3.state)
-    × (length c.if3.state ≡ state_length)
+split_one_treated : {t : ℕ} (c : split_lts.Joined-b (split_claims t) (split_at t) split.Post)
+    → let a = c.args in Reached a.e.now (lent_wires a.e.now) a.sets.now a.masks.now a.p a.j a.state.now 2 c.if-b.sets c.if-b.masks (restored (lent_wide a.e.now) c.saved-rest.result c.if-b.state)
+    × (length c.if-b.state ≡ state_length)
 split_one_treated c =
-    let d = c.before.before.before.before in
-    treated (split_first c.before.before.before.before.before.before.before.before.before.before) (split_one d) c.before.before.before.before.before.before.before.before.before.before.before.before.before.before.before.before.before.before.before.before.before.saved.result (split_rest c.before.before.before.before.before.before.before.before.before.before.before.before.before.before.before.before.before.before.before.before.before) c.before.before.before.before.lost-wires2.result (split_one_told d) (split_one_made c.before) (split_one_masks d) (split_one_tried c)
+    let d = c in
+    treated (split_first c.before.before.before.before.before.before.before.before.before.before) (split_one d.before.before.before) c.saved-rest.result (split_rest c.before.before.before.before.before.before.before.before.before.before.before.before.before.before.before.before.before.before.before.before) c.lost_wires-gone.result (split_one_told d.before.before.before) (split_one_made c.before) (split_one_masks d.before.before.before) (split_one_tried c)
 
-split_restore_requires_2 : (t : ℕ) → split_lts.Need-restore-requires-2 (split_claims t) (split_at t) split.Post
+split_restore_requires_2 : (t : ℕ) → split_lts.Need-restore-requires-then-sum_of-state (split_claims t) (split_at t) split.Post
 split_restore_requires_2 t c κs = (split_one_treated c.before).1
 
 -- both parts are treated, or the second is not even made
-split_both : {t : ℕ} (c : split_lts.Joined2 (split_claims t) (split_at t) split.Post)
-    → let a = c.before.before.before.before.before.before.before.before.before.before.before.before.before.before.before.before.before.before.before.before.before.before.before.args in Reached a.e.now (lent_wires a.e.now) a.sets.now a.masks.now a.p a.j a.state.now 2 c.if2.sets c.if2.masks c.if2.state
+split_both : {t : ℕ} (c : split_lts.Joined-sum_of-state (split_claims t) (split_at t) split.Post)
+    → let a = c.args in Reached a.e.now (lent_wires a.e.now) a.sets.now a.masks.now a.p a.j a.state.now 2 c.if-sum_of-state.sets c.if-sum_of-state.masks c.if-sum_of-state.state
 split_both {t} c =
-    ⊎_elim
-    (λ v.
-    let d : split_lts.Joined3 (split_claims t) (split_at t) split.Post = record { before = record { before = record { before = record { before = record { before = record { before = record { before = record { before = c.before; if2 = v.0 }; cut-at-arg2 = v.1 }; cut-at2 = v.2 }; lost-wires2 = v.3 }; again-arg3 = v.4 }; again-arg4 = v.5 }; again2 = v.6 }; if3 = v.7 } in
-    rw (v.10, v.11, v.12, v.9.ensures, split_wide c.before.before.before.before.before.before.before.before.before.before.before.before.before.before.before.before) (split_one_treated d).0)
-    (λ v.
-    let at = split_first c.before.before.before in
-    let h = split_half c.before.before.before.before.before.before.before.before.before.before.before.before.before.before.before.before.before.before.before.before.before.before.before 1 (omega arith) c.before.before.before.before.before.before.before.before.before.before.before.before.with-bit2.ensures at.rest in
-    rw (v.1, v.2, v.3) (not_made at h (subst (λ x. get_or c.before.before.before.restore.new.1.0 cells_place 0 ≤ x) c.before.before.sum_of.ensures.0 v.0.left)))
-    c.if2.branch
+    elim c.if-sum_of-state.branch [
+      then-sum_of-state v ↦
+        let then_part : split_lts.Then-sum_of-state (split_claims t) (split_at t) split.Post = record { before = c.before; if-sum_of-state = v.if-sum_of-state } in
+        let d : split_lts.Joined-b (split_claims t) (split_at t) split.Post = record { before = record { before = record { before = record { before = record { before = record { before = then_part; cut_at-arg-then-sum_of-state-1 = v.cut_at-arg-then-sum_of-state-1 }; cut_at-then-sum_of-state = v.cut_at-then-sum_of-state }; lost_wires-gone = v.lost_wires-gone }; again-arg-then-sum_of-state-1 = v.again-arg-then-sum_of-state-1 }; again-b = v.again-b }; if-b = v.if-b } in
+        rw (v.sets-is, v.masks-is, v.state-is, v.restore-then-sum_of-state.ensures, split_wide c.before.before.before.before.before.before.before.before.before.before.before.before.before.before.before) (split_one_treated d).0
+      | else-sum_of-state v ↦
+        let at = split_first c.before.before.before.before in
+        let h = split_half c.before.before.before.before.before.before.before.before.before.before.before.before.before.before.before.before.before.before.before.before.before.before 1 (omega arith) c.with_bit-one.ensures at.rest in
+        rw (v.sets-is, v.masks-is, v.state-is) (not_made at h (subst (λ x. get_or c.restore.new.state cells_place 0 ≤ x) c.sum_of.ensures.0 v.if-sum_of-state.false))
+    ]
 
-split_put_row_requires : (t : ℕ) → split_lts.Need-put-row-requires (split_claims t) (split_at t) split.Post
-split_put_row_requires t c κs = (split_pattern c.before.before.before.before.before.before.before.before.before.before.before.before.before.before.before.before.before.before.before.before.before.before.before.before, (split_both c.before).long)
+split_put_row_requires : (t : ℕ) → split_lts.Need-put_row-requires (split_claims t) (split_at t) split.Post
+split_put_row_requires t c κs = (split_pattern c.before.before.before.before.before.before.before.before.before.before.before.before.before.before.before.before.before.before.before.before.before.before.before, (split_both c.before).long)
 
-split_mul_sets_3 : (t : ℕ) → split_lts.Need-overflow-mul-sets-3 (split_claims t) (split_at t) split.Post
-split_mul_sets_3 t c = omega (arith, split_pattern c.before.before.before.before.before.before.before.before.before.before.before.before.before.before.before.before.before.before.before.before.before.before.before.before.before)
+split_mul_sets_3 : (t : ℕ) → split_lts.Need-offset_bounds-sets-at-2 (split_claims t) (split_at t) split.Post
+split_mul_sets_3 t c = omega (arith, split_pattern c.before.before.before.before.before.before.before.before.before.before.before.before.before.before.before.before.before.before.before.before.before.before.before.before)
 
-split_element_write_sets_3 : (t : ℕ) → split_lts.Need-element-write-sets-3 (split_claims t) (split_at t) split.Post
+split_element_write_sets_3 : (t : ℕ) → split_lts.Need-bounds-sets-at-2 (split_claims t) (split_at t) split.Post
 split_element_write_sets_3 t c = split_pattern c.before.before.before.before.before.before.before.before.before.before.before.before.before.before.before.before.before.before.before.before.before.before.before.before.before
 
 split_returns : (t : ℕ) → split_lts.Need-returns (split_claims t) (split_at t) split.Post
 split_returns t c =
-    let a = c.before.before.before.before.before.before.before.before.before.before.before.before.before.before.before.before.before.before.before.before.before.before.before.before.before.args in
-    let both = split_both c.before.before in (
+    let a = c.args in
+    let both = split_both c.before.before.before in (
       both.same (get_or a.sets.now a.p 0) ∙ set-get_or a.sets.now a.p 0,
-      c.put-row.ensures ∙ both.rows _ ∙ ap (with_lanes a.masks.now (a.p / row_patterns)) c.before.before.before.before.before.before.before.before.before.before.before.before.before.before.before.before.before.before.before.before.before.before.row_of.ensures ∙ row_back a.masks.now (a.p / row_patterns) c.before.before.before.before.before.before.before.before.before.before.before.before.before.before.before.before.before.before.before.before.before.before.before.before.before.requires.1.1.halved c.before.before.before.before.before.before.before.before.before.before.before.before.before.before.before.before.before.before.before.before.before.before.before.before.before.requires.1.1.long,
+      c.put_row.ensures ∙ both.rows _ ∙ ap (with_lanes a.masks.now (a.p / row_patterns)) c.row_of-row.ensures ∙ row_back a.masks.now (a.p / row_patterns) c.requires.1.1.halved c.requires.1.1.long,
       both.rest,
       both_reached both,
     )
 
 visit_charge_requires : (t : ℕ) → visit_lts.Need-charge-requires (visit_claims t) (visit_at t) visit.Post
-visit_charge_requires t c κs = c.before.requires.1.5
+visit_charge_requires t c κs = c.requires.1.5
 
 visit_leave_requires : (t : ℕ) → visit_lts.Need-leave-requires (visit_claims t) (visit_at t) visit.Post
 visit_leave_requires t c κs =
-    let q = c.before.before.before.before.requires.1 in
-    let spent = not_charged c.before.before.before.before.args.state.now c.before.before.charge.ensures.1 (denied c.before.before.charge.ensures.0 c.before.if1.true) in
+    let q = c.requires.1 in
+    let spent = not_charged c.args.state.now c.charge.ensures.1 (told_no c.charge.ensures.0 c.if-not-charge.true) in
     ap length spent.1 ∙ q.5.long
 
-visit_returns : (t : ℕ) → visit_lts.Need-returns (visit_claims t) (visit_at t) visit.Post
+visit_returns : (t : ℕ) → visit_lts.Need-returns-then-not-charge (visit_claims t) (visit_at t) visit.Post
 unfolding state_of
 visit_returns t c =
-    let a = c.before.before.before.before.before.args in
-    let q = c.before.before.before.before.before.requires.1 in
+    let a = c.args in
+    let q = c.requires.1 in
     let s = a.state.now in
-    let spent = not_charged s c.before.before.before.charge.ensures.1 (denied c.before.before.before.charge.ensures.0 c.before.before.if1.true) in
+    let spent = not_charged s c.charge.ensures.1 (told_no c.charge.ensures.0 c.if-not-charge.true) in
     let e = c.leave.ensures ∙ ap (λ z. set z left_place 1) spent.1 in
-    let r : Ran halted s c.leave.new.0 = rw e (left_ran s q.5.long) in (
+    let r : Ran halted s c.leave.new.state = rw e (left_ran s q.5.long) in (
       refl,
       refl,
       rw e (left_rest s q.5.long),
@@ -379,49 +381,49 @@ visit_returns t c =
     )
 
 -- the visit is charged where the budget has it
-visit_charged : {t : ℕ} (c : visit_lts.Else1 (visit_claims t) (visit_at t) visit.Post) → Ran charged c.before.before.before.args.state.now c.before.charge.new.0 × SameRest c.before.before.before.args.state.now c.before.charge.new.0
-visit_charged c = was_charged c.before.before.before.args.state.now c.before.charge.ensures.1 (granted c.before.charge.ensures.0 c.if1.false) c.before.before.before.requires.1.5.long
+visit_charged : {t : ℕ} (c : visit_lts.Else-not-charge (visit_claims t) (visit_at t) visit.Post) → Ran charged c.args.state.now c.charge.new.state × SameRest c.args.state.now c.charge.new.state
+visit_charged c = was_charged c.args.state.now c.charge.ensures.1 (told_yes c.charge.ensures.0 c.if-not-charge.false) c.requires.1.5.long
 
-visit_carried : {t : ℕ} (c : visit_lts.Else1 (visit_claims t) (visit_at t) visit.Post) → let a = c.before.before.before.args in
-    Carried (lent_kind a.e.now) (lent_inputs a.e.now) (lent_wires a.e.now) a.sets.now a.masks.now c.before.charge.new.0 a.low a.cells
-visit_carried c = carried_back c.before.before.before.requires.1.1 (visit_charged c).1
+visit_carried : {t : ℕ} (c : visit_lts.Else-not-charge (visit_claims t) (visit_at t) visit.Post) → let a = c.args in
+    Carried (lent_kind a.e.now) (lent_inputs a.e.now) (lent_wires a.e.now) a.sets.now a.masks.now c.charge.new.state a.low a.cells
+visit_carried c = carried_back c.requires.1.1 (visit_charged c).1
 
-visit_first_open_requires : (t : ℕ) → visit_lts.Need-first-open-requires (visit_claims t) (visit_at t) visit.Post
-visit_first_open_requires t c κs = let q = c.before.before.before.before.before.requires.1 in (q.0, q.1.sized, q.1.sets, (visit_carried c.before.before).tables, q.3, q.4)
+visit_first_open_requires : (t : ℕ) → visit_lts.Need-first_open-found-requires (visit_claims t) (visit_at t) visit.Post
+visit_first_open_requires t c κs = let q = c.requires.1 in (q.0, q.1.sized, q.1.sets, (visit_carried c).tables, q.3, q.4)
 
-visit_enum_told : (t : ℕ) → visit_lts.Need-enum-told (visit_claims t) (visit_at t) visit.Post
-visit_enum_told t c = c.match.keys1
+visit_enum_told : (t : ℕ) → visit_lts.Need-enum_told-1 (visit_claims t) (visit_at t) visit.Post
+visit_enum_told t c = search rules
 
-visit_sum_of_requires : (t : ℕ) → visit_lts.Need-sum-of-requires (visit_claims t) (visit_at t) visit.Post
-visit_sum_of_requires t c κs = carried_fit c.before.before.before.before.before.before.before.before.before.requires.1.1
+visit_sum_of_requires : (t : ℕ) → visit_lts.Need-sum_of-requires (visit_claims t) (visit_at t) visit.Post
+visit_sum_of_requires t c κs = carried_fit c.requires.1.1
 
-visit_cast_keep : (t : ℕ) → visit_lts.Need-overflow-cast-keep (visit_claims t) (visit_at t) visit.Post
+visit_cast_keep : (t : ℕ) → visit_lts.Need-overflow_cast-sum_of (visit_claims t) (visit_at t) visit.Post
 visit_cast_keep t c = search rules
 
 visit_keep_requires : (t : ℕ) → visit_lts.Need-keep-requires (visit_claims t) (visit_at t) visit.Post
-visit_keep_requires t c κs = (visit_charged c.before.before.before.before.before.before.before).0.long
+visit_keep_requires t c κs = (visit_charged c.before.before.before.before).0.long
 
-visit_enum_known_found : (t : ℕ) → visit_lts.Need-enum-known-found (visit_claims t) (visit_at t) visit.Post
-visit_enum_known_found t c = c.match.keys2
+visit_enum_known_found : (t : ℕ) → visit_lts.Need-enum_known-found (visit_claims t) (visit_at t) visit.Post
+visit_enum_known_found t c = search rules
 
 visit_split_requires : (t : ℕ) → visit_lts.Need-split-requires (visit_claims t) (visit_at t) visit.Post
 unfolding state_of
 visit_split_requires t c κs =
-    let i = c.before.before.before.before.before.before.before.before.before.before.before.before in
+    let i = c in
     let a = i.args in
     let q = i.requires.1 in
     let h = q.1 in
-    let one = visit_charged c.before.before.before.before.before.before.before.before.before in
+    let one = visit_charged c.before.before.before.before.before in
     let are = carried_tables h in
-    let found = c.before.before.before.before.found.given in
-    let ef = c.before.before.before.before.before.before.first-open.ensures in
-    let o = found_open (lent_kind a.e.now) h.sized h.sets are ef found.1 in
-    let below = found_below (lent_kind a.e.now) h.sized h.sets are ef found.1 o.0 in (
+    let found = c.in-Pair.is in
+    let ef = c.first_open-found.ensures in
+    let o = found_open (lent_kind a.e.now) h.sized h.sets are ef found in
+    let below = found_below (lent_kind a.e.now) h.sized h.sets are ef found o.0 in (
       omega (arith, i.requires.0),
       (
         q.0,
-        visit_carried c.before.before.before.before.before.before.before.before.before,
-        whole_after (lent_wide a.e.now) (lent_inputs a.e.now) a.sets.now a.state.now c.before.before.before.before.before.before.before.before.before.before.charge.new.0 one.0.whole q.2,
+        visit_carried c.before.before.before.before.before,
+        whole_after (lent_wide a.e.now) (lent_inputs a.e.now) a.sets.now a.state.now c.charge.new.state one.0.whole q.2,
         o.0,
         o.1,
         o.2,
@@ -431,48 +433,48 @@ visit_split_requires t c κs =
       ),
     )
 
-visit_returns_2 : (t : ℕ) → visit_lts.Need-returns-2 (visit_claims t) (visit_at t) visit.Post
+visit_returns_2 : (t : ℕ) → visit_lts.Need-returns-in-Nowhere (visit_claims t) (visit_at t) visit.Post
 unfolding state_of
 visit_returns_2 t c =
-    let a = c.before.before.before.before.before.before.before.before.before.before.before.args in
-    let q = c.before.before.before.before.before.before.before.before.before.before.before.requires.1 in
+    let a = c.args in
+    let q = c.requires.1 in
     let s = a.state.now in
-    let h = visit_carried c.before.before.before.before.before.before.before.before in
-    let one = visit_charged c.before.before.before.before.before.before.before.before in
-    let left = granted c.before.before.before.before.before.before.before.before.before.charge.ensures.0 c.before.before.before.before.before.before.before.before.if1.false in
-    let f = c.before.sum_of.result in
+    let h = visit_carried c.before.before.before.before.before in
+    let one = visit_charged c.before.before.before.before.before in
+    let left = told_yes c.charge.ensures.0 c.if-not-charge.false in
+    let f = c.sum_of.result in
     let ts = tables_of (lent_kind a.e.now) (lent_inputs a.e.now) a.sets.now in
-    let k = kept_ran c.before.before.before.before.before.before.before.before.before.charge.new.0 ts a.low f one.0.long h.tables (tables_long h) (tables_small h) in
-    let r : Ran (improved ts f) c.before.before.before.before.before.before.before.before.before.charge.new.0 c.keep.new.0 = rw c.keep.ensures k.0 in
-    let same : SameRest c.before.before.before.before.before.before.before.before.before.charge.new.0 c.keep.new.0 = rw c.keep.ensures k.1 in (
+    let k = kept_ran c.charge.new.state ts a.low f one.0.long h.tables (tables_long h) (tables_small h) in
+    let r : Ran (improved ts f) c.charge.new.state c.keep.new.state = rw c.keep.ensures k.0 in
+    let same : SameRest c.charge.new.state c.keep.new.state = rw c.keep.ensures k.1 in (
       refl,
       refl,
       λ i l1 li. same i l1 li ∙ one.1 i l1 li,
       record {
         long = r.long;
-        state = improves (lent_kind a.e.now) q.1.sized q.1.sets (budget_in s) (state_of s) (carried_floor q.1 c.before.sum_of.ensures.0) (rw c.before.sum_of.ensures.0 (lt→nleb _ _ q.6)) left (carried_tables q.1) c.before.before.before.before.before.first-open.ensures
-            c.before.before.before.enum_told.given.1 (r.state ∙ ap (improved ts f) one.0.state);
+        state = improves (lent_kind a.e.now) q.1.sized q.1.sets (budget_in s) (state_of s) (carried_floor q.1 c.sum_of.ensures.0) (rw c.sum_of.ensures.0 (lt→nleb _ _ q.6)) left (carried_tables q.1) c.first_open-found.ensures
+            c.in-Nowhere.is (r.state ∙ ap (improved ts f) one.0.state);
         budget = r.budget ∙ one.0.budget;
         whole = λ i li. r.whole i li ∙ one.0.whole i li;
       },
     )
 
-visit_returns_3 : (t : ℕ) → visit_lts.Need-returns-3 (visit_claims t) (visit_at t) visit.Post
+visit_returns_3 : (t : ℕ) → visit_lts.Need-returns-in-Pair (visit_claims t) (visit_at t) visit.Post
 unfolding state_of
 visit_returns_3 t c =
-    let a = c.before.before.before.before.before.before.before.before.before.before.before.before.before.args in
-    let q = c.before.before.before.before.before.before.before.before.before.before.before.before.before.requires.1 in
+    let a = c.args in
+    let q = c.requires.1 in
     let s = a.state.now in
-    let one = visit_charged c.before.before.before.before.before.before.before.before.before.before in
-    let left = granted c.before.before.before.before.before.before.before.before.before.before.before.charge.ensures.0 c.before.before.before.before.before.before.before.before.before.before.if1.false in
+    let one = visit_charged c.before.before.before.before.before.before in
+    let left = told_yes c.charge.ensures.0 c.if-not-charge.false in
     let r = c.split.ensures.3 in (
       c.split.ensures.0,
       c.split.ensures.1,
       λ i l1 li. c.split.ensures.2 i l1 li ∙ one.1 i l1 li,
       record {
         long = r.long;
-        state = splits (lent_kind a.e.now) q.1.sized q.1.sets (budget_in s) (state_of s) (carried_floor q.1 refl) (lt→nleb _ _ q.6) left (carried_tables q.1) c.before.before.before.before.before.before.before.first-open.ensures
-            c.before.before.before.before.before.found.given.1 one.0.state (rw one.0.budget at r).state;
+        state = splits (lent_kind a.e.now) q.1.sized q.1.sets (budget_in s) (state_of s) (carried_floor q.1 refl) (lt→nleb _ _ q.6) left (carried_tables q.1) c.first_open-found.ensures
+            c.in-Pair.is one.0.state (rw one.0.budget at r).state;
         budget = r.budget ∙ one.0.budget;
         whole = λ i li. r.whole i li ∙ one.0.whole i li;
       },

@@ -6,12 +6,16 @@ use Rattle.text.specs.Text.{longest_decimal}
 use Rattle.report.specs.Lines.{longest_counts, longest_pairs, longest_word}
 use Rattle.samples.specs.Inner.Lines.{plus_text}
 
--- the most bytes of a part, whose length is a number of two bytes, and of a record: a joint quote has two parts
+-- the most bytes of a part, whose length is a number of two bytes, and of a record: an audit has two parts
 abbrev pub longest_part : ℕ
 longest_part = 65535
 
 abbrev pub longest_record : ℕ
-longest_record = 11 + 2 * longest_part
+longest_record = 5 + 2 * longest_part
+
+-- the same with the record of a joint quote, which has two parts behind a longer head
+abbrev pub longest_any_record : ℕ
+longest_any_record = 11 + 2 * longest_part
 
 -- a number with its space, the tables, and what is told of a buffer
 abbrev pub longest_spaced : ℕ

@@ -35,7 +35,7 @@ unfoldable pub call_of : ℕ → ℕ
 call_of letter =
     cond (eqb letter 0x71) 0x51 (cond (eqb letter 0x61) 0x41 (cond (eqb letter 0x73) 0x53 (cond (eqb letter 0x77) 0x57 (cond (eqb letter 0x72) 0x52 letter))))
 
--- the bytes of the record at a place, by its call: Q, A, S, W, R, C, J; another byte is a record by itself
+-- the bytes of the record at a place, by its call: Q, A, S, W, R, C; another byte is a record by itself
 unfoldable pub record_length : List ℕ → ℕ → ℕ
 record_length s at =
     let call = call_of (byte_at s at) in
@@ -44,5 +44,8 @@ record_length s at =
     (cond (eqb call 0x53) (7 + 2 * max_patterns)
     (cond (eqb call 0x57) (5 + 8 * max_wires)
     (cond (eqb call 0x52) (3 + two_at s (at + 1))
-    (cond (eqb call 0x43) (5 + two_at s (at + 3))
-    (cond (eqb call 0x4A) (11 + two_at s (at + 7) + two_at s (at + 9)) 1))))))
+    (cond (eqb call 0x43) (5 + two_at s (at + 3)) 1)))))
+
+-- the same with the record of a joint quote, J
+unfoldable pub any_record_length : List ℕ → ℕ → ℕ
+any_record_length s at = cond (eqb (byte_at s at) 0x4A) (11 + two_at s (at + 7) + two_at s (at + 9)) (record_length s at)

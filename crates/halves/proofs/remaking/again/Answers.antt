@@ -41,12 +41,12 @@ put_cells-all-requires c =
 pub sum_of-requires : goal.sum_of-requires
 sum_of-requires c =
     let i = c in
-    now_fit _ _ _ _ _ _ i.requires.0 i.requires.6 ((let it : let i = c.args in let l = c.loop-left in Partly i.e.now (words_of i.masks.now) i.wires i.tables i.cells i.state.now c.pick_at-found.new.state.1.1.0 (put_lane l.left (first_wire l.left) 0) c.put_lane-low.result c.put_cells-all.result = let i = c in let l = c.loop-left in let f = c in let w = c.lowest_wire-j.ensures.0 in one_more _ _ _ _ _ _ i.requires.0 i.requires.6 l.invariant.0 (omega (arith, c.loop-left-test.true)) (f.pick_at-found.ensures.0 ∙ ap (λ k. side_rank i.args.e.now (words_of i.args.masks.now) k) w) (subst (λ k. PutRest (lent_wide i.args.e.now) k (pick_on i.args.e.now (words_of i.args.masks.now) k) l.state f.pick_at-found.new.1.1.1.0) w f.pick_at-found.ensures.1) (c.put_lane-low.ensures ∙ ap₂ (put_lane l.low) w c.side_in.ensures.0) (c.put_cells-all.ensures ∙ ap₂ (put_cells l.all) w c.cells_in.ensures) refl in it))
+    now_fit _ _ _ _ _ _ i.requires.0 i.requires.6 ((let it : let i = c.args in let l = c.loop-left in Partly i.e.now (words_of i.masks.now) i.wires i.tables i.cells i.state.now c.pick_at-found.new.state (put_lane l.left (first_wire l.left) 0) c.put_lane-low.result c.put_cells-all.result = let i = c in let l = c.loop-left in let f = c in let w = c.lowest_wire-j.ensures.0 in one_more _ _ _ _ _ _ i.requires.0 i.requires.6 l.invariant.0 (omega (arith, c.loop-left-test.true)) (f.pick_at-found.ensures.0 ∙ ap (λ k. side_rank i.args.e.now (words_of i.args.masks.now) k) w) (subst (λ k. PutRest (lent_wide i.args.e.now) k (pick_on i.args.e.now (words_of i.args.masks.now) k) l.state f.pick_at-found.new.state) w f.pick_at-found.ensures.1) (c.put_lane-low.ensures ∙ ap₂ (put_lane l.low) w c.side_in.ensures.0) (c.put_cells-all.ensures ∙ ap₂ (put_cells l.all) w c.cells_in.ensures) refl in it))
 
 pub returns-then-state-sum_of : goal.returns-then-state-sum_of
 returns-then-state-sum_of c =
     let i = c in
-    let h = (let it : let i = c.args in let l = c.loop-left in Partly i.e.now (words_of i.masks.now) i.wires i.tables i.cells i.state.now c.pick_at-found.new.1.1.1.0 (put_lane l.left (first_wire l.left) 0) c.put_lane-low.result c.put_cells-all.result = let i = c in let l = c.loop-left in let f = c in let w = c.lowest_wire-j.ensures.0 in one_more _ _ _ _ _ _ i.requires.0 i.requires.6 l.invariant.0 (omega (arith, c.loop-left-test.true)) (f.pick_at-found.ensures.0 ∙ ap (λ k. side_rank i.args.e.now (words_of i.args.masks.now) k) w) (subst (λ k. PutRest (lent_wide i.args.e.now) k (pick_on i.args.e.now (words_of i.args.masks.now) k) l.state f.pick_at-found.new.1.1.1.0) w f.pick_at-found.ensures.1) (c.put_lane-low.ensures ∙ ap₂ (put_lane l.low) w c.side_in.ensures.0) (c.put_cells-all.ensures ∙ ap₂ (put_cells l.all) w c.cells_in.ensures) refl in it) in
+    let h = (let it : let i = c.args in let l = c.loop-left in Partly i.e.now (words_of i.masks.now) i.wires i.tables i.cells i.state.now c.pick_at-found.new.state (put_lane l.left (first_wire l.left) 0) c.put_lane-low.result c.put_cells-all.result = let i = c in let l = c.loop-left in let f = c in let w = c.lowest_wire-j.ensures.0 in one_more _ _ _ _ _ _ i.requires.0 i.requires.6 l.invariant.0 (omega (arith, c.loop-left-test.true)) (f.pick_at-found.ensures.0 ∙ ap (λ k. side_rank i.args.e.now (words_of i.args.masks.now) k) w) (subst (λ k. PutRest (lent_wide i.args.e.now) k (pick_on i.args.e.now (words_of i.args.masks.now) k) l.state f.pick_at-found.new.state) w f.pick_at-found.ensures.1) (c.put_lane-low.ensures ∙ ap₂ (put_lane l.low) w c.side_in.ensures.0) (c.put_cells-all.ensures ∙ ap₂ (put_cells l.all) w c.cells_in.ensures) refl in it) in
     not_kept _ _ _ _ _ _ i.requires.0 i.requires.6 h (omega (arith, c.if-state-sum_of.true, c.sum_of.ensures.0, h.but.front cells_place (omega arith))) tt
 
 pub without_lowest-left-requires : goal.without_lowest-left-requires
@@ -62,8 +62,8 @@ loop-left-smaller c =
 pub loop-left-preserved : goal.loop-left-preserved
 loop-left-preserved c =
     let i = c.args in
-    let h = (let it : let i = c.args in let l = c.loop-left in Partly i.e.now (words_of i.masks.now) i.wires i.tables i.cells i.state.now c.pick_at-found.new.state.1.1.0 (put_lane l.left (first_wire l.left) 0) c.put_lane-low.result c.put_cells-all.result = let i = c in let l = c.loop-left in let f = c in let w = c.lowest_wire-j.ensures.0 in one_more _ _ _ _ _ _ i.requires.0 i.requires.6 l.invariant.0 (omega (arith, c.loop-left-test.true)) (f.pick_at-found.ensures.0 ∙ ap (λ k. side_rank i.args.e.now (words_of i.args.masks.now) k) w) (subst (λ k. PutRest (lent_wide i.args.e.now) k (pick_on i.args.e.now (words_of i.args.masks.now) k) l.state f.pick_at-found.new.1.1.1.0) w f.pick_at-found.ensures.1) (c.put_lane-low.ensures ∙ ap₂ (put_lane l.low) w c.side_in.ensures.0) (c.put_cells-all.ensures ∙ ap₂ (put_cells l.all) w c.cells_in.ensures) refl in it) in (
-      subst (λ x. Partly i.e.now (words_of i.masks.now) i.wires i.tables i.cells i.state.now c.pick_at-found.new.1.1.1.0 x
+    let h = (let it : let i = c.args in let l = c.loop-left in Partly i.e.now (words_of i.masks.now) i.wires i.tables i.cells i.state.now c.pick_at-found.new.state (put_lane l.left (first_wire l.left) 0) c.put_lane-low.result c.put_cells-all.result = let i = c in let l = c.loop-left in let f = c in let w = c.lowest_wire-j.ensures.0 in one_more _ _ _ _ _ _ i.requires.0 i.requires.6 l.invariant.0 (omega (arith, c.loop-left-test.true)) (f.pick_at-found.ensures.0 ∙ ap (λ k. side_rank i.args.e.now (words_of i.args.masks.now) k) w) (subst (λ k. PutRest (lent_wide i.args.e.now) k (pick_on i.args.e.now (words_of i.args.masks.now) k) l.state f.pick_at-found.new.state) w f.pick_at-found.ensures.1) (c.put_lane-low.ensures ∙ ap₂ (put_lane l.low) w c.side_in.ensures.0) (c.put_cells-all.ensures ∙ ap₂ (put_cells l.all) w c.cells_in.ensures) refl in it) in (
+      subst (λ x. Partly i.e.now (words_of i.masks.now) i.wires i.tables i.cells i.state.now c.pick_at-found.new.state x
           c.put_lane-low.result c.put_cells-all.result) (sym c.without_lowest-left.ensures) h,
       omega (arith, c.if-state-sum_of.false, c.sum_of.ensures.0, h.but.front cells_place (omega arith)),
     )

@@ -10,7 +10,7 @@ use Rattle.samples.proofs.records.record_length.Statement.{statement}
 use Rattle.samples.proofs.records.record_length.Tie as tie
 
 -- a head of so many bytes, and a part of the length that is told
-told : {length part two : ℕ} (head : ℕ) → 1 ≤ head → head ≤ 11 → (part ≡ two) × (part ≤ longest_part) → length ≡ head + two
+told : {length part two : ℕ} (head : ℕ) → 1 ≤ head → head ≤ 9 → (part ≡ two) × (part ≤ longest_part) → length ≡ head + two
     → (head + part ≡ length) × (1 ≤ head + part) × (head + part ≤ longest_record)
 told head low high l e = (omega arith, omega arith, omega arith)
 
@@ -65,24 +65,6 @@ length-at-requires-5 c κs = search rules
 add-result-5 : tie.Need-overflow-add-result-5
 add-result-5 c = search rules
 
-add-length-at-6 : tie.Need-overflow-add-length-at-6
-add-length-at-6 c = search rules
-
-length-at-requires-6 : tie.Need-length-at-requires-6
-length-at-requires-6 c κs = search rules
-
-add-result-6 : tie.Need-overflow-add-result-6
-add-result-6 c = search rules
-
-add-length-at-7 : tie.Need-overflow-add-length-at-7
-add-length-at-7 c = search rules
-
-length-at-requires-7 : tie.Need-length-at-requires-7
-length-at-requires-7 c κs = search rules
-
-add-result-7 : tie.Need-overflow-add-result-7
-add-result-7 c = search rules
-
 returns : tie.Need-returns
 unfolding record_length
 returns c = told _ (omega arith) (omega arith) c.length_at.ensures (simp (← (c.before.before.call-of.ensures ∙ ap call_of c.before.before.before.byte_at.ensures), c.before.match.keys1) (omega arith))
@@ -116,16 +98,6 @@ returns-6 c = told _ (omega arith) (omega arith) c.length-at5.ensures (simp (←
 returns-7 : tie.Need-returns-7
 unfolding record_length
 returns-7 c =
-    let k = c.before.length-at6.ensures in
-    let l = c.length-at7.ensures in (
-      simp (← (c.before.before.before.call-of.ensures ∙ ap call_of c.before.before.before.before.byte_at.ensures), c.before.before.match.keys7) (omega (arith, k.0, l.0)),
-      omega arith,
-      omega (arith, k.1, l.1),
-    )
-
-returns-8 : tie.Need-returns-8
-unfolding record_length
-returns-8 c =
     let r = c.match.rest in (
       simp (
         ← (c.before.call-of.ensures ∙ ap call_of c.before.before.byte_at.ensures),
@@ -135,7 +107,6 @@ returns-8 c =
         ne_eqb _ _ r.0.0.0.1,
         ne_eqb _ _ r.0.0.0.0.1,
         ne_eqb _ _ r.0.0.0.0.0.1,
-        ne_eqb _ _ r.0.0.0.0.0.0.1,
       ),
       omega arith,
       omega arith,
@@ -162,17 +133,10 @@ record_length_spec =
     add-length-at-5
     length-at-requires-5
     add-result-5
-    add-length-at-6
-    length-at-requires-6
-    add-result-6
-    add-length-at-7
-    length-at-requires-7
-    add-result-7
     returns
     returns_2
     returns_3
     returns_4
     returns-5
     returns-6
-    returns-7
-    returns-8)
+    returns-7)
