@@ -1,6 +1,6 @@
 -- The cycle of the search: `visit` treats a part as document 01 writes it, and `split` its two halves.
 use mathlib.Core.Path.{◌≡◌, refl, sym, ap, subst, ◌∙◌}
-use mathlib.Core.Logic.{inl, inr, ⊎_elim}
+use mathlib.Core.Logic.{inl, inr}
 use mathlib.Core.Bool.{not}
 use mathlib.Core.List.{List}
 use native.Mathlib.Omega.{arith}
@@ -32,7 +32,7 @@ use Rattle.branches.proofs.Carrying.{carried_floor, carried_tables, carried_fit,
 use Rattle.branches.proofs.Steps.{halts, improves, splits}
 use Rattle.branches.proofs.Treated.{Reached, none_reached, both_reached, Tried, restored, part_masks_lem, part_fewer, treated, not_made}
 use Rattle.branches.proofs.Ready.{whole_after, lost_told, asked, ready}
-use Prim.Native.Nat.{ℕ, ◌+◌, ◌*◌, ◌/◌, ◌%◌, ◌<◌, ◌≤◌}
+use Prim.Native.Nat.{ℕ, ◌+◌, ◌*◌, ◌/◌, ◌<◌, ◌≤◌}
 use borrow.Fn.Kinds.{In}
 use borrow.Fn.PlainCycle.{Measures, is, falls, and}
 use Rattle.branches.proofs.split.Reads as split
@@ -221,7 +221,7 @@ split_zero_tried : {t : ℕ} (c : split_lts.Joined-a (split_claims t) (split_at 
 split_zero_tried c =
     let a = c.args in
     elim c.if-a.branch [
-      then-a v ↦ inl (rw v.if-a.true tt, v.sets-is ∙ v.visit.ensures.0, v.masks-is ∙ v.visit.ensures.1, rw v.state-is v.visit.ensures.2, rw v.state-is v.visit.ensures.3)
+      | then-a v ↦ inl (rw v.if-a.true tt, v.sets-is ∙ v.visit.ensures.0, v.masks-is ∙ v.visit.ensures.1, rw v.state-is v.visit.ensures.2, rw v.state-is v.visit.ensures.3)
       | else-a v ↦ inr (rw v.if-a.false tt, v.sets-is, v.masks-is, v.state-is)
     ]
 
@@ -303,7 +303,7 @@ split_one_tried : {t : ℕ} (c : split_lts.Joined-b (split_claims t) (split_at t
     → let a = c.args in Tried a.e.now (lent_wires a.e.now) c.if-a.sets c.cut_at-then-sum_of-state.new.masks c.again-b.new.state a.p c.with_bit-one.result c.again-b.result.kept c.if-b.sets c.if-b.masks c.if-b.state
 split_one_tried c =
     elim c.if-b.branch [
-      then-b v ↦ inl (rw v.if-b.true tt, v.sets-is ∙ v.visit-then-b.ensures.0, v.masks-is ∙ v.visit-then-b.ensures.1, rw v.state-is v.visit-then-b.ensures.2, rw v.state-is v.visit-then-b.ensures.3)
+      | then-b v ↦ inl (rw v.if-b.true tt, v.sets-is ∙ v.visit-then-b.ensures.0, v.masks-is ∙ v.visit-then-b.ensures.1, rw v.state-is v.visit-then-b.ensures.2, rw v.state-is v.visit-then-b.ensures.3)
       | else-b v ↦ inr (rw v.if-b.false tt, v.sets-is, v.masks-is, v.state-is)
     ]
 
@@ -322,14 +322,14 @@ split_both : {t : ℕ} (c : split_lts.Joined-sum_of-state (split_claims t) (spli
     → let a = c.args in Reached a.e.now (lent_wires a.e.now) a.sets.now a.masks.now a.p a.j a.state.now 2 c.if-sum_of-state.sets c.if-sum_of-state.masks c.if-sum_of-state.state
 split_both {t} c =
     elim c.if-sum_of-state.branch [
-      then-sum_of-state v ↦
-        let then_part : split_lts.Then-sum_of-state (split_claims t) (split_at t) split.Post = record { before = c.before; if-sum_of-state = v.if-sum_of-state } in
-        let d : split_lts.Joined-b (split_claims t) (split_at t) split.Post = record { before = record { before = record { before = record { before = record { before = record { before = then_part; cut_at-arg-then-sum_of-state-1 = v.cut_at-arg-then-sum_of-state-1 }; cut_at-then-sum_of-state = v.cut_at-then-sum_of-state }; lost_wires-gone = v.lost_wires-gone }; again-arg-then-sum_of-state-1 = v.again-arg-then-sum_of-state-1 }; again-b = v.again-b }; if-b = v.if-b } in
-        rw (v.sets-is, v.masks-is, v.state-is, v.restore-then-sum_of-state.ensures, split_wide c.before.before.before.before.before.before.before.before.before.before.before.before.before.before.before) (split_one_treated d).0
+      | then-sum_of-state v ↦
+          let then_part : split_lts.Then-sum_of-state (split_claims t) (split_at t) split.Post = record { before = c.before; if-sum_of-state = v.if-sum_of-state } in
+          let d : split_lts.Joined-b (split_claims t) (split_at t) split.Post = record { before = record { before = record { before = record { before = record { before = record { before = then_part; cut_at-arg-then-sum_of-state-1 = v.cut_at-arg-then-sum_of-state-1 }; cut_at-then-sum_of-state = v.cut_at-then-sum_of-state }; lost_wires-gone = v.lost_wires-gone }; again-arg-then-sum_of-state-1 = v.again-arg-then-sum_of-state-1 }; again-b = v.again-b }; if-b = v.if-b } in
+          rw (v.sets-is, v.masks-is, v.state-is, v.restore-then-sum_of-state.ensures, split_wide c.before.before.before.before.before.before.before.before.before.before.before.before.before.before.before) (split_one_treated d).0
       | else-sum_of-state v ↦
-        let at = split_first c.before.before.before.before in
-        let h = split_half c.before.before.before.before.before.before.before.before.before.before.before.before.before.before.before.before.before.before.before.before.before.before 1 (omega arith) c.with_bit-one.ensures at.rest in
-        rw (v.sets-is, v.masks-is, v.state-is) (not_made at h (subst (λ x. get_or c.restore.new.state cells_place 0 ≤ x) c.sum_of.ensures.0 v.if-sum_of-state.false))
+          let at = split_first c.before.before.before.before in
+          let h = split_half c.before.before.before.before.before.before.before.before.before.before.before.before.before.before.before.before.before.before.before.before.before.before 1 (omega arith) c.with_bit-one.ensures at.rest in
+          rw (v.sets-is, v.masks-is, v.state-is) (not_made at h (subst (λ x. get_or c.restore.new.state cells_place 0 ≤ x) c.sum_of.ensures.0 v.if-sum_of-state.false))
     ]
 
 split_put_row_requires : (t : ℕ) → split_lts.Need-put_row-requires (split_claims t) (split_at t) split.Post

@@ -22,13 +22,13 @@ returns c = let a = c.args in
     let e = marked t b a.m k in
     let long : length t ≡ entries + 3 =
     elim c.match-kind.branch [
-      in-Tree w ↦ let l : length w.blocks-table.result ≡ entries + 3 = search rules in ap length w.table-is ∙ l
+      | in-Tree w ↦ let l : length w.blocks-table.result ≡ entries + 3 = search rules in ap length w.table-is ∙ l
       | in-Sharing w ↦ let l : length w.tops-table.result ≡ entries + 3 = search rules in ap length w.table-is ∙ l
     ] in
     let at : board_in e ≡ board_number a.kind a.n = marked_board t b a.m k (rw long (omega arith)) ∙ c.board_of.ensures in
     let for_kind : LentFor a.kind t =
     elim c.match-kind.branch [
-      in-Tree w ↦ subst (λ k. LentFor k t) (sym w.in-Tree.is) (subst Blocks (sym w.table-is) w.blocks-table.ensures)
+      | in-Tree w ↦ subst (λ k. LentFor k t) (sym w.in-Tree.is) (subst Blocks (sym w.table-is) w.blocks-table.ensures)
       | in-Sharing w ↦ subst (λ k. LentFor k t) (sym w.in-Sharing.is) (subst Tops (sym w.table-is) w.tops-table.ensures)
     ] in
     let patterns = c.patterns_of.ensures.2 (le_trans q.n_most (most_inputs_lem a.kind)) in (

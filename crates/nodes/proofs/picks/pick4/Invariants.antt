@@ -1,7 +1,6 @@
 -- `pick4` meets its contract: the least without the inverse of input 4 and with it.
 use Prim.Native.Nat.{ℕ, zero, suc, ◌+◌, ◌-◌, ◌≤◌, min}
 use mathlib.Core.Path.{◌≡◌}
-use Rattle.table.specs.Inner.Ranks.{rank}
 use Rattle.nodes.specs.Inner.Ways.{one_node, no_inverted, way_of}
 use Rattle.nodes.proofs.picks.pick4.Given as goal
 

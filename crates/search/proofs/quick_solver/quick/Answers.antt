@@ -1,5 +1,4 @@
 use Rattle.parts.proofs.Keeping.{count_few}
-use Prim.Native.Nat.{◌-◌}
 use mathlib.Core.Path.{refl, ap, sym, ◌∙◌}
 use native.Mathlib.Omega.{arith}
 use lib.ListN.{length}

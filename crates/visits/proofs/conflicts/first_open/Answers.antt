@@ -1,10 +1,9 @@
-use Prim.Native.Nat.{◌/◌, ◌-◌, ◌^◌, ◌<◌}
+use Prim.Native.Nat.{◌/◌, ◌^◌, ◌<◌}
 use mathlib.Core.Path.{sym, ap, ◌∙◌}
 use native.Mathlib.Omega.{arith}
 use borrow.Author.Count.{below_more}
 use Rattle.base.proofs.Tests.{told_yes, told_no}
 use Rattle.table.specs.Inner.Pairs.{narrow_patterns}
-use Rattle.relation.specs.Tests.{is_open}
 use Rattle.parts.specs.Inner.Boards.{lent_kind, lent_inputs}
 use Rattle.parts.proofs.Keeping.{kept_tables}
 use Rattle.parts.proofs.Lending.{wires_small, wires_told}
@@ -71,9 +70,9 @@ patterns-preserved c =
       omega arith,
       below_more _ _ l.invariant.1
           (elim c.if-not-contains.branch [
-            then-not-contains+else-loop-j-test w ↦
-              absurd (some_open kind q.1 q.2 are l.p few (told_no here w.if-not-contains.true)
-              (λ j i. w.loop-j.invariant.1 j (omega (arith, w.loop-j-test.false, w.loop-j.invariant.0, wires_told a.e.now))))
+            | then-not-contains+else-loop-j-test w ↦
+                absurd (some_open kind q.1 q.2 are l.p few (told_no here w.if-not-contains.true)
+                (λ j i. w.loop-j.invariant.1 j (omega (arith, w.loop-j-test.false, w.loop-j.invariant.0, wires_told a.e.now))))
             | else-not-contains w ↦ told_yes here w.if-not-contains.false
           ]),
     )
@@ -87,15 +86,15 @@ returns-then-p-count c =
     let l = c.patterns in
     let few : l.p < 2 ^ lent_inputs a.e.now = omega (arith, c.if-p-count.true, count_told c.args.e.now c.requires.0) in
     elim c.patterns-test.branch [
-      else-patterns-test w ↦ absurd (omega (arith, w.patterns-test.false, c.if-p-count.true))
+      | else-patterns-test w ↦ absurd (omega (arith, w.patterns-test.false, c.if-p-count.true))
       | then-patterns-test+then-not-contains+then-loop-j-test+then-is_open w ↦
-        let side = w.word_of.ensures ∙ q.3 (l.p / narrow_patterns) (omega (arith, count_most c.requires.0)) in
-        let here = allowed_test kind q.1 q.2 are l.p side w.value_in.ensures.0 w.contains.ensures in
-        let j = w.loop-j.j in
-        ap (Pair l.p) w.j-is
-        ∙ sym
-        (pair_open kind q.1 q.2 are l.p j few (omega (arith, w.loop-j-test.true, wires_told a.e.now)) l.invariant.1 (told_no here w.if-not-contains.true) w.loop-j.invariant.1
-        (told_yes (w.is_open.ensures ∙ free_test kind q.1 q.2 are l.p j) w.if-is_open.true))
+          let side = w.word_of.ensures ∙ q.3 (l.p / narrow_patterns) (omega (arith, count_most c.requires.0)) in
+          let here = allowed_test kind q.1 q.2 are l.p side w.value_in.ensures.0 w.contains.ensures in
+          let j = w.loop-j.j in
+          ap (Pair l.p) w.j-is
+          ∙ sym
+          (pair_open kind q.1 q.2 are l.p j few (omega (arith, w.loop-j-test.true, wires_told a.e.now)) l.invariant.1 (told_no here w.if-not-contains.true) w.loop-j.invariant.1
+          (told_yes (w.is_open.ensures ∙ free_test kind q.1 q.2 are l.p j) w.if-is_open.true))
     ]
 
 pub returns-else-p-count : goal.returns-else-p-count
@@ -105,6 +104,6 @@ returns-else-p-count c =
     let kind = lent_kind a.e.now in
     let are = kept_tables kind q.1 q.2 in
     elim c.patterns-test.branch [
-      else-patterns-test w ↦ sym (none_open kind q.1 q.2 are (λ p i. c.patterns.invariant.1 p (omega (arith, w.patterns-test.false, count_told c.args.e.now c.requires.0))))
+      | else-patterns-test w ↦ sym (none_open kind q.1 q.2 are (λ p i. c.patterns.invariant.1 p (omega (arith, w.patterns-test.false, count_told c.args.e.now c.requires.0))))
       | then-patterns-test+then-not-contains+then-loop-j-test+then-is_open w ↦ absurd (omega (arith, w.patterns-test.true, c.if-p-count.false))
     ]

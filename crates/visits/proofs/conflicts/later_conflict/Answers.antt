@@ -1,4 +1,3 @@
-use Prim.Native.Nat.{◌-◌}
 use native.Mathlib.Omega.{arith}
 use Rattle.visits.proofs.Clearing.{later_more, later_found, later_none}
 use Rattle.visits.proofs.conflicts.later_conflict.Goals as goal
