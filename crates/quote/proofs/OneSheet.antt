@@ -1,5 +1,8 @@
 -- The promise of a quote of one sheet is what every quote promises, with the rivals of the sheet as the stages wanted, and what its number tells besides.
-use Rattle.std.specs.Prelude.{ℕ, ◌≡◌, sym, ap, ap₂, ◌∙◌, ◌↔◌, List}
+use Prim.Native.Nat.{ℕ}
+use mathlib.Core.Path.{◌≡◌, sym, ap, ap₂, ◌∙◌}
+use mathlib.Core.Logic.{◌↔◌}
+use mathlib.Core.List.{List}
 use Rattle.base.specs.Refusals.{empty, too_wide}
 use Rattle.table.specs.Drawing.{Drawing, got}
 use Rattle.sheet.specs.declared.Command.{Command}

@@ -1,5 +1,5 @@
 -- Laws of gathering the entries of a diagram: what is read so far is told by the arrays, and an entry that is refused refuses the list.
-use Prim.Native.Nat.{ℕ, suc, ◌+◌, ◌*◌, ◌<◌, ◌≤◌}
+use Prim.Native.Nat.{ℕ, zero, suc, ◌+◌, ◌*◌, ◌<◌, ◌≤◌}
 use mathlib.Core.Path.{◌≡◌, refl, ap, subst, ◌∙◌}
 use mathlib.Core.Logic.{⊎_elim}
 use mathlib.Core.List.{List, [], ◌∷◌, ◌++◌}
@@ -36,13 +36,14 @@ start s n from =
       entries = [];
       is = ap (λ (p : ℕ). taken [] p (drop p s)) e;
       tables_tell = numbering.tables_start n;
-      inputs_tell = numbering.inputs-start n;
+      inputs_tell = numbering.inputs_start n;
       counted = refl;
     }
 
 -- a refusal among the first entries is the list's
 stopped : (n from : ℕ) (bytes : List ℕ) (f : Refusal) (k c : ℕ) → entries_at (suc k) n from bytes ≡ fault f → k < c → entries_at c n from bytes ≡ fault f
 unfolding entries_at and_then
+stopped n from bytes f k zero e l = absurd (omega arith)
 stopped n from bytes f k (suc c) e l = ⊎_elim (λ same. rw (← same) e) (λ later. rw (stopped n from bytes f k c e later)) (below_suc l)
 
 module _ {s : List ℕ} {n from k : ℕ} {tables inputs : List ℕ} {cells : ℕ} (g : Gathered s n from k tables inputs cells) where
@@ -105,6 +106,6 @@ module _ {s : List ℕ} {n from k : ℕ} {tables inputs : List ℕ} {cells : ℕ
             entries = e ∷ g.entries;
             is = rw (add-one k, g.is, entry_is, ← add-one k, ← on);
             tables_tell = rw (← own_number) (numbering.tables_more n g.entries few told.2.1 tables g.tables_tell e entry_fits.2 (rw lt room));
-            inputs_tell = rw (← own_number) (numbering.inputs-more n g.entries inputs g.inputs_tell (rw li room) e);
+            inputs_tell = rw (← own_number) (numbering.inputs_more n g.entries inputs g.inputs_tell (rw li room) e);
             counted = ap (λ (x : ℕ). entry_price e + x) g.counted;
           }

@@ -1,0 +1,24 @@
+-- `put_wire` meets its contract: each board has its own form.
+use Rattle.stage_writer.proofs.Narrow.{shared_narrow}
+use Rattle.stage_writer.proofs.wires.put_wire.Goals as goal
+
+pub put_tree_wire-requires : goal.put_tree_wire-requires
+put_tree_wire-requires c =
+    let p = c.requires in
+    let is = c.in-Tree.is in
+    (rw is at p.0, rw is at p.2)
+
+pub overflow_cast-t : goal.overflow_cast-t
+overflow_cast-t c =
+    record { fits = shared_narrow c.args.n c.args.t (rw c.in-Sharing.is at c.requires.0) c.requires.1 }
+
+pub put_diagram_wire-requires : goal.put_diagram_wire-requires
+put_diagram_wire-requires c =
+    let p = c.requires in
+    ((rw c.in-Sharing.is at c.requires.0), p.1, rw c.in-Sharing.is at p.2)
+
+pub returns-in-Tree : goal.returns-in-Tree
+returns-in-Tree c = rw c.in-Tree.is c.put_tree_wire.ensures
+
+pub returns-in-Sharing : goal.returns-in-Sharing
+returns-in-Sharing c = rw c.in-Sharing.is c.put_diagram_wire.ensures
