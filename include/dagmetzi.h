@@ -40,8 +40,7 @@ enum {
     DAGMETZI_DIFFERS = 1,      /* audit: on some pattern it does not */
     DAGMETZI_WRITTEN = 0,      /* clean: the copy was written */
     DAGMETZI_REFUSED = 2,      /* the sheet, the relation or the buffer is refused */
-    DAGMETZI_STAGE_REFUSED = 3, /* audit: the stage is refused */
-    DAGMETZI_SECOND_REFUSED = 3 /* joint quote: refused, and not for what the first sheet says alone, which is DAGMETZI_REFUSED */
+    DAGMETZI_STAGE_REFUSED = 3 /* audit: the stage is refused */
 };
 
 /* The refusals. Where no place is named below, it is where the command at fault begins; in a stage that shares selectors
@@ -59,7 +58,7 @@ enum {
     DAGMETZI_EMPTY = 10,         /* no value is left for a pattern; place: the lowest */
     DAGMETZI_NOT_ASCENDING = 11, /* a selector input that is not above its parent's; of a list: an entry names one whose input is not above its own */
     DAGMETZI_SHORT_BUFFER = 12,  /* the buffer is shorter than the stage or the copy; place: the length needed */
-    DAGMETZI_SIZES_DIFFER = 13,  /* audit: the stage has another n or m than the sheet; joint quote: so has the second sheet; place 0 */
+    DAGMETZI_SIZES_DIFFER = 13,  /* audit: the stage has another n or m than the sheet; place 0 */
     DAGMETZI_TOO_WIDE = 15       /* sharing quote: the sheet has more than DAGMETZI_SHARED_INPUTS inputs; place 0 */
 };
 
@@ -112,12 +111,6 @@ uint32_t dagmetzi_audit_shared(const uint8_t *sheet, size_t sheet_length, const 
 
 uint32_t dagmetzi_search_shared(uint8_t n, uint8_t m, const uint16_t sets[DAGMETZI_PATTERNS], uint32_t budget,
                                 uint64_t tables[DAGMETZI_WIRES], uint64_t reply[DAGMETZI_NUMBERS]);
-
-/* The quote of one stage of trees for two units: it keeps to both sheets, which may be the same bytes. Where the first cannot be
- * read (1 to 9) the outcome is DAGMETZI_REFUSED. It is DAGMETZI_SECOND_REFUSED where the second cannot be read, then where
- * their sizes differ (13), then where no value is left on a pattern (10), then where the buffer is too short (12). */
-uint32_t dagmetzi_quote_joined(const uint8_t *first, size_t first_length, const uint8_t *second, size_t second_length,
-                               uint32_t budget, uint8_t *buffer, size_t buffer_length, uint64_t reply[DAGMETZI_NUMBERS]);
 
 /* The clean copy of a unit sheet, written to the front of `buffer`; what is behind it stays. It says what the sheet says,
  * in one order: two sheets that say the same have the same copy, and a copy is its own copy. Refused are sheets that

@@ -4,7 +4,7 @@ use mathlib.Core.Path.{sym}
 use mathlib.Core.List.{List}
 use lib.ListN.{length}
 use lib.Seq.{length-take-le}
-use Rattle.io.specs.Counts.{IsPrefixLen}
+use Rattle.dagmetzi.specs.Counts.{IsPrefixLen}
 
 pub counts : (n : ℕ) (s : List ℕ) → n ≤ length s → IsPrefixLen n s
 counts n s h = (h, sym (length-take-le n s h))

@@ -12,13 +12,13 @@ use base::Written;
 use clean::LONGEST_COPY;
 use diagram::LONGEST_WRITTEN;
 use joined::{JointMark, JointQuoted};
+use line_parts::{put_refusal_line, put_shown_line};
 use lines::{put_judged, put_result};
-use parts::{put_refusal_line, put_shown_line};
 use quote::{Audited, Quoted};
 use search::Mark;
 use text::LONGEST_DECIMAL;
 
-pub mod parts; // what lines are made of
+pub mod line_parts; // what lines are made of
 mod lines; // the lines
 
 // The bytes of "cells ", " floor " and " visits ", and of " stopped" with the end of its line, the longest word.

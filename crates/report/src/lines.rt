@@ -6,7 +6,7 @@ ghost use Rattle.base.specs.Inner.Put.{PutWithin};
 ghost use Rattle.report.specs.Lines.{longest_report, longest_word, result_lines, judged_line};
 ghost use Rattle.report.specs.Inner.Lengths.{longest_judged};
 
-use crate::parts::{put_counts, put_shown_line};
+use crate::line_parts::{put_counts, put_shown_line};
 use diagram::LONGEST_WRITTEN;
 use quote::Quoted;
 use text::{put_byte, put_named, put_text};

@@ -14,7 +14,7 @@ use joined::{JointMark, JointQuoted};
 use nodes::BoardKind;
 use quote::{Audited, Quoted};
 use relation::Relation;
-use report::parts::{lower_of, put_counts, put_refusal, put_refusal_line, put_shown_pairs};
+use report::line_parts::{lower_of, put_counts, put_refusal, put_refusal_line, put_shown_pairs};
 use samples::lines::{FILL, put_kept, put_spaced, put_tables};
 use samples::records::{call_of, length_at, part, sets_at, tables_at, u32_at};
 use search::Mark;

@@ -5,12 +5,10 @@ use Rattle.report.proofs.report_copy.Goals as goal
 
 pub returns-in-Length : goal.returns-in-Length
 returns-in-Length c =
-    let w = c in
-    let e = copy_written w.args.copy.now w.in-Length.is in
+    let e = copy_written c.args.copy.now c.in-Length.is in
     reported c.put_shown_line.ensures (omega arith) e
 
 pub returns-in-Refused : goal.returns-in-Refused
 returns-in-Refused c =
-    let w = c in
-    let e = copy_refused w.args.copy.now w.in-Refused.is in
+    let e = copy_refused c.args.copy.now c.in-Refused.is in
     reported c.put_refusal_line.ensures (omega arith) e

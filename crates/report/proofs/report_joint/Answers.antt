@@ -10,16 +10,14 @@ use Rattle.report.proofs.report_joint.Goals as goal
 
 pub returns-in-Best : goal.returns-in-Best
 returns-in-Best c =
-    let t = c in
-    let a = t.args in
-    let e = joint_lines_lem a.q a.stage.now c.unnamed.ensures (ap (λ m. is_refused (joint_case m)) t.in-Best.is) in
+    let a = c.args in
+    let e = joint_lines_lem a.q a.stage.now c.unnamed.ensures (ap (λ m. is_refused (joint_case m)) c.in-Best.is) in
     printed _ _ _ c.report.ensures e
 
 pub returns-in-Stopped : goal.returns-in-Stopped
 returns-in-Stopped c =
-    let t = c in
-    let a = t.args in
-    let e = joint_lines_lem a.q a.stage.now c.unnamed-in-Stopped.ensures (ap (λ m. is_refused (joint_case m)) t.in-Stopped.is) in
+    let a = c.args in
+    let e = joint_lines_lem a.q a.stage.now c.unnamed-in-Stopped.ensures (ap (λ m. is_refused (joint_case m)) c.in-Stopped.is) in
     printed _ _ _ c.report-in-Stopped.ensures e
 
 pub returns-in-FirstRefused : goal.returns-in-FirstRefused

@@ -7,6 +7,5 @@ use Rattle.report.proofs.lines.put_judged.Goals as goal
 pub returns : goal.returns
 unfolding judged_line
 returns c =
-    let start = c in
-    let word = at_most longest_word start.put_text-start.ensures start.requires in
+    let word = at_most longest_word c.put_text-start.ensures c.requires in
     puts (puts word c.put_named-end.ensures) (at_most 1 c.put_byte.ensures (omega arith))

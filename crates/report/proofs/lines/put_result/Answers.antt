@@ -6,7 +6,6 @@ use Rattle.report.proofs.lines.put_result.Goals as goal
 pub returns : goal.returns
 unfolding result_lines
 returns c =
-    let counts = c in
-    let short = counts.requires in
+    let short = c.requires in
     let word = at_most longest_word c.put_text-line.ensures short in
-    puts (puts counts.put_counts-counts.ensures word) c.put_shown_line.ensures
+    puts (puts c.put_counts-counts.ensures word) c.put_shown_line.ensures

@@ -2,11 +2,10 @@
 use native.Mathlib.Omega.{arith}
 use Rattle.report.specs.Lines.{longest_word, refusal_line}
 use Rattle.base.proofs.Stores.{puts, at_most}
-use Rattle.report.proofs.parts.put_refusal_line.Goals as goal
+use Rattle.report.proofs.line_parts.put_refusal_line.Goals as goal
 
 pub returns : goal.returns
 unfolding refusal_line
 returns c =
-    let start = c in
-    let word = at_most longest_word start.put_text-start.ensures start.requires.0 in
+    let word = at_most longest_word c.put_text-start.ensures c.requires.0 in
     puts (puts word c.put_refusal-end.ensures) (at_most 1 c.put_byte.ensures (omega arith))

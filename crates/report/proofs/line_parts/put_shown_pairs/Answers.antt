@@ -1,7 +1,7 @@
 -- `put_shown_pairs` meets its contract: as many bytes as are shown.
 use native.Mathlib.Omega.{arith}
 use Rattle.report.specs.Lines.{shown_pairs}
-use Rattle.report.proofs.parts.put_shown_pairs.Goals as goal
+use Rattle.report.proofs.line_parts.put_shown_pairs.Goals as goal
 
 pub returns : goal.returns
 unfolding shown_pairs

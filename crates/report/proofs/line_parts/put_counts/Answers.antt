@@ -1,7 +1,7 @@
 -- `put_counts` meets its contract: three numbers, each after its name.
 use Rattle.report.specs.Lines.{counts_of}
 use Rattle.base.proofs.Stores.{puts}
-use Rattle.report.proofs.parts.put_counts.Goals as goal
+use Rattle.report.proofs.line_parts.put_counts.Goals as goal
 
 pub returns : goal.returns
 unfolding counts_of

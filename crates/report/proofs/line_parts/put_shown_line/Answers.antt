@@ -2,7 +2,7 @@
 use native.Mathlib.Omega.{arith}
 use Rattle.report.specs.Lines.{shown_line}
 use Rattle.base.proofs.Stores.{puts, at_most}
-use Rattle.report.proofs.parts.put_shown_line.Goals as goal
+use Rattle.report.proofs.line_parts.put_shown_line.Goals as goal
 
 pub returns : goal.returns
 unfolding shown_line
