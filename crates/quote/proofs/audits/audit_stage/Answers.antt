@@ -1,11 +1,7 @@
-use mathlib.Core.Bool.{Bool, true, false, cond}
-use Rattle.quote.specs.Cases.{audited_case, fits_outcome, differs_outcome}
-use Rattle.base.specs.Cases.{accepting}
-use Rattle.stage.specs.Read.{read_sheet}
-use Rattle.diagram.specs.Forms.{form_of, drawing_of}
-use Rattle.quote.specs.Audit.{audited_stage}
+use mathlib.Core.Bool.{true, false}
+use Rattle.quote.specs.Cases.{audited_case}
 use Rattle.quote.specs.declared.Audited.TheVariants.{StageRefused}
-use mathlib.Core.Path.{◌≡◌, sym, ap, ◌∙◌}
+use mathlib.Core.Path.{sym, ap, ◌∙◌}
 use Rattle.quote.proofs.Auditing.{stage_refused, inputs_differ, wires_differ, few_inputs, tested}
 use Rattle.quote.proofs.audits.audit_stage.Goals as goal
 

@@ -9,7 +9,6 @@ use borrow.Author.Tests.{eq-eqb, ne_eqb}
 use Rattle.samples.specs.Inner.Lines.{fill, all_filled}
 use Rattle.samples.proofs.lines.is_filled.Goals as goal
 
--- `is_filled` meets its contract. The invariant: what is left is all filled just where the whole is. The measure is what is left of the length.
 -- a byte that is not as it was filled, and one that is
 stops : (b : List ℕ) (i : ℕ) → i < length b → (get_or b i 0 ≡ fill → ⊥) → all_filled (drop i b) ≡ false
 unfolding all_filled

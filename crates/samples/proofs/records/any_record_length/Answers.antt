@@ -1,5 +1,5 @@
--- `any_record_length` meets its contract: the record of a joint quote is its head and two parts, and any other is as `record_length` says.
-use native.Mathlib.Omega.{arith}
+-- `any_record_length` meets its contract: the record of a joint quote has two parts, and any other letter is that of a record of a quote.
+use Rattle.std.proofs.Common.{◌≡◌, arith}
 use borrow.Author.Tests.{ne_eqb}
 use Rattle.samples.specs.Inner.Records.{any_record_length}
 use Rattle.samples.proofs.records.any_record_length.Goals as goal
@@ -16,8 +16,7 @@ returns-in-74 c =
 
 pub returns-in_default : goal.returns-in_default
 unfolding any_record_length
-returns-in_default c = (
-  simp (← c.byte_at-letter.ensures, ne_eqb c.byte_at-letter.result 74 (omega arith)) c.record_length.ensures.0,
-  c.record_length.ensures.1,
-  omega (arith, c.record_length.ensures.2),
-)
+returns-in_default c =
+    let other : c.byte_at-letter.result ≡ 0x4A → ⊥ = λ e. omega arith in
+    let r = c.record_length.ensures in
+    (simp (← c.byte_at-letter.ensures, ne_eqb c.byte_at-letter.result 0x4A other) r.0, r.1, omega (arith, r.2))

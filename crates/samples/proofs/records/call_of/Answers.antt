@@ -31,5 +31,6 @@ pub returns-in-114 : goal.returns-in-114
 unfolding call_of
 returns-in-114 c = sym (ap call_of c.in-114.is)
 
+-- what no arm before took is none of their letters
 pub returns-in_default : goal.returns-in_default
-returns-in_default c = sym (stays _ (omega arith) (omega arith) (omega arith) (omega arith) (omega arith))
+returns-in_default c = sym (stays _ (λ e. omega arith) (λ e. omega arith) (λ e. omega arith) (λ e. omega arith) (λ e. omega arith))

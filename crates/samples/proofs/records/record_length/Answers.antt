@@ -42,18 +42,26 @@ pub returns-in-67 : goal.returns-in-67
 unfolding record_length
 returns-in-67 c = told _ (omega arith) (omega arith) c.length_at-in-67.ensures (simp (← (c.call_of-call.ensures ∙ ap call_of c.byte_at.ensures), c.in-67.is) (omega arith))
 
+-- what no arm before took is none of their letters
 pub returns-in_default : goal.returns-in_default
 unfolding record_length
-returns-in_default c = (
-  simp (
-    ← (c.call_of-call.ensures ∙ ap call_of c.byte_at.ensures),
-    ne_eqb c.call_of-call.result 67 (omega arith),
-    ne_eqb c.call_of-call.result 82 (omega arith),
-    ne_eqb c.call_of-call.result 87 (omega arith),
-    ne_eqb c.call_of-call.result 83 (omega arith),
-    ne_eqb c.call_of-call.result 65 (omega arith),
-    ne_eqb c.call_of-call.result 81 (omega arith),
-  ),
-  omega arith,
-  omega arith,
-)
+returns-in_default c =
+    let call = c.call_of-call.result in
+    let q : call ≡ 0x51 → ⊥ = λ e. omega arith in
+    let a : call ≡ 0x41 → ⊥ = λ e. omega arith in
+    let s : call ≡ 0x53 → ⊥ = λ e. omega arith in
+    let w : call ≡ 0x57 → ⊥ = λ e. omega arith in
+    let r : call ≡ 0x52 → ⊥ = λ e. omega arith in
+    let k : call ≡ 0x43 → ⊥ = λ e. omega arith in (
+      simp (
+        ← (c.call_of-call.ensures ∙ ap call_of c.byte_at.ensures),
+        ne_eqb call 0x51 q,
+        ne_eqb call 0x41 a,
+        ne_eqb call 0x53 s,
+        ne_eqb call 0x57 w,
+        ne_eqb call 0x52 r,
+        ne_eqb call 0x43 k,
+      ),
+      omega arith,
+      omega arith,
+    )
