@@ -7,14 +7,10 @@ use Rattle.text.proofs.put_hex_pair.Goals as goal
 pub returns : goal.returns
 unfolding hex_pair
 returns c =
-    let q = c in
-    let h2 = c in
-    let p = c in
-    let h1 = c in
     let a = c.args in
-    let e1 = p.put.ensures in
-    let e2 = q.put-2.ensures in
-    let d1 = h1.hex_digit.ensures in
-    let d2 = h2.hex_digit-2.ensures in
+    let e1 = c.put.ensures in
+    let e2 = c.put-2.ensures in
+    let d1 = c.hex_digit.ensures in
+    let d2 = c.hex_digit-2.ensures in
     let s : suc a.at ≡ a.at + 1 = omega arith in
     record { stored = simp (s, ← d1, ← d2, ← e1) e2; past = omega arith }

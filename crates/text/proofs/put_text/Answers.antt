@@ -9,14 +9,12 @@ loop-i-init c = (omega arith, refl, omega arith, put_none)
 
 pub loop-i-preserved : goal.loop-i-preserved
 loop-i-preserved c =
-    let p = c in
-    let i = c in
-    let l = i.loop-i in
+    let l = c.loop-i in
     let a = c.args in (
       omega arith,
-      p.put_byte-next.auto.out ∙ l.invariant.1,
-      omega (arith, l.invariant, p.put_byte-next.ensures.past),
-      put_next a.text.now l.i l.invariant.3 p.put_byte-next.ensures i.loop-i-test.true,
+      c.put_byte-next.auto.out ∙ l.invariant.1,
+      omega (arith, l.invariant, c.put_byte-next.ensures.past),
+      put_next a.text.now l.i l.invariant.3 c.put_byte-next.ensures c.loop-i-test.true,
     )
 
 pub shape_of-out : goal.shape_of-out

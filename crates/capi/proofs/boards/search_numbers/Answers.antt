@@ -11,7 +11,6 @@ use Rattle.search.specs.Cases.{mark_case, search_reply}
 use Rattle.capi.specs.declared.told.Told.{Told}
 use Rattle.capi.specs.Inner.Told.{told}
 use Rattle.capi.specs.Numbers.{search_numbers, tables_after}
-use Rattle.capi.proofs.boards.search_numbers.Goals.{then-told-lt-REFUSED, else-told-lt-REFUSED}
 use Rattle.capi.proofs.boards.search_numbers.Goals as goal
 
 -- the tables lent, by the outcome
@@ -29,17 +28,19 @@ module _ (a : Answer) (t : Told) (lent tables : List ℕ) {x : SearchReply} (et 
       let l = le-leb refused_outcome (mark_case a.mark).outcome (omega (arith, outcome_is)) in
       d ∙ rw l (refl {a = lent}) ∙ ap (λ (y : SearchReply). tables_after y lent) e
 
-pub returns : goal.returns
-returns c =
+pub returns-clause-refusal : goal.returns-clause-refusal
+returns-clause-refusal c =
+    ap (λ (x : Told). x.number) c.mark_told-told.ensures ∙ ap (λ (x : SearchReply). x.mark.number) c.search_on-answer.ensures
+
+pub returns-clause-numbers : goal.returns-clause-numbers
+returns-clause-numbers c =
+    let r = c.search_on-answer.result in
+    ap (λ (x : Told). x.outcome ∷ r.cells ∷ r.floor ∷ r.visits ∷ 0 ∷ x.place ∷ []) c.mark_told-told.ensures ∙ ap search_numbers c.search_on-answer.ensures
+
+pub returns-clause-tables : goal.returns-clause-tables
+returns-clause-tables c =
     let s = c.search_on-answer in
-    let t = c.mark_told-told.ensures in
-    let r = s.result in
-    let e = s.ensures in
-    record {
-      refusal = ap (λ (x : Told). x.number) t ∙ ap (λ (x : SearchReply). x.mark.number) e;
-      numbers = ap (λ (x : Told). x.outcome ∷ r.cells ∷ r.floor ∷ r.visits ∷ 0 ∷ x.place ∷ []) t ∙ ap search_numbers e;
-      tables = elim c.if-told-lt-REFUSED.branch [
-        then-told-lt-REFUSED w ↦ written r _ _ _ t e w.if-told-lt-REFUSED.true w.tables-is
-        | else-told-lt-REFUSED w ↦ left r _ _ _ t e w.if-told-lt-REFUSED.false w.tables-is
-      ];
-    }
+    let t = c.mark_told-told in
+    let w = written s.result t.result c.args.tables.now s.result.tables t.ensures s.ensures in
+    let l = left s.result t.result c.args.tables.now c.args.tables.now t.ensures s.ensures in
+    grind (arith, w, l)
