@@ -31,7 +31,7 @@ use Rattle.quote.specs.Cases.{QuoteReply}
 use Rattle.quote.specs.Quote.{no_quote, searched}
 use Rattle.quote.specs.AnyQuote.{inputs_in, wires_in}
 use Rattle.quote.proofs.OneSheet.{read_is}
-use Rattle.quote.proofs.Searched.{refused_promise, Tells, searched_promise}
+use Rattle.quote.proofs.AnySearched.{any_refused_promise, Tells, any_searched_promise}
 use Rattle.joined.specs.Joint.{are_sized, joint_quoted, joint_buffer}
 use Rattle.joined.specs.Promised.{JointRival, NoJointRival, JointPromised}
 use Rattle.joined.proofs.AsSecond.{second_promise}
@@ -52,7 +52,7 @@ module _ (first second : List ℕ) (budget : ℕ) (buffer : List ℕ) where
   None = NoJointRival tree_drawing first second
 
   refusal : (o : ℕ) (f : Refusal) → refused_outcome ≤ o → (f.number ≡ empty) ↔ None → Kept (no_quote (refusing o f)) buffer
-  refusal = refused_promise tree_drawing (inputs_in first) (wires_in first) (JointRival tree_drawing first second) None budget buffer
+  refusal = any_refused_promise tree_drawing (inputs_in first) (wires_in first) (JointRival tree_drawing first second) None budget buffer
 
   -- a refusal that is not 10, where something else is wrong
   other : (f : Refusal) → (f.number ≡ empty → ⊥) → (None → ⊥) → (f.number ≡ empty) ↔ None
@@ -134,7 +134,7 @@ module _ (first second : List ℕ) (budget : ℕ) (buffer : List ℕ) where
         whole l =
             rw (joined_whole first second cs e ds d (test_yes (are_sized cs ds) t) l)
             (second_promise tree_drawing (inputs_in first) (wires_in first) (JointRival tree_drawing first second) None budget (searched Tree (joined_in cs ds) budget (length buffer)) _
-            (searched_promise Tree (inputs_in first) (wires_in first) (JointRival tree_drawing first second) None (joined_in cs ds) (tells l) (λ h. h.none) budget buffer))
+            (any_searched_promise Tree (inputs_in first) (wires_in first) (JointRival tree_drawing first second) None (joined_in cs ds) (tells l) (λ h. h.none) budget buffer))
 
         agree : PromiseKept
         agree =

@@ -1,20 +1,18 @@
 -- Demand 3, whole: the promise holds of every quote.
 use Prim.Native.Nat.{ℕ, ◌^◌, ◌<◌, ◌≤◌}
-use mathlib.Core.Path.{◌≡◌, refl, sym, ap}
+use mathlib.Core.Path.{◌≡◌, refl}
 use mathlib.Core.Logic.{⊎_elim}
 use mathlib.Core.List.{List}
-use native.Mathlib.Omega.{arith}
 use lib.Dec.{ltb, ltb→lt, nltb→le}
 use lib.ListN.{length}
 use Rattle.base.specs.declared.Refusal.{Refusal}
-use Rattle.base.specs.Cases.{refused_outcome}
 use Rattle.base.specs.Refusals.{refusal_at, empty, too_wide}
 use Rattle.base.proofs.Tests.{decide}
 use Rattle.base.proofs.Tabulate.{tabulate_length}
 use Rattle.nodes.specs.declared.BoardKind.{BoardKind}
 use Rattle.nodes.specs.Counts.{count_of, most_inputs}
 use Rattle.sheet.specs.declared.Command.{Command}
-use Rattle.sheet.specs.Commands.{inputs_of, wires_of}
+use Rattle.sheet.specs.Commands.{inputs_of}
 use Rattle.sheet.specs.Limits.{max_inputs, max_patterns}
 use Rattle.sheet.specs.Judged.{Reading, holds, refused}
 use Rattle.reader.specs.Reading.{reading_of}
@@ -24,36 +22,20 @@ use Rattle.diagram.proofs.Forms.{form_fair}
 use Rattle.unit.specs.Formed.{relation_in, turned_away, formed_of}
 use Rattle.unit.proofs.Forming.{formed_refused, formed_empty, formed_whole}
 use Rattle.unit.proofs.Told.{empty_in, passes_whole}
-use Rattle.unit.specs.Rival.{Rival}
 use Rattle.unit.proofs.Rivals.{rival_told}
 use Rattle.quote.specs.Quote.{searched, quoted_of, buffer_searched, buffer_quoted}
-use Rattle.quote.specs.Cases.{QuoteReply}
-use Rattle.quote.specs.Inner.Refused.{refused_quote}
-use Rattle.quote.specs.AnyQuote.{inputs_in, wires_in, PromisedOf}
-use Rattle.quote.specs.Promised.{NoRival, Promised}
+use Rattle.quote.specs.Promised.{Promised}
 use Rattle.quote.proofs.Told.{is_wide, NumberTold, unread_told, empty_told, wide_told, other_told}
-use Rattle.quote.proofs.OneSheet.{read_is, packed}
-use Rattle.quote.proofs.Searched.{refused_promise, Tells, searched_promise, searched_number}
+use Rattle.quote.proofs.Searched.{refused_promise, searched_promise}
 
 module _ (kind : BoardKind) (sheet : List ℕ) (budget : ℕ) (buffer : List ℕ) where
   abbrev PromiseKept : Type 0
   PromiseKept = Promised (drawing_of kind) (most_inputs kind) sheet budget (quoted_of kind sheet budget (length buffer)) (buffer_quoted kind sheet budget buffer)
 
-  -- what every quote promises, with what the number tells
-  with_number : {r : QuoteReply} {b : List ℕ} → PromisedOf (drawing_of kind) (inputs_in sheet) (wires_in sheet) (Rival (drawing_of kind) sheet) (NoRival (drawing_of kind) sheet) budget r b
-      → NumberTold kind sheet r.mark.number → Promised (drawing_of kind) (most_inputs kind) sheet budget r b
-  with_number p told = packed (drawing_of kind) sheet (most_inputs kind) budget _ _ p told.by_trees told.wide
-
-  refusal : (f : Refusal) → NumberTold kind sheet f.number → Promised (drawing_of kind) (most_inputs kind) sheet budget (refused_quote f) buffer
-  refusal f told =
-      with_number
-      (refused_promise (drawing_of kind) (inputs_in sheet) (wires_in sheet) (Rival (drawing_of kind) sheet) (NoRival (drawing_of kind) sheet) budget buffer refused_outcome f (omega arith) told.ten)
-      told
-
   -- a sheet that is turned away
   turned : (f : Refusal) → formed_of sheet ≡ turned_away f → NumberTold kind sheet f.number → PromiseKept
   unfolding quoted_of buffer_quoted
-  turned f e told = rw e (refusal f told)
+  turned f e told = rw e (refused_promise kind sheet budget buffer f told)
 
   module _ (cs : List Command) (e : reading_of sheet ≡ holds cs) where
     small : inputs_of cs ≤ max_inputs
@@ -65,28 +47,15 @@ module _ (kind : BoardKind) (sheet : List ℕ) (budget : ℕ) (buffer : List ℕ
       wide : most_inputs kind < inputs_of cs → PromiseKept
       unfolding quoted_of buffer_quoted searched buffer_searched relation_in
       wide many =
-          rw (formed_whole sheet cs e l, is_wide kind (relation_in cs) many) (refusal (refusal_at too_wide 0) (wide_told kind sheet cs e l many))
+          rw (formed_whole sheet cs e l, is_wide kind (relation_in cs) many) (refused_promise kind sheet budget buffer (refusal_at too_wide 0) (wide_told kind sheet cs e l many))
 
       -- no more: what the search promises
-      tells : inputs_of cs ≤ most_inputs kind → Tells kind (inputs_in sheet) (wires_in sheet) (Rival (drawing_of kind) sheet) (relation_in cs)
-      unfolding relation_in
-      tells few =
-          record {
-            inputs = sym (ap inputs_of (read_is sheet cs e));
-            wires = sym (ap wires_of (read_is sheet cs e));
-            long = tabulate_length max_patterns _;
-            passes = passes_whole cs (sound sheet cs e) (most_inputs kind) few l;
-            families = rival_told (drawing_of kind) sheet cs e (count_of kind (inputs_of cs)) (form_fair kind (inputs_of cs) small);
-          }
-
       whole : inputs_of cs ≤ most_inputs kind → PromiseKept
-      unfolding quoted_of buffer_quoted
+      unfolding quoted_of buffer_quoted relation_in
       whole few =
-          let k = searched_number kind (inputs_in sheet) (wires_in sheet) (Rival (drawing_of kind) sheet) (NoRival (drawing_of kind) sheet) (relation_in cs) (tells few) (λ h. h.none) budget (length buffer) in
           rw (formed_whole sheet cs e l)
-          (with_number
-          (searched_promise kind (inputs_in sheet) (wires_in sheet) (Rival (drawing_of kind) sheet) (NoRival (drawing_of kind) sheet) (relation_in cs) (tells few) (λ h. h.none) budget buffer)
-          (other_told kind sheet cs e l few (searched kind (relation_in cs) budget (length buffer)).mark.number k.0 k.1))
+          (searched_promise kind sheet cs e (relation_in cs) refl refl (tabulate_length max_patterns _) (passes_whole cs (sound sheet cs e) (most_inputs kind) few l)
+          (other_told kind sheet cs e l few) (rival_told (drawing_of kind) sheet cs e (count_of kind (inputs_of cs)) (form_fair kind (inputs_of cs) small)) budget buffer)
 
       on_board : PromiseKept
       on_board =

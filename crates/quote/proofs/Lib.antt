@@ -1,6 +1,7 @@
 pub mod Own
 pub mod Told
 pub mod OneSheet
+pub mod AnySearched
 pub mod Searched
 pub mod Demand
 pub mod Quoting

@@ -1,7 +1,7 @@
 -- The cycle of the search: `visit` treats a part as document 01 writes it, and `split` its two halves.
 use mathlib.Core.Path.{◌≡◌, refl, sym, ap, subst, ◌∙◌}
 use mathlib.Core.Logic.{inl, inr}
-use mathlib.Core.Bool.{not}
+use mathlib.Core.Bool.{not, false}
 use mathlib.Core.List.{List}
 use native.Mathlib.Omega.{arith}
 use borrow.Author.Rules.{rules}
@@ -357,7 +357,8 @@ visit_charge_requires t c κs = c.requires.1.5
 visit_leave_requires : (t : ℕ) → visit_lts.Need-leave-requires (visit_claims t) (visit_at t) visit.Post
 visit_leave_requires t c κs =
     let q = c.requires.1 in
-    let spent = not_charged c.args.state.now c.charge.ensures.1 (told_no c.charge.ensures.0 c.if-not-charge.true) in
+    let left : c.charge.result ≡ false = cc in
+    let spent = not_charged c.args.state.now c.charge.ensures.1 (told_no c.charge.ensures.0 left) in
     ap length spent.1 ∙ q.5.long
 
 visit_returns : (t : ℕ) → visit_lts.Need-returns-then-not-charge (visit_claims t) (visit_at t) visit.Post
