@@ -1,4 +1,5 @@
 -- `entry_refusal` meets its contract: each test in its order, over the inputs that the array tells.
+-- The answer of the test of the number for 1 stands last: its goal is named by the test's text, and a changed test is told by what no longer holds.
 use Rattle.std.proofs.Common.{◌≡◌, ℕ, ◌<◌, ◌||◌, false, cond, leb, List, get_or, sym, ◌∙◌, arith}
 use borrow.Author.Tests.{le-leb, lt-leb}
 use Rattle.base.specs.Refusals.{not_ascending}
@@ -28,6 +29,27 @@ returns-then-own-zero c es e t =
     let a = c.args in
     rw (sym c.count_out.ensures ∙ c.if-count_out.false, e, le-leb a.own a.zero (omega (arith, c.if-own-zero.true)))
 
+pub returns-then-inputs-zero : goal.returns-then-inputs-zero
+returns-then-inputs-zero c es e t =
+    let a = c.args in
+    let one_lower : a.one < a.own = omega arith in
+    let decides = lower a.n a.own a.i a.zero a.one a.inputs.now (sym c.count_out.ensures ∙ c.if-count_out.false) c.if-own-zero.false one_lower es e t in
+    rw (decides, le-leb (get_or a.inputs.now a.zero 0) a.i (omega (arith, c.if-inputs-zero.true)))
+
+pub returns-then-inputs-one : goal.returns-then-inputs-one
+returns-then-inputs-one c es e t =
+    let a = c.args in
+    let one_lower : a.one < a.own = omega arith in
+    let decides = lower a.n a.own a.i a.zero a.one a.inputs.now (sym c.count_out.ensures ∙ c.if-count_out.false) c.if-own-zero.false one_lower es e t in
+    rw (decides, lt-leb (get_or a.inputs.now a.zero 0) _ c.if-inputs-zero.false, le-leb (get_or a.inputs.now a.one 0) a.i (omega (arith, c.if-inputs-one.true)))
+
+pub returns : goal.returns
+returns c es e t =
+    let a = c.args in
+    let one_lower : a.one < a.own = omega arith in
+    let decides = lower a.n a.own a.i a.zero a.one a.inputs.now (sym c.count_out.ensures ∙ c.if-count_out.false) c.if-own-zero.false one_lower es e t in
+    rw (decides, lt-leb (get_or a.inputs.now a.zero 0) _ c.if-inputs-zero.false, lt-leb (get_or a.inputs.now a.one 0) _ c.if-inputs-one.false)
+
 pub returns-then-own-one : goal.returns-then-own-one
 unfolding entry_refusal
 returns-then-own-one c es e t =
@@ -38,21 +60,3 @@ returns-then-own-one c es e t =
       lt-leb a.own a.zero c.if-own-zero.false,
       le-leb a.own a.one (omega (arith, c.if-own-zero.false, c.if-own-one.true)),
     )
-
-pub returns-then-inputs-zero : goal.returns-then-inputs-zero
-returns-then-inputs-zero c es e t =
-    let a = c.args in
-    let decides = lower a.n a.own a.i a.zero a.one a.inputs.now (sym c.count_out.ensures ∙ c.if-count_out.false) c.if-own-zero.false c.if-own-one.false es e t in
-    rw (decides, le-leb (get_or a.inputs.now a.zero 0) a.i (omega (arith, c.if-inputs-zero.true)))
-
-pub returns-then-inputs-one : goal.returns-then-inputs-one
-returns-then-inputs-one c es e t =
-    let a = c.args in
-    let decides = lower a.n a.own a.i a.zero a.one a.inputs.now (sym c.count_out.ensures ∙ c.if-count_out.false) c.if-own-zero.false c.if-own-one.false es e t in
-    rw (decides, lt-leb (get_or a.inputs.now a.zero 0) _ c.if-inputs-zero.false, le-leb (get_or a.inputs.now a.one 0) a.i (omega (arith, c.if-inputs-one.true)))
-
-pub returns : goal.returns
-returns c es e t =
-    let a = c.args in
-    let decides = lower a.n a.own a.i a.zero a.one a.inputs.now (sym c.count_out.ensures ∙ c.if-count_out.false) c.if-own-zero.false c.if-own-one.false es e t in
-    rw (decides, lt-leb (get_or a.inputs.now a.zero 0) _ c.if-inputs-zero.false, lt-leb (get_or a.inputs.now a.one 0) _ c.if-inputs-one.false)

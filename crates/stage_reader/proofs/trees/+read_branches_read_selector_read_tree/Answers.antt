@@ -1,5 +1,5 @@
 -- `read_tree`, `read_selector` and `read_branches` meet their contracts: what they hand back is told by the tree that the meaning takes.
-use Rattle.std.proofs.Common.{◌≡◌, ◌+◌, ◌≤◌, true, false, get_or, sym, ap, ◌∙◌, arith}
+use Rattle.std.proofs.Common.{◌≡◌, ◌+◌, ◌<◌, ◌≤◌, true, false, get_or, sym, ap, ◌∙◌, arith}
 use borrow.Author.Tests.{le-leb, lt-leb}
 use Rattle.base.specs.Refusals.{refusal_at}
 use Rattle.sheet.specs.Limits.{count_out}
@@ -61,19 +61,20 @@ read_selector-returns-then-count_out t c =
     let out : count_out (get_or c.args.s.now (c.args.at + 1) 0) c.args.n ≡ true = sym c.count_out.ensures ∙ c.if-count_out.true in
     step_refused_lem tree_drawing _ _ _ _ (selector_out _ _ _ _ c.if-s-input_at.false out) c.at-then-count_out.ensures
 
--- an input of the sheet: whether it comes after the parent's decides
+-- an input of the sheet: whether it comes after the parent's decides (the goal that is named by this test's text comes second)
+pub read_selector-returns : goal.read_selector-returns
+read_selector-returns t c =
+    let a = c.args in
+    let in_range : count_out (get_or a.s.now (a.at + 1) 0) a.n ≡ false = sym c.count_out.ensures ∙ c.if-count_out.false in
+    let above : a.k < get_or a.s.now (a.at + 1) 0 = omega arith in
+    rw (selector_input _ _ _ _ c.if-s-input_at.false in_range, lt-leb _ _ above) c.read_branches.ensures
+
 pub read_selector-returns-then-i-k : goal.read_selector-returns-then-i-k
 read_selector-returns-then-i-k t c =
     let a = c.args in
     let in_range : count_out (get_or a.s.now (a.at + 1) 0) a.n ≡ false = sym c.count_out.ensures ∙ c.if-count_out.false in
     let not_above : get_or a.s.now (a.at + 1) 0 ≤ a.k = c.if-i-k.true in
     step_refused_lem tree_drawing _ _ _ _ (selector_input _ _ _ _ c.if-s-input_at.false in_range ∙ rw (le-leb _ _ not_above)) c.at-then-i-k.ensures
-
-pub read_selector-returns : goal.read_selector-returns
-read_selector-returns t c =
-    let a = c.args in
-    let in_range : count_out (get_or a.s.now (a.at + 1) 0) a.n ≡ false = sym c.count_out.ensures ∙ c.if-count_out.false in
-    rw (selector_input _ _ _ _ c.if-s-input_at.false in_range, lt-leb _ _ c.if-i-k.false) c.read_branches.ensures
 
 -- a tree
 pub read_tree-returns-then-s-at : goal.read_tree-returns-then-s-at

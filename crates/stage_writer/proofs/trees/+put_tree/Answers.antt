@@ -1,5 +1,5 @@
 -- `put_tree` meets its contract: the halves of a table are equal, or a selector and the trees of both are stored one after the other.
-use Rattle.std.proofs.Common.{◌+◌, ◌-◌, ◌/◌, ◌%◌, arith}
+use Rattle.std.proofs.Common.{◌≡◌, ◌+◌, ◌-◌, ◌/◌, ◌%◌, arith}
 use Rattle.table.specs.Tree.{reduced}
 use Rattle.stage.specs.TreeBytes.{tree_bytes}
 use Rattle.stage_writer.proofs.Halves.{reduced_same, reduced_two, same_length, two_length}
@@ -13,16 +13,22 @@ returns-then-w-eq0 t c = record { stored = simp (c.if-w-eq0.true, ← c.constant
 -- where the halves are equal there is room for the tree of one, else for a selector and both
 pub put_tree-requires : goal.put_tree-requires
 put_tree-requires t c =
-    let same = same_length c.args.w c.args.t _ c.if-w-eq0.false c.half_of-half.ensures c.args.k c.if-low-high.true in
+    let half = c.half_of-half.result in
+    let equal : c.args.t % half ≡ c.args.t / half = omega arith in
+    let same = same_length c.args.w c.args.t half c.if-w-eq0.false c.half_of-half.ensures c.args.k equal in
     (omega arith, (omega arith, omega (arith, same)))
 
 pub put_with_operand-for_zero-requires : goal.put_with_operand-for_zero-requires
 put_with_operand-for_zero-requires t c =
-    omega (arith, two_length c.args.w c.args.t _ c.if-w-eq0.false c.half_of-half.ensures c.args.k c.if-low-high.false)
+    let half = c.half_of-half.result in
+    let differ : c.args.t % half ≡ c.args.t / half → ⊥ = omega arith in
+    omega (arith, two_length c.args.w c.args.t half c.if-w-eq0.false c.half_of-half.ensures c.args.k differ)
 
 pub put_tree-for_one-requires : goal.put_tree-for_one-requires
 put_tree-for_one-requires t c =
-    let two = two_length c.args.w c.args.t _ c.if-w-eq0.false c.half_of-half.ensures c.args.k c.if-low-high.false in
+    let half = c.half_of-half.result in
+    let differ : c.args.t % half ≡ c.args.t / half → ⊥ = omega arith in
+    let two = two_length c.args.w c.args.t half c.if-w-eq0.false c.half_of-half.ensures c.args.k differ in
     (omega arith, (omega arith, omega (arith, c.put_with_operand-for_zero.ensures.past, two)))
 
 pub put_tree-requires-else-low-high : goal.put_tree-requires-else-low-high
