@@ -105,7 +105,7 @@ fn header_fits_archive() {
         .args(["-std=c99", "-Wall", "-Wextra", "-Werror", "-pedantic", "-o"])
         .arg(&program)
         .arg(here.join("tests/header.c"))
-        .arg(here.join("../crates/capi/out/libcapi.a")));
+        .arg(here.join("../crates/capi_c/out/libcapi.a")));
     let output = run(&mut Command::new(&program));
     assert_eq!(String::from_utf8(output.stdout).expect("text"), expected());
 }

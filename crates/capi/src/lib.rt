@@ -1,5 +1,4 @@
-// The library for C and Rust: the search, the quote and the audit, on either board, the joint quote, and clean copies, over numbers and slices. `include/dagmetzi.h` declares
-// what is exported here.
+// The calls for C and Rust: the search, the quote and the audit, on either board, the joint quote, and clean copies, over numbers and slices. The crate `capi_c` exports them.
 #![tactic(auto)]
 
 ghost use Rattle.std.specs.Prelude.{◌≡◌, length};
@@ -29,8 +28,7 @@ mod told; // a case of an answer as numbers
 pub const REPLY_NUMBERS: usize = 6;
 
 // The search of a relation: `sets` has the sets of values of its patterns. The refusal's number, or 0; a refusal leaves `tables` as they were.
-#[unsafe(no_mangle)]
-pub extern "C" fn dagmetzi_search(
+pub fn dagmetzi_search(
     n: u8,
     m: u8,
     sets: &[u16; Sheet::MAX_PATTERNS],
@@ -46,8 +44,7 @@ pub extern "C" fn dagmetzi_search(
 }
 
 // The same on the board that shares selectors (document 02, E2), which has at most four inputs: more are 3 (E5).
-#[unsafe(no_mangle)]
-pub extern "C" fn dagmetzi_search_shared(
+pub fn dagmetzi_search_shared(
     n: u8,
     m: u8,
     sets: &[u16; Sheet::MAX_PATTERNS],
@@ -63,8 +60,7 @@ pub extern "C" fn dagmetzi_search_shared(
 }
 
 // The quote of a unit sheet, its stage written at the start of `buffer`. The refusal's number, or 0; a refusal leaves `buffer` as it was.
-#[unsafe(no_mangle)]
-pub extern "C" fn dagmetzi_quote(
+pub fn dagmetzi_quote(
     sheet: &[u8],
     budget: u32,
     buffer: &mut [u8],
@@ -80,8 +76,7 @@ pub extern "C" fn dagmetzi_quote(
 }
 
 // The same on the board that shares selectors, which has at most four inputs: a sheet with more is 15 (document 02, E5).
-#[unsafe(no_mangle)]
-pub extern "C" fn dagmetzi_quote_shared(
+pub fn dagmetzi_quote_shared(
     sheet: &[u8],
     budget: u32,
     buffer: &mut [u8],
@@ -97,8 +92,7 @@ pub extern "C" fn dagmetzi_quote_shared(
 }
 
 // The quote of one stage for two unit sheets (document 02, E6), written at the start of `buffer`. The refusal's number, or 0; a refusal leaves `buffer` as it was.
-#[unsafe(no_mangle)]
-pub extern "C" fn dagmetzi_quote_joined(
+pub fn dagmetzi_quote_joined(
     first: &[u8],
     second: &[u8],
     budget: u32,
@@ -126,12 +120,7 @@ pub extern "C" fn dagmetzi_quote_joined(
 }
 
 // The audit of a stage sheet against a unit sheet. The refusal's number, or 0.
-#[unsafe(no_mangle)]
-pub extern "C" fn dagmetzi_audit(
-    sheet: &[u8],
-    stage: &[u8],
-    reply: &mut [u64; REPLY_NUMBERS],
-) -> u32
+pub fn dagmetzi_audit(sheet: &[u8], stage: &[u8], reply: &mut [u64; REPLY_NUMBERS]) -> u32
     ensures refusal { result ≡ (audited_of Tree sheet.now stage.now).number }
     ensures numbers { reply.new ≡ audit_numbers (audited_of Tree sheet.now stage.now) }
 {
@@ -139,12 +128,7 @@ pub extern "C" fn dagmetzi_audit(
 }
 
 // The same of a stage for the board that shares selectors.
-#[unsafe(no_mangle)]
-pub extern "C" fn dagmetzi_audit_shared(
-    sheet: &[u8],
-    stage: &[u8],
-    reply: &mut [u64; REPLY_NUMBERS],
-) -> u32
+pub fn dagmetzi_audit_shared(sheet: &[u8], stage: &[u8], reply: &mut [u64; REPLY_NUMBERS]) -> u32
     ensures refusal { result ≡ (audited_of Sharing sheet.now stage.now).number }
     ensures numbers { reply.new ≡ audit_numbers (audited_of Sharing sheet.now stage.now) }
 {
@@ -152,12 +136,7 @@ pub extern "C" fn dagmetzi_audit_shared(
 }
 
 // The clean copy of a unit sheet, written at the start of `buffer`. The refusal's number, or 0; a refusal leaves `buffer` as it was.
-#[unsafe(no_mangle)]
-pub extern "C" fn dagmetzi_clean(
-    sheet: &[u8],
-    buffer: &mut [u8],
-    reply: &mut [u64; REPLY_NUMBERS],
-) -> u32
+pub fn dagmetzi_clean(sheet: &[u8], buffer: &mut [u8], reply: &mut [u64; REPLY_NUMBERS]) -> u32
     ensures refusal { result ≡ (cleaned_of sheet.now (length buffer.old)).number }
     ensures numbers { reply.new ≡ copy_numbers (cleaned_of sheet.now (length buffer.old)) }
     ensures bytes { buffer.new ≡ buffer_cleaned sheet.now buffer.old }
