@@ -4,10 +4,7 @@ use mathlib.Core.Path.{◌≡◌, refl, sym, ap, ap₂, ◌∙◌}
 use mathlib.Core.Bool.{cond}
 use native.Mathlib.Omega.{arith}
 use Rattle.base.specs.declared.Refusal.{Refusal}
-use Rattle.base.specs.declared.Verdict.{Verdict}
-use Rattle.base.specs.declared.Verdict.TheVariants.{Accepted, Refused}
-use Rattle.base.specs.declared.Written.{Written}
-use Rattle.base.specs.declared.Written.TheVariants.{Length, Refused as NotWritten}
+use Rattle.std.specs.Prelude.{Result, Ok, Err}
 use Rattle.base.specs.Refusals.{refusal_at}
 use Rattle.base.specs.Cases.{Case, accepted_case, refusing, refused_case, is_refused, verdict_case, written_case}
 
@@ -25,23 +22,23 @@ pub case_one : {A : Type 0} (case : A → Case) (back : Case → A) → ((a : A)
 case_one case back undo a b e = sym (undo a) ∙ ap back e ∙ undo b
 
 -- the case of a verdict tells the verdict
-abbrev verdict_of : Case → Verdict
-verdict_of c = cond (is_refused c) (Refused (refusal_at c.number c.place)) Accepted
+abbrev verdict_of : Case → Result Unit Refusal
+verdict_of c = cond (is_refused c) (Err (refusal_at c.number c.place)) (Ok tt)
 
-verdict_back : (v : Verdict) → verdict_of (verdict_case v) ≡ v
-verdict_back Accepted = refl
-verdict_back (Refused f) = refl
+verdict_back : (v : Result Unit Refusal) → verdict_of (verdict_case v) ≡ v
+verdict_back (Ok u) = refl
+verdict_back (Err f) = refl
 
-pub verdict_one : (v w : Verdict) → verdict_case v ≡ verdict_case w → v ≡ w
+pub verdict_one : (v w : Result Unit Refusal) → verdict_case v ≡ verdict_case w → v ≡ w
 verdict_one = case_one verdict_case verdict_of verdict_back
 
 -- and so does that of what was written
-abbrev written_back : Case → Written
-written_back c = cond (is_refused c) (NotWritten (refusal_at c.number c.place)) (Length c.value)
+abbrev written_back : Case → Result ℕ Refusal
+written_back c = cond (is_refused c) (Err (refusal_at c.number c.place)) (Ok c.value)
 
-written_undo : (a : Written) → written_back (written_case a) ≡ a
-written_undo (Length k) = refl
-written_undo (NotWritten f) = refl
+written_undo : (a : Result ℕ Refusal) → written_back (written_case a) ≡ a
+written_undo (Ok k) = refl
+written_undo (Err f) = refl
 
-pub written_one : (a b : Written) → written_case a ≡ written_case b → a ≡ b
+pub written_one : (a b : Result ℕ Refusal) → written_case a ≡ written_case b → a ≡ b
 written_one = case_one written_case written_back written_undo

@@ -1,11 +1,7 @@
 -- Document 01, "Which form goes where": answers told by numbers. Each answer enum has one definition, in the meanings of its crate, that turns a case into
 -- numbers; contracts and promises speak of the answer through it.
-use Rattle.std.specs.Prelude.{ℕ, Bool, leb}
+use Rattle.std.specs.Prelude.{ℕ, Bool, leb, Result, Ok, Err}
 use Rattle.base.specs.declared.Refusal.{Refusal}
-use Rattle.base.specs.declared.Verdict.{Verdict}
-use Rattle.base.specs.declared.Verdict.TheVariants.{Accepted, Refused}
-use Rattle.base.specs.declared.Written.{Written}
-use Rattle.base.specs.declared.Written.TheVariants.{Length, Refused as NotWritten}
 
 -- the outcome, which tells a case from the other cases of its enum; the number and the place of its refusal, 0 where it refuses nothing;
 -- and its own value (cells, a length), 0 where it has none
@@ -43,12 +39,12 @@ refused_case f = refusing refused_outcome f
 abbrev pub is_refused : Case → Bool
 is_refused c = leb refused_outcome c.outcome
 
--- what was accepted stands beside the verdict
-abbrev pub verdict_case : Verdict → Case
-verdict_case Accepted = accepted_case
-verdict_case (Refused f) = refused_case f
+-- whether what was handed in is accepted
+abbrev pub verdict_case : Result Unit Refusal → Case
+verdict_case (Ok u) = accepted_case
+verdict_case (Err f) = refused_case f
 
 -- the value of what was written is its length
-abbrev pub written_case : Written → Case
-written_case (Length k) = accepting accepted_outcome k
-written_case (NotWritten f) = refused_case f
+abbrev pub written_case : Result ℕ Refusal → Case
+written_case (Ok k) = accepting accepted_outcome k
+written_case (Err f) = refused_case f

@@ -1,4 +1,4 @@
-// What every format shares: refusals, whether something is accepted, whether it was written, and total access to bytes.
+// What every format shares: refusals, and total access to bytes. What can be refused is a `Result` with a refusal for its error.
 #![tactic(auto)]
 
 ghost use Rattle.std.specs.Prelude.{◌≡◌, get_or, set};
@@ -47,20 +47,6 @@ impl Refusal {
     {
         Refusal { number, place }
     }
-}
-
-// Whether what was handed in is accepted.
-#[derive(Clone, Copy)]
-pub enum Verdict {
-    Accepted,
-    Refused(Refusal),
-}
-
-// The length of what was written to a lent buffer, or why nothing was.
-#[derive(Clone, Copy)]
-pub enum Written {
-    Length(usize),
-    Refused(Refusal),
 }
 
 // The byte at a place, or 0 past the end.
