@@ -22,11 +22,7 @@ fn signals_made(m: u8, gates: u8) -> u16
 fn not_made(made: u16, a: u8, b: u8) -> bool
     ensures { result ≡ leb made a || leb made b }
 {
-    if made <= a as u16 {
-        true
-    } else {
-        made <= b as u16
-    }
+    made <= a as u16 || made <= b as u16
 }
 
 // Why a gate or an output at a place is refused: 6 before 8.
