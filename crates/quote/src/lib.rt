@@ -45,7 +45,12 @@ pub enum AuditRefusal {
 }
 
 // The quote on either board.
-pub fn quote_on(kind: BoardKind, sheet: &[u8], budget: u32, buffer: &mut [u8]) -> Result<Quoted, Refusal>
+pub fn quote_on(
+    kind: BoardKind,
+    sheet: &[u8],
+    budget: u32,
+    buffer: &mut [u8],
+) -> Result<Quoted, Refusal>
     ensures reply { quote_reply result ≡ quoted_of kind sheet.now budget (length buffer.old) }
     ensures bytes { buffer.new ≡ buffer_quoted kind sheet.now budget buffer.old }
     ensures promise { Promised (drawing_of kind) (most_inputs kind) sheet.now budget (quote_reply result) buffer.new }
