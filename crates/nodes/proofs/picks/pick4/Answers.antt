@@ -39,12 +39,6 @@ pub loop-inverses-init : goal.loop-inverses-init
 unfolding Passed
 loop-inverses-init c = (omega arith, (c.no_inverted-masks.ensures, omega arith))
 
-pub overflow_mul-inverses : goal.overflow_mul-inverses
-overflow_mul-inverses c = omega (arith, c.loop-inverses.invariant.0)
-
-pub overflow_add-x : goal.overflow_add-x
-overflow_add-x c = omega (arith, c.loop-inverses.invariant.0, c.way-x.ensures.1)
-
 pub returns-then-best-lt-NODE : goal.returns-then-best-lt-NODE
 returns-then-best-lt-NODE c =
     let x = c.way-x in
@@ -52,7 +46,7 @@ returns-then-best-lt-NODE c =
     let i = c in
     let w = i.args.pair in
     free w i.requires.1 w _ (l.inverses + 1)
-    (turn w l.masks l.best l.inverses x.result _ l.invariant.1 (omega arith) x.ensures.0 x.ensures.1 c.lesser-best.ensures)
+    (turn w l.masks l.best l.inverses x.result _ l.invariant.1 (omega arith) x.ensures.0 x.ensures.1 c.min-best.ensures)
     (omega arith)
     c.if-best-lt-NODE.true
 
@@ -62,7 +56,7 @@ loop-inverses-preserved c =
     let l = c.loop-inverses in
     let w = c.args.pair in (
       omega arith,
-      turn w l.masks l.best l.inverses x.result _ l.invariant.1 (omega arith) x.ensures.0 x.ensures.1 c.lesser-best.ensures,
+      turn w l.masks l.best l.inverses x.result _ l.invariant.1 (omega arith) x.ensures.0 x.ensures.1 c.min-best.ensures,
     )
 
 pub returns : goal.returns
