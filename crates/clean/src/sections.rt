@@ -112,10 +112,8 @@ fn put_section(out: &mut [u8], at: usize, sheet: Sheet, section: Section, count:
     ensures { PutWithin (longest_command * count) out.old at (bytes_of (listed count (piece_of section sheet))) out.new result }
 {
     let mut next = at;
-    let mut i: u8 = 0;
-    while i < count {
+    for i in 0..count {
         next = put_piece(out, next, sheet, section, i);
-        i += 1;
     }
     next
 }

@@ -1,9 +1,9 @@
 // The reader of a unit sheet, by value: one call reads one command and gives the reader that stands behind it.
 ghost use Rattle.std.specs.Prelude.{◌≡◌, ◌+◌, ◌*◌, ◌^◌, [], ◌||◌};
-ghost use Rattle.reader.specs.Reader.{width_of, command_of, is_out_of_turn, is_out_of_range, reader_at, moved_past, step_refused, next_of};
+ghost use Rattle.reader.specs.Reader.{width_of, command_of, is_out_of_turn, is_out_of_range, reader_at, moved_past, next_of};
 ghost use Rattle.sheet.specs.Limits.{is_beyond};
 
-use crate::{Reader, Step};
+use crate::Reader;
 use base::Refusal;
 use sheet::limits::{beyond, bits_past, sizes_out};
 use sheet::{Command, Sheet};
@@ -28,7 +28,7 @@ fn width(b: u8) -> usize
 fn word(low: u8, high: u8) -> u16
     ensures { result ≡ low + 256 * high }
 {
-    (low as u16) + 256 * (high as u16)
+    u16::from_le_bytes([low, high])
 }
 
 // The command with a known first byte b and operands x, y, z, as many as it has.
@@ -73,12 +73,6 @@ fn limit_out(n: u8, m: u8, p: u8, set: u16) -> bool
     } else {
         bits_past(m, set)
     }
-}
-
-fn refused(number: u8, place: usize) -> Step
-    ensures { result ≡ step_refused number place }
-{
-    Step::Refused(Refusal::at(number, place))
 }
 
 impl Reader {
@@ -135,23 +129,23 @@ impl Reader {
     }
 
     // One command: 1 where the bytes are spent, then the tests of document 01's "Refusals" in their order.
-    pub fn next(self, s: &[u8]) -> Step
+    pub fn next(self, s: &[u8]) -> Result<(Command, Reader), Refusal>
         ensures { result ≡ next_of s.now self }
     {
         let at = self.at;
         if s.len() <= at {
-            return refused(Refusal::CUT_SHORT, at);
+            return Err(Refusal::at(Refusal::CUT_SHORT, at));
         }
         let b = s[at];
         let w = width(b);
         if w == 0 {
-            return refused(Refusal::UNKNOWN, at);
+            return Err(Refusal::at(Refusal::UNKNOWN, at));
         }
         if self.out_of_turn(b) {
-            return refused(Refusal::OUT_OF_TURN, at);
+            return Err(Refusal::at(Refusal::OUT_OF_TURN, at));
         }
         if s.len() - at < w {
-            return refused(Refusal::CUT_SHORT, at);
+            return Err(Refusal::at(Refusal::CUT_SHORT, at));
         }
         let c = command(
             b,
@@ -160,8 +154,8 @@ impl Reader {
             base::byte_at(s, at + 3),
         );
         if self.out_of_range(c) {
-            return refused(Refusal::OUT_OF_RANGE, at);
+            return Err(Refusal::at(Refusal::OUT_OF_RANGE, at));
         }
-        Step::Read(c, self.moved_past(c, at + w))
+        Ok((c, self.moved_past(c, at + w)))
     }
 }

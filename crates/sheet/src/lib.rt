@@ -1,12 +1,6 @@
 // Unit sheets: the limits, the commands, and what the commands say, gathered into one sheet.
 #![tactic(auto)]
 
-ghost use Rattle.std.specs.Prelude.{◌≡◌};
-ghost use Rattle.sheet.specs.Judged.{refused};
-ghost use Rattle.sheet.specs.Inner.Gathering.{gathered_reply};
-
-use base::{Refusal, Verdict};
-
 pub mod limits; // sizes and sets against the limits
 mod gather; // the sheet with one command more
 
@@ -65,24 +59,4 @@ impl Sheet {
     pub const ROW: u8 = 1;
 
     pub const DONT_CARE: u8 = 2;
-}
-
-// What was gathered, and whether it is accepted. Where it is refused, the sheet is a fresh one without sizes.
-#[derive(Clone, Copy)]
-pub struct Reply {
-    pub sheet: Sheet,
-    pub answer: Verdict,
-}
-
-impl Reply {
-    // A refusal writes nothing: what was gathered is dropped.
-    pub fn refusal(f: Refusal) -> Reply
-        ensures { result ≡ gathered_reply (refused f) }
-    {
-        let sheet = Sheet::fresh(0, 0);
-        Reply {
-            sheet,
-            answer: Verdict::Refused(f),
-        }
-    }
 }
