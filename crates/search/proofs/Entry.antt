@@ -8,7 +8,7 @@ use lib.Dec.{le→leb}
 use lib.ListN.{length, get_or}
 use Rattle.sheet.specs.Limits.{max_inputs, max_patterns}
 use Rattle.base.specs.declared.Refusal.{Refusal}
-use Rattle.base.specs.declared.Verdict.{Verdict}
+use Rattle.std.specs.Prelude.{Result}
 use Rattle.base.specs.Cases.{accepting, accepted_case, refused_case, verdict_case}
 use Rattle.relation.specs.declared.Relation.{Relation}
 use Rattle.relation.specs.Source.{Rel}
@@ -86,7 +86,7 @@ unfolding answer_of mark_of
 best_answer b R s t e h = rw (← e, h)
 
 -- what the code's test tells of a relation
-pub tested : (kind : BoardKind) (r : Relation) {most : ℕ} {v w : Verdict} → most ≡ most_inputs kind → verdict_case v ≡ check_of most r → v ≡ w → check_of (most_inputs kind) r ≡ verdict_case w
+pub tested : (kind : BoardKind) (r : Relation) {most : ℕ} {v w : Result Unit Refusal} → most ≡ most_inputs kind → verdict_case v ≡ check_of most r → v ≡ w → check_of (most_inputs kind) r ≡ verdict_case w
 tested kind r em ev ew = ap (λ x. check_of x r) (sym em) ∙ sym ev ∙ ap verdict_case ew
 
 -- a relation that passes its test, and its sets as the code holds them

@@ -2,7 +2,7 @@
 // `branch_bound`.
 #![tactic(auto)]
 
-ghost use Rattle.std.specs.Prelude.{◌≡◌};
+ghost use Rattle.std.specs.Prelude.{◌≡◌, Ok};
 ghost use Rattle.relation.specs.Source.{Rel};
 ghost use Rattle.relation.specs.Tests.{of_sets};
 ghost use Rattle.branch_bound.specs.Search.{Board, floor as floor_of, search_part, run};
@@ -17,7 +17,7 @@ ghost use Rattle.parts.specs.Inner.Parts.{PartSets, Carried};
 ghost use Rattle.visits.specs.Inner.Conflicts.{Seen};
 ghost use Rattle.visits.specs.Inner.States.{state_of, budget_in, Held, Ran};
 
-use base::{Refusal, Verdict};
+use base::Refusal;
 use beginning::{begin_search, keep_first, whole_part};
 use nodes::picks::tops;
 use nodes::{BoardKind, most_inputs};
@@ -36,15 +36,14 @@ use visits::states::tables_in;
 mod beginning; // what the search begins with
 mod quick_solver; // the first answer
 
-// The mark of a reply.
+// The mark of an answer.
 #[derive(Clone, Copy)]
 pub enum Mark {
     Best,
     Stopped,
-    Refused(Refusal),
 }
 
-// The reply (document 01, "Search"): a table for each wire that there may be, their cells, the floor (lower bound) and the visits. All 0 on a refusal.
+// What a search answers that refuses nothing (document 01, "Search"): a table for each wire that there may be, their cells, the floor (lower bound) and the visits.
 #[derive(Clone, Copy)]
 pub struct Answer {
     pub tables: [u64; Sheet::WIRES],
@@ -78,7 +77,7 @@ fn search_whole(
 
 // The reply from the state that the search ends in, and the floor of the relation.
 fn reply(state: &[u64; STATE], floor: u64) -> Answer
-    ensures { (b : Board) → (R : Rel) → floor ≡ floor_of b R → search_reply result ≡ answer_of b R (state_of state.now) }
+    ensures { (b : Board) → (R : Rel) → floor ≡ floor_of b R → search_reply (Ok result) ≡ answer_of b R (state_of state.now) }
 {
     let tables = tables_in(state);
     let cells = state[CELLS];
@@ -106,7 +105,7 @@ fn reply(state: &[u64; STATE], floor: u64) -> Answer
 // wires and of the patterns behind its entries.
 fn search_sets(e: &[u32; LENT], sets: [u16; Sheet::MAX_PATTERNS], budget: u32) -> Answer
     requires { Lent e.now × Sized (most_inputs (lent_kind e.now)) (lent_inputs e.now) (lent_wires e.now) × PartSets (lent_inputs e.now) (lent_wires e.now) sets }
-    ensures { search_reply result ≡ answer_of (board_of (lent_kind e.now) (lent_inputs e.now) (lent_wires e.now)) (of_sets sets)
+    ensures { search_reply (Ok result) ≡ answer_of (board_of (lent_kind e.now) (lent_inputs e.now) (lent_wires e.now)) (of_sets sets)
         (run (board_of (lent_kind e.now) (lent_inputs e.now) (lent_wires e.now)) budget (of_sets sets)) }
 {
     let mut state = [0u64; STATE];
@@ -144,41 +143,30 @@ fn search_tested(
     budget: u32,
 ) -> Answer
     requires { Sized (most_inputs kind) n m × PartSets n m sets }
-    ensures { search_reply result ≡ answer_of (board_of kind n m) (of_sets sets) (run (board_of kind n m) budget (of_sets sets)) }
+    ensures { search_reply (Ok result) ≡ answer_of (board_of kind n m) (of_sets sets) (run (board_of kind n m) budget (of_sets sets)) }
 {
     let table = lent_for(kind, n, m);
     search_sets(&table, sets, budget)
 }
 
 // The search of any relation under any budget, on either board. It refuses what the relation's test refuses.
-pub fn search_on(kind: BoardKind, relation: Relation, budget: u32) -> Answer
+pub fn search_on(kind: BoardKind, relation: Relation, budget: u32) -> Result<Answer, Refusal>
     ensures { search_reply result ≡ search_of kind relation budget }
 {
-    let n = relation.n;
-    let m = relation.m;
-    let sets = relation.sets;
-    let checked = relation.check(most_inputs(kind));
-    match checked {
-        Verdict::Accepted => search_tested(kind, n, m, clear_past(n, sets), budget),
-        Verdict::Refused(refusal) => Answer {
-            tables: [0; Sheet::WIRES],
-            cells: 0,
-            floor: 0,
-            visits: 0,
-            mark: Mark::Refused(refusal),
-        },
-    }
+    relation.check(most_inputs(kind))?;
+    let sets = clear_past(relation.n, relation.sets);
+    Ok(search_tested(kind, relation.n, relation.m, sets, budget))
 }
 
 // The search on the board of trees.
-pub fn search(relation: Relation, budget: u32) -> Answer
+pub fn search(relation: Relation, budget: u32) -> Result<Answer, Refusal>
     ensures { search_reply result ≡ search_of Tree relation budget }
 {
     search_on(BoardKind::Tree, relation, budget)
 }
 
 // The search on the board that shares selectors (document 02, E2). A relation of more than four inputs is refused with 3 (E5).
-pub fn search_shared(relation: Relation, budget: u32) -> Answer
+pub fn search_shared(relation: Relation, budget: u32) -> Result<Answer, Refusal>
     ensures { search_reply result ≡ search_of Sharing relation budget }
 {
     search_on(BoardKind::Sharing, relation, budget)
