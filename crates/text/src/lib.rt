@@ -27,10 +27,8 @@ pub fn put_text(out: &mut [u8], at: usize, text: &[u8]) -> usize
     ensures { Put out.old at text.now out.new result }
 {
     let mut next = at;
-    let mut i: usize = 0;
-    while i < text.len() {
-        next = put_byte(out, next, text[i]);
-        i += 1;
+    for b in text {
+        next = put_byte(out, next, *b);
     }
     next
 }
@@ -41,10 +39,10 @@ pub fn put_decimal(out: &mut [u8], at: usize, x: u64) -> usize
     ensures { PutWithin longest_decimal out.old at (decimal x) out.new result }
 {
     if x < 10 {
-        return put_byte(out, at, 0x30 + (x as u8));
+        return put_byte(out, at, b'0' + x as u8);
     }
     let next = put_decimal(out, at, x / 10);
-    put_byte(out, next, 0x30 + ((x % 10) as u8))
+    put_byte(out, next, b'0' + (x % 10) as u8)
 }
 
 // Puts a number after its name.
@@ -61,7 +59,7 @@ fn hex_digit(d: u8) -> u8
     requires { d < 16 }
     ensures { result ≡ hex_digit d }
 {
-    if d < 10 { 0x30 + d } else { 0x41 + (d - 10) }
+    if d < 10 { b'0' + d } else { b'A' + (d - 10) }
 }
 
 // Puts a byte as two hexadecimal digits.
@@ -74,32 +72,18 @@ fn put_hex_pair(out: &mut [u8], at: usize, b: u8) -> usize
     at + 2
 }
 
-// The number of bytes among the first `count` of a slice.
-fn available(bytes: &[u8], count: usize) -> usize
-    ensures { (result ≡ length (take count bytes.now)) × (result ≤ count) }
+// Puts the bytes of a slice as hexadecimal pairs parted by single spaces.
+pub fn put_hex_pairs(out: &mut [u8], at: usize, bytes: &[u8]) -> usize
+    requires { at + 3 * length bytes.now ≤ last_place }
+    ensures { PutWithin (3 * length bytes.now) out.old at (hex_pairs bytes.now) out.new result }
 {
-    if count < bytes.len() {
-        count
-    } else {
-        bytes.len()
-    }
-}
-
-// Puts the first `count` bytes of a slice, or all where it has fewer, as hexadecimal pairs parted by single spaces.
-pub fn put_hex_pairs(out: &mut [u8], at: usize, bytes: &[u8], count: usize) -> usize
-    requires { at + 3 * count ≤ last_place }
-    ensures { PutWithin (3 * count) out.old at (hex_pairs (take count bytes.now)) out.new result }
-{
-    let n = available(bytes, count);
-    if n == 0 {
+    let Some((first, further)) = bytes.split_first() else {
         return at;
-    }
-    let mut next = put_hex_pair(out, at, byte_at(bytes, 0));
-    let mut i: usize = 1;
-    while i < n {
-        next = put_byte(out, next, 0x20);
-        next = put_hex_pair(out, next, byte_at(bytes, i));
-        i += 1;
+    };
+    let mut next = put_hex_pair(out, at, *first);
+    for b in further {
+        next = put_byte(out, next, b' ');
+        next = put_hex_pair(out, next, *b);
     }
     next
 }
