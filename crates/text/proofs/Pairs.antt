@@ -1,11 +1,11 @@
 -- Laws of hexadecimal pairs: none, the first, and one more.
-use Prim.Native.Nat.{ℕ, ◌+◌, ◌<◌, ◌≤◌}
+use Prim.Native.Nat.{ℕ, ◌+◌, ◌<◌}
 use mathlib.Core.Path.{◌≡◌, refl}
 use mathlib.Core.List.{List, [], ◌∷◌, ◌++◌}
 use native.Mathlib.Omega.{arith}
 use native.Mathlib.Numerals.{add-one}
-use lib.ListN.{length, get_or, take, drop, length-take}
-use lib.Seq.{take-suc, length-take-le, drop-append-le, get_or-take}
+use lib.ListN.{length, get_or, take}
+use lib.Seq.{take-suc}
 use Rattle.text.specs.Text.{space, hex_pair, further_pairs, hex_pairs}
 
 pub hex_length : (b : ℕ) → length (hex_pair b) ≡ 2
