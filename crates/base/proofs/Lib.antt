@@ -1,6 +1,7 @@
 pub mod Tests
 pub mod Lowest
 pub mod Each
+pub mod FromFn
 pub mod Table
 pub mod Tabulate
 pub mod Cases
