@@ -1,5 +1,6 @@
 pub mod Tests
 pub mod Lowest
+pub mod Passing
 pub mod Each
 pub mod FromFn
 pub mod Table

@@ -2,11 +2,13 @@
 use Prim.Native.Nat.{ℕ, zero, suc, ◌<◌, ◌≤◌}
 use mathlib.Core.Path.{◌≡◌, refl}
 use mathlib.Core.Logic.{◌⊎◌, inl, inr, ⊎_elim}
-use mathlib.Core.Bool.{Bool, not}
+use mathlib.Core.Bool.{Bool, true, false, cond, not}
 use native.Mathlib.Omega.{arith}
 use native.Mathlib.Nat.{not-suc-le-zero, le_antisymm}
 use lib.Dec.{T, T_not, not_T, ltb, ltb→lt, nltb→le}
-use Rattle.base.specs.Lowest.{lowest}
+use Rattle.std.specs.Prelude.{None, Some}
+use Rattle.base.specs.Lowest.{lowest, first_below}
+use borrow.Author.Tests.{lt-ltb, le-ltb, ltb-true, ltb-false}
 use Rattle.base.proofs.Tests.{decide, cond_has, below_suc}
 
 pub lowest_le : (k : ℕ) (f : ℕ → Bool) → lowest k f ≤ k
@@ -67,3 +69,25 @@ pub lowest_cong : (k : ℕ) (f g : ℕ → Bool) → ((i : ℕ) → i < k → f 
 unfolding lowest
 lowest_cong zero f g h = refl
 lowest_cong (suc k) f g h = rw (lowest_cong k f g (λ i l. h i (omega arith)), h k (omega arith))
+
+-- what a search for the first number gives
+pub first_at : (k : ℕ) (f : ℕ → Bool) (i : ℕ) → i < k → T (f i) → ((j : ℕ) → j < i → T (not (f j))) → first_below k f ≡ Some i
+first_at k f i l t h = rw (lowest_at k f i l t h, lt-ltb i k l)
+
+pub first_none : (k : ℕ) (f : ℕ → Bool) → ((j : ℕ) → j < k → T (not (f j))) → first_below k f ≡ None
+first_none k f h = rw (lowest_none k f h, le-ltb k k (omega arith))
+
+-- and what it tells of the lowest
+by_some : (x k r : ℕ) (b : Bool) → ltb x k ≡ b → cond b (Some x) None ≡ Some r → (x ≡ r) × (x < k)
+by_some x k r true e s = (cc, ltb-true x k e)
+by_some x k r false e s = absurd cc
+
+pub some_lowest : (k : ℕ) (f : ℕ → Bool) (r : ℕ) → first_below k f ≡ Some r → (lowest k f ≡ r) × (lowest k f < k)
+some_lowest k f r e = by_some (lowest k f) k r (ltb (lowest k f) k) refl e
+
+by_no : (x k : ℕ) (b : Bool) → ltb x k ≡ b → cond b (Some x) None ≡ None → k ≤ x
+by_no x k true e s = absurd cc
+by_no x k false e s = ltb-false x k e
+
+pub none_lowest : (k : ℕ) (f : ℕ → Bool) → first_below k f ≡ None → k ≤ lowest k f
+none_lowest k f e = by_no (lowest k f) k (ltb (lowest k f) k) refl e

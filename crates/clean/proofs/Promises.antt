@@ -7,15 +7,14 @@ use native.Mathlib.Omega.{arith}
 use lib.Dec.{T, ltb}
 use lib.ListN.{length, take, drop}
 use Rattle.base.specs.declared.Refusal.{Refusal}
-use Rattle.base.specs.declared.Verdict.TheVariants.{Refused}
-use Rattle.base.specs.declared.Written.TheVariants.{Refused as NotWritten}
+use Rattle.std.specs.Prelude.{Result, Ok, Err}
 use Rattle.base.specs.Cases.{Case, accepting, accepted_outcome, is_refused, written_case}
 use Rattle.base.specs.Refusals.{empty, short_buffer}
 use Rattle.base.specs.Buffers.{fitted, buffer_with}
 use Rattle.base.proofs.Buffers.{fitted_room, front_written}
 use Rattle.base.proofs.Tests.{cond_has}
 use Rattle.sheet.specs.declared.Command.{Command}
-use Rattle.sheet.specs.declared.Reply.{Reply}
+use Rattle.sheet.specs.declared.Sheet.{Sheet}
 use Rattle.sheet.specs.Cases.{sheet_reply}
 use Rattle.sheet.specs.Gathered.{gathered}
 use Rattle.sheet.specs.Judged.{Reading, holds, refused}
@@ -123,19 +122,19 @@ clean_promised sheet buffer = record {
     copied (refused f) e h = absurd h
     copied (holds cs) e h = subst (CleanCopy sheet) (sym (front_written (copy_bytes (gathered cs)) buffer h)) (clean_copy sheet cs e)
 
--- what the two arms of `clean` leave
-module _ (sheet buffer : List ℕ) (r : Reply) (e : sheet_reply r ≡ reply_told (reading_of sheet)) where
-  pub refused_cleaned : (f : Refusal) → r.answer ≡ Refused f
-      → (written_case (NotWritten f) ≡ cleaned_of sheet (length buffer)) × (buffer ≡ buffer_cleaned sheet buffer)
+-- what `clean` leaves where reading refuses, and where the copy is written
+module _ (sheet buffer : List ℕ) where
+  pub refused_cleaned : (f : Refusal) → sheet_reply (Err f) ≡ reply_told (reading_of sheet)
+      → (written_case (Err f) ≡ cleaned_of sheet (length buffer)) × (buffer ≡ buffer_cleaned sheet buffer)
   unfolding cleaned_of cleaned_from buffer_cleaned buffer_cleaned_from
-  refused_cleaned f a = let x = refused_reply_lem r (reading_of sheet) e f a in (rw x, rw x)
+  refused_cleaned f e = let x = refused_reply_lem f (reading_of sheet) e in (rw x, rw x)
 
-  pub written_cleaned : (own : WasRead r.sheet) → own.bytes ≡ sheet → {c : Case} {after : List ℕ}
-      → (c ≡ fitted (copy_bytes r.sheet) (length buffer))
-      × (after ≡ buffer_with (copy_bytes r.sheet) buffer (fitted (copy_bytes r.sheet) (length buffer)))
+  pub written_cleaned : (read : Sheet) (own : WasRead read) → own.bytes ≡ sheet → {c : Case} {after : List ℕ}
+      → (c ≡ fitted (copy_bytes read) (length buffer))
+      × (after ≡ buffer_with (copy_bytes read) buffer (fitted (copy_bytes read) (length buffer)))
       → (c ≡ cleaned_of sheet (length buffer)) × (after ≡ buffer_cleaned sheet buffer)
   unfolding cleaned_of cleaned_from buffer_cleaned buffer_cleaned_from
-  written_cleaned own same h =
+  written_cleaned read own same h =
       let held : reading_of sheet ≡ holds own.commands = ap reading_of (sym same) ∙ own.held in
       rw held (rw own.gathers at h)
 

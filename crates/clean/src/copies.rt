@@ -8,19 +8,19 @@ ghost use Rattle.clean.specs.Copy.{copy_bytes};
 
 use crate::lengths::copy_length;
 use crate::sections::put_copy;
-use base::{Refusal, Written};
+use base::Refusal;
 use sheet::Sheet;
 
 // Writes the copy, unless the buffer is too short.
-pub fn write_copy(sheet: Sheet, buffer: &mut [u8]) -> Written
+pub fn write_copy(sheet: Sheet, buffer: &mut [u8]) -> Result<usize, Refusal>
     requires { WasRead sheet }
     ensures { (written_case result ≡ fitted (copy_bytes sheet) (length buffer.old))
         × (buffer.new ≡ buffer_with (copy_bytes sheet) buffer.old (fitted (copy_bytes sheet) (length buffer.old))) }
 {
     let length = copy_length(sheet);
     if buffer.len() < length {
-        return Written::Refused(Refusal::at(Refusal::SHORT_BUFFER, length));
+        return Err(Refusal::at(Refusal::SHORT_BUFFER, length));
     }
     put_copy(buffer, sheet);
-    Written::Length(length)
+    Ok(length)
 }

@@ -6,7 +6,7 @@ ghost use Rattle.base.specs.Cases.{written_case};
 ghost use Rattle.clean.specs.Cleaned.{cleaned_of, buffer_cleaned};
 ghost use Rattle.clean.specs.CleanCopy.{CleanPromise};
 
-use base::{Verdict, Written};
+use base::Refusal;
 use copies::write_copy;
 use reader::read_sheet;
 
@@ -17,18 +17,11 @@ mod sections; // the commands of a copy, section by section
 pub use lengths::LONGEST_COPY;
 
 // Reads a sheet and writes its clean copy to the front of the buffer; what is behind the copy is left alone, and a refusal leaves every byte.
-pub fn clean(sheet: &[u8], buffer: &mut [u8]) -> Written
+pub fn clean(sheet: &[u8], buffer: &mut [u8]) -> Result<usize, Refusal>
     ensures reply { written_case result ≡ cleaned_of sheet.now (length buffer.old) }
     ensures bytes { buffer.new ≡ buffer_cleaned sheet.now buffer.old }
     ensures copy { CleanPromise sheet.now (written_case result) buffer.new }
 {
-    let reply = read_sheet(sheet);
-    let answer = reply.answer;
-    match answer {
-        Verdict::Accepted => {
-            let gathered = reply.sheet;
-            write_copy(gathered, buffer)
-        }
-        Verdict::Refused(refusal) => Written::Refused(refusal),
-    }
+    let gathered = read_sheet(sheet)?;
+    write_copy(gathered, buffer)
 }

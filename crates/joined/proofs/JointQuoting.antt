@@ -21,8 +21,8 @@ use Rattle.reader.specs.Reading.{reading_of}
 use Rattle.reader.proofs.Sound.{sound}
 use Rattle.unit.specs.Formed.{relation_in}
 use Rattle.quote.specs.Audit.{sizes_apart}
-use Rattle.quote.specs.Cases.{QuoteReply}
-use Rattle.quote.specs.Quote.{no_quote, searched, buffer_searched}
+use Rattle.quote.specs.Cases.{QuoteReply, no_quote}
+use Rattle.quote.specs.Quote.{searched, buffer_searched}
 use Rattle.quote.proofs.Quoting.{searched_refused}
 use Rattle.joined.specs.Inner.Both.{both_quoted, both_buffer}
 use Rattle.joined.specs.Joint.{as_second, are_sized, quoted_as_second, joint_quoted, joint_buffer}

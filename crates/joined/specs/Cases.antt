@@ -1,20 +1,18 @@
--- The cases of a joint quote as numbers: those of a quote, with the sheet that is refused told by the outcome; and its reply told by them.
-use Rattle.std.specs.Prelude.{cond}
-use Rattle.base.specs.Cases.{Case, accepting, refusing, is_refused, refused_outcome, second_refused_outcome}
-use Rattle.branch_bound.specs.Reply.{best_outcome, stopped_outcome}
-use Rattle.quote.specs.Cases.{QuoteReply}
-use Rattle.joined.specs.declared.JointMark.{JointMark}
-use Rattle.joined.specs.declared.JointMark.TheVariants.{Best, Stopped, FirstRefused, SecondRefused}
-use Rattle.joined.specs.declared.JointQuoted.{JointQuoted}
+-- The cases of a joint quote's refusal as numbers, with the sheet that is refused told by the outcome; and its reply told by them.
+use Rattle.std.specs.Prelude.{cond, Result, Ok, Err}
+use Rattle.base.specs.Cases.{Case, refusing, is_refused, refused_outcome, second_refused_outcome}
+use Rattle.quote.specs.declared.Quoted.{Quoted}
+use Rattle.quote.specs.Cases.{QuoteReply, quoted_told, no_quote}
+use Rattle.joined.specs.declared.JointRefusal.{JointRefusal}
+use Rattle.joined.specs.declared.JointRefusal.TheVariants.{First, Second}
 
-abbrev pub joint_case : JointMark → Case
-joint_case Best = accepting best_outcome 0
-joint_case Stopped = accepting stopped_outcome 0
-joint_case (FirstRefused f) = refusing refused_outcome f
-joint_case (SecondRefused f) = refusing second_refused_outcome f
+abbrev pub joint_case : JointRefusal → Case
+joint_case (First f) = refusing refused_outcome f
+joint_case (Second f) = refusing second_refused_outcome f
 
-abbrev pub joint_reply : JointQuoted → QuoteReply
-joint_reply q = record { cells = q.cells; floor = q.floor; visits = q.visits; length = q.length; mark = joint_case q.mark }
+abbrev pub joint_reply : Result Quoted JointRefusal → QuoteReply
+joint_reply (Ok q) = quoted_told q
+joint_reply (Err f) = no_quote (joint_case f)
 
 -- the same with no sheet named: a refusal of either is told as that of a quote
 abbrev pub unnamed_case : Case → Case

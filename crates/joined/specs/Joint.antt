@@ -14,8 +14,8 @@ use Rattle.reader.specs.Reading.{reading_of}
 use Rattle.unit.specs.Cases.{FormedReply}
 use Rattle.unit.specs.Formed.{relation_in, no_relation, turned_away}
 use Rattle.unit.specs.Relation.{unit_relation}
-use Rattle.quote.specs.Cases.{QuoteReply}
-use Rattle.quote.specs.Quote.{no_quote, searched, buffer_searched}
+use Rattle.quote.specs.Cases.{QuoteReply, no_quote}
+use Rattle.quote.specs.Quote.{searched, buffer_searched}
 
 -- a refusal of the second sheet, which leaves no relation
 abbrev pub second_turned_away : Refusal → FormedReply

@@ -35,8 +35,7 @@ use Rattle.table.specs.Drawing.{got, drawn_table, drawn_value}
 use Rattle.stage.specs.Reply.{stage_tables, reply_to_stage}
 use Rattle.stage_reader.proofs.Replies.{told_refused, Got, told_got}
 use Rattle.stage.proofs.Sheets.{accepted}
-use Rattle.base.specs.declared.Verdict.TheVariants.{Accepted, Refused}
-use Rattle.unit.specs.declared.Formed.{Formed}
+use Rattle.std.specs.Prelude.{Result, Ok, Err}
 use Rattle.unit.specs.Cases.{formed_reply}
 use Rattle.unit.specs.Formed.{formed_of}
 use Rattle.quote.specs.Cases.{fits_outcome, differs_outcome}
@@ -78,15 +77,15 @@ module _ (kind : BoardKind) where
       ap₂ (λ w v. eqb (bit w v) 1) (sym (get_or-take (2 ^ r.n) r.sets p 0 l))
       (value_drawn r.n stage (few_lines kind r.n st.sizes.n_most) (omega (arith, st.one_each, st.sizes.m_most)) st.formed p l))
 
-module _ (kind : BoardKind) (r : Relation) (bytes : List ℕ) (rd : StageRead)
-    (e : stage_reply rd ≡ reply_to_stage (drawing_of kind) (read_sheet (form_of kind) bytes)) where
-  pub stage_refused : (f : Refusal) → rd.answer ≡ Refused f → refusing second_refused_outcome f ≡ audited_stage (drawing_of kind) r (read_sheet (form_of kind) bytes)
+module _ (kind : BoardKind) (r : Relation) (bytes : List ℕ) where
+  pub stage_refused : (f : Refusal) → stage_reply (Err f) ≡ reply_to_stage (drawing_of kind) (read_sheet (form_of kind) bytes)
+      → refusing second_refused_outcome f ≡ audited_stage (drawing_of kind) r (read_sheet (form_of kind) bytes)
   unfolding audited_stage
-  stage_refused f h = rw (told_refused (drawing_of kind) (read_sheet (form_of kind) bytes) rd e f h)
+  stage_refused f e = rw (told_refused (drawing_of kind) (read_sheet (form_of kind) bytes) f e)
 
-  module _ (h : rd.answer ≡ Accepted) where
-    g : Got (drawing_of kind) (read_sheet (form_of kind) bytes) rd e
-    g = told_got (drawing_of kind) (read_sheet (form_of kind) bytes) rd e h
+  module _ (rd : StageRead) (e : stage_reply (Ok rd) ≡ reply_to_stage (drawing_of kind) (read_sheet (form_of kind) bytes)) where
+    g : Got (drawing_of kind) (read_sheet (form_of kind) bytes) rd
+    g = told_got (drawing_of kind) (read_sheet (form_of kind) bytes) rd e
 
     pub inputs_differ : (rd.n ≡ r.n → ⊥) → sizes_apart ≡ audited_stage (drawing_of kind) r (read_sheet (form_of kind) bytes)
     unfolding audited_stage
@@ -111,11 +110,11 @@ module _ (kind : BoardKind) (r : Relation) (bytes : List ℕ) (rd : StageRead)
         ap (λ c. cond b (accepting fits_outcome c) (accepting differs_outcome c)) g.cells ∙ rw (is, eq-eqb r.n r.n refl, eq-eqb rd.m r.m em, ← k)
 
 -- the whole audit, from what forming the relation gave
-module _ (kind : BoardKind) (sheet stage : List ℕ) (f : Formed) (ef : formed_reply f ≡ formed_of sheet) where
-  pub formed_audit : f.answer ≡ Accepted → audited_stage (drawing_of kind) f.relation (read_sheet (form_of kind) stage) ≡ audited_of kind sheet stage
+module _ (kind : BoardKind) (sheet stage : List ℕ) where
+  pub formed_audit : (r : Relation) → formed_reply (Ok r) ≡ formed_of sheet → audited_stage (drawing_of kind) r (read_sheet (form_of kind) stage) ≡ audited_of kind sheet stage
   unfolding audited_of audited_from
-  formed_audit h = rw (← ef, h)
+  formed_audit r ef = rw ← ef
 
-  pub turned_audit : (x : Refusal) → f.answer ≡ Refused x → refusing refused_outcome x ≡ audited_of kind sheet stage
+  pub turned_audit : (x : Refusal) → formed_reply (Err x) ≡ formed_of sheet → refusing refused_outcome x ≡ audited_of kind sheet stage
   unfolding audited_of audited_from
-  turned_audit x h = rw (← ef, h)
+  turned_audit x ef = rw ← ef

@@ -10,11 +10,7 @@ use Rattle.branch_bound.specs.Reply.{SearchReply, search_of}
 use Rattle.diagram.specs.Forms.{form_of}
 use Rattle.stage.specs.Written.{written_of, buffer_after}
 use Rattle.unit.specs.Formed.{formed_of}
-use Rattle.quote.specs.Cases.{QuoteReply}
-
--- every number of a refused quote but its refusal's is 0
-abbrev pub no_quote : Case → QuoteReply
-no_quote c = record { cells = zero; floor = zero; visits = zero; length = zero; mark = c }
+use Rattle.quote.specs.Cases.{QuoteReply, no_quote}
 
 -- the reply of the search with the length of the stage written, unless the writer refuses
 unfoldable pub with_stage : SearchReply → Case → QuoteReply

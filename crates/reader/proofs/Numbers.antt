@@ -9,8 +9,7 @@ use Rattle.base.specs.declared.Refusal.{Refusal}
 use Rattle.base.proofs.Tests.{cond_has}
 use Rattle.sheet.specs.declared.Command.{Command}
 use Rattle.reader.specs.declared.Reader.{Reader}
-use Rattle.reader.specs.declared.Step.{Step}
-use Rattle.reader.specs.declared.Step.TheVariants.{Read, Refused}
+use Rattle.std.specs.Prelude.{Result, Ok, Err}
 use Rattle.sheet.specs.Commands.{inputs_of}
 use Rattle.reader.specs.Reader.{width_of, command_of, is_out_of_turn, is_out_of_range, next_of, reader_at}
 use Rattle.sheet.specs.Judged.{Reading, holds, is_not_made, is_repeated, is_too_many, judged, missing, ending, refused}
@@ -21,9 +20,9 @@ abbrev Early : Reading → Type 0
 Early (holds cs) = Unit {0}
 Early (refused f) = f.number ≤ 9
 
-abbrev EarlyStep : Step → Type 0
-EarlyStep (Read c r) = Unit {0}
-EarlyStep (Refused f) = f.number ≤ 9
+abbrev EarlyStep : Result (Command × Reader) Refusal → Type 0
+EarlyStep (Ok (c, r)) = Unit {0}
+EarlyStep (Err f) = f.number ≤ 9
 
 abbrev EarlyPassage : Passage → Type 0
 EarlyPassage (over x) = Early x
@@ -55,9 +54,9 @@ onward_early : (s : List ℕ) (c : Command) (to : ℕ) (x : Reading) → Early x
 onward_early s c to (refused f) e = e
 onward_early s c to (holds cs) e = cond_has EarlyPassage (is_end c) (λ _. ending_early s to cs) (λ _. tt)
 
-step_early : (s : List ℕ) (at : ℕ) (before : List Command) (x : Step) → EarlyStep x → EarlyPassage (after_step s at before x)
-step_early s at before (Refused f) e = e
-step_early s at before (Read c r) e = onward_early s c r.at (judged before c at) (judged_early before c at)
+step_early : (s : List ℕ) (at : ℕ) (before : List Command) (x : Result (Command × Reader) Refusal) → EarlyStep x → EarlyPassage (after_step s at before x)
+step_early s at before (Err f) e = e
+step_early s at before (Ok (c, r)) e = onward_early s c r.at (judged before c at) (judged_early before c at)
 
 one_early : (s : List ℕ) (at : ℕ) (before : List Command) → EarlyPassage (one_command s at before)
 unfolding one_command

@@ -11,8 +11,8 @@ use Rattle.base.proofs.Tests.{cond_has, test_yes, test_no, not_not}
 use Rattle.base.proofs.Lowest.{lowest_below}
 use Rattle.sheet.specs.declared.Command.{Command}
 use Rattle.reader.specs.declared.Reader.{Reader}
-use Rattle.reader.specs.declared.Step.{Step}
-use Rattle.reader.specs.declared.Step.TheVariants.{Read, Refused as StepRefused}
+use Rattle.std.specs.Prelude.{Result, Ok, Err}
+use Rattle.base.specs.declared.Refusal.{Refusal}
 use Rattle.sheet.specs.Commands.{is_empty, is_sizes, inputs_of, is_marked, wires_of}
 use Rattle.reader.specs.Reader.{is_out_of_range, reader_at, next_of}
 use Rattle.sheet.specs.Judged.{Reading, holds, is_not_made, is_repeated, is_too_many, judged, missing, ending, refused}
@@ -81,9 +81,9 @@ pub passage_tells : (s : List ℕ) (at : ℕ) (before : List Command) → Passag
 unfolding one_command
 passage_tells s at before = go (next_of s (reader_at at before)) (next_tells s (reader_at at before))
   where
-    go : (x : Step) → StepTells s (reader_at at before) x → PassageTells s at before (after_step s at before x)
-    go (Read c t) b = onward_tells s at before c t (judged before c at) b (judged_tells before c at)
-    go (StepRefused f) b = tt
+    go : (x : Result (Command × Reader) Refusal) → StepTells s (reader_at at before) x → PassageTells s at before (after_step s at before x)
+    go (Ok (c, t)) b = onward_tells s at before c t (judged before c at) b (judged_tells before c at)
+    go (Err f) b = tt
 
 some : (before cs : List Command) → Grown before cs → is_empty cs ≡ false
 some [] cs (grown c o) = refl

@@ -16,7 +16,7 @@ use Rattle.sheet.specs.Bytes.{command_bytes, bytes_of}
 use Rattle.sheet.specs.Commands.{is_empty, collect, is_sizes, inputs_of, is_marked}
 use Rattle.sheet.specs.Judged.{holds, judged, missing, ending}
 use Rattle.sheet.proofs.Lists.{collect_snoc}
-use Rattle.reader.specs.declared.Step.TheVariants.{Read}
+use Rattle.std.specs.Prelude.{Ok}
 use Rattle.reader.specs.Reader.{width_of, command_of, reader_at, moved_past, next_of}
 use Rattle.reader.specs.Reading.{is_end, onward, one_command, continued, reading_of}
 use Rattle.reader.proofs.Passages.{InOrder, Complete}
@@ -35,7 +35,7 @@ module _ (x : List ℕ) (before : List Command) where
   -- the command whose first byte b stands after x, with its operands at the front of ys
   reads : (c : Command) (b : ℕ) (ys : List ℕ) → command_of b (get_or ys 0 0) (get_or ys 1 0) (get_or ys 2 0) ≡ c → is_sizes c ≡ eqb b 1
       → eqb (width_of b) 0 ≡ false → width_of b ≤ suc (length ys) → InOrder before c
-      → next_of (x ++ b ∷ ys) (reader_at (length x) before) ≡ Read c (moved_past (reader_at (length x) before) c (length x + width_of b))
+      → next_of (x ++ b ∷ ys) (reader_at (length x) before) ≡ Ok (c, (moved_past (reader_at (length x) before) c (length x + width_of b)))
   unfolding next_of
   reads c b ys e t w l o =
       let len : length (x ++ b ∷ ys) ≡ length x + suc (length ys) = length-append x (b ∷ ys) in
@@ -49,7 +49,7 @@ module _ (x : List ℕ) (before : List Command) where
 
   next_back : (c : Command) (q : List ℕ) → InOrder before c
       → next_of (x ++ (command_bytes c ++ q)) (reader_at (length x) before)
-      ≡ Read c (moved_past (reader_at (length x) before) c (length x + length (command_bytes c)))
+      ≡ Ok (c, (moved_past (reader_at (length x) before) c (length x + length (command_bytes c))))
   next_back End q o = reads End 0 q refl refl refl (omega arith) o
   next_back (Sizes n m) q o = reads (Sizes n m) 1 (n ∷ m ∷ q) refl refl refl (omega arith) o
   next_back (Row p v) q o = reads (Row p v) 2 (p ∷ v ∷ q) refl refl refl (omega arith) o

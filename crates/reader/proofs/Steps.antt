@@ -11,10 +11,10 @@ use Rattle.base.proofs.Tests.{cond_has, test_yes, test_no}
 use Rattle.sheet.specs.declared.Command.{Command}
 use Rattle.sheet.specs.declared.Command.TheVariants.{End, Sizes, Row, DontCare, Gate, Output, Limit}
 use Rattle.reader.specs.declared.Reader.{Reader}
-use Rattle.reader.specs.declared.Step.{Step}
-use Rattle.reader.specs.declared.Step.TheVariants.{Read, Refused}
+use Rattle.std.specs.Prelude.{Some, None, Result, Ok, Err}
+use Rattle.base.specs.declared.Refusal.{Refusal}
 use Rattle.sheet.specs.Commands.{is_empty, collect, is_sizes, inputs_in, wires_in}
-use Rattle.reader.specs.Reader.{width_of, command_of, is_out_of_turn, is_out_of_range, reader_at, moved_past, next_of}
+use Rattle.reader.specs.Reader.{width_known, width_of, command_of, is_out_of_turn, is_out_of_range, reader_at, moved_past, next_of}
 use Rattle.sheet.proofs.Lists.{collect_snoc, is_empty_nil, is_empty_append}
 
 -- the command c with the reader t moved past it, handed back by the reader r
@@ -25,9 +25,24 @@ pub record HandedBack (s : List ℕ) (r : Reader) (c : Command) (t : Reader) : T
   pub ahead : r.at < t.at
   pub within : t.at ≤ length s
 
-abbrev pub StepTells : List ℕ → Reader → Step → Type 0
-StepTells s r (Read c t) = HandedBack s r c t
-StepTells s r (Refused f) = Unit
+abbrev pub StepTells : List ℕ → Reader → Result (Command × Reader) Refusal → Type 0
+StepTells s r (Ok (c, t)) = HandedBack s r c t
+StepTells s r (Err f) = Unit
+
+-- what the width of a command tells of its first byte
+by_width : (x w : ℕ) (b : Bool) → eqb x 0 ≡ b → cond b None (Some x) ≡ Some w → (eqb w 0 ≡ false) × (x ≡ w)
+by_width x w true e s = absurd cc
+by_width x w false e s = let same : x ≡ w = cc in (rw (sym same) e, same)
+
+pub known_width : (b w : ℕ) → width_known b ≡ Some w → (eqb w 0 ≡ false) × (width_of b ≡ w)
+known_width b w e = by_width (width_of b) w (eqb (width_of b) 0) refl e
+
+by_none : (x : ℕ) (b : Bool) → eqb x 0 ≡ b → cond b None (Some x) ≡ None → eqb x 0 ≡ true
+by_none x true e s = e
+by_none x false e s = absurd cc
+
+pub unknown_width : (b : ℕ) → width_known b ≡ None → eqb (width_of b) 0 ≡ true
+unknown_width b e = by_none (width_of b) (eqb (width_of b) 0) refl e
 
 -- 01 is the command that names sizes
 sizes_byte : (b x y z : ℕ) → is_sizes (command_of b x y z) ≡ eqb b 1
@@ -79,7 +94,7 @@ next_tells s r =
     bounded : (at w k : ℕ) → at < k → w ≤ k - at → at + w ≤ k
     bounded at w k h l = omega arith
 
-pub handed_back : (s : List ℕ) (r : Reader) (c : Command) (t : Reader) → next_of s r ≡ Read c t → HandedBack s r c t
+pub handed_back : (s : List ℕ) (r : Reader) (c : Command) (t : Reader) → next_of s r ≡ Ok (c, t) → HandedBack s r c t
 handed_back s r c t e = subst (StepTells s r) e (next_tells s r)
 
 plain : (at to : ℕ) (before : List Command) (c : Command) → inputs_in c ≡ [] → wires_in c ≡ [] → is_empty before ≡ false

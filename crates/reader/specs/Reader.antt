@@ -4,8 +4,8 @@ use Rattle.base.specs.Refusals.{refusal_at, cut_short, unknown, out_of_turn, out
 use Rattle.sheet.specs.declared.Command.{Command}
 use Rattle.sheet.specs.declared.Command.TheVariants.{End, Sizes, Row, DontCare, Gate, Output, Limit}
 use Rattle.reader.specs.declared.Reader.{Reader}
-use Rattle.reader.specs.declared.Step.{Step}
-use Rattle.reader.specs.declared.Step.TheVariants.{Read, Refused}
+use Rattle.std.specs.Prelude.{Option, Some, None, Result, Ok, Err}
+use Rattle.base.specs.declared.Refusal.{Refusal}
 use Rattle.sheet.specs.Limits.{max_inputs, sizes_out, is_beyond}
 use Rattle.sheet.specs.Commands.{is_empty, is_sizes, inputs_in, wires_in, inputs_of, wires_of}
 
@@ -19,6 +19,10 @@ width_of b =
     (cond (eqb b 4) 4
     (cond (eqb b 5) 2
     (cond (eqb b 6) 4 0))))))
+
+-- the same where the first byte is known
+abbrev pub width_known : ℕ → Option ℕ
+width_known b = cond (eqb (width_of b) 0) None (Some (width_of b))
 
 -- the command that starts with b, a known byte, and has the operand bytes x y z, as many as it needs; the set of 06 takes two, the lower first
 abbrev pub command_of : ℕ → ℕ → ℕ → ℕ → Command
@@ -57,12 +61,12 @@ reader_at at cs = record { at = at; started = not (is_empty cs); n = inputs_of c
 abbrev pub moved_past : Reader → Command → ℕ → Reader
 moved_past r c to = record { at = to; started = is_sizes c || r.started; n = get_or (inputs_in c) 0 r.n; m = get_or (wires_in c) 0 r.m }
 
-abbrev pub step_refused : ℕ → ℕ → Step
-step_refused number at = Refused (refusal_at number at)
+abbrev pub step_refused : ℕ → ℕ → Result (Command × Reader) Refusal
+step_refused number at = Err (refusal_at number at)
 
 -- One command (document 01, "Refusals"): what can be refused without the commands before, in the document's order, at the command's own place; else the
 -- command and the reader after it. What the commands before refuse comes after (`judged`).
-unfoldable pub next_of : List ℕ → Reader → Step
+unfoldable pub next_of : List ℕ → Reader → Result (Command × Reader) Refusal
 next_of s r =
     let at = r.at in
     let b = get_or s at 0 in
@@ -72,4 +76,4 @@ next_of s r =
     (cond (is_out_of_turn r.started b) (step_refused out_of_turn at)
     (cond (ltb (length s - at) (width_of b)) (step_refused cut_short at)
     (cond (is_out_of_range r.n r.m c) (step_refused out_of_range at)
-    (Read c (moved_past r c (at + width_of b)))))))
+    (Ok (c, moved_past r c (at + width_of b)))))))

@@ -7,8 +7,9 @@ use Rattle.sheet.specs.declared.Command.TheVariants.{End, Sizes, Row, DontCare, 
 use Rattle.sheet.specs.Cases.{SheetReply}
 use Rattle.sheet.specs.Gathered.{gathered}
 use Rattle.sheet.specs.Judged.{Reading, holds, refused, judged, ending}
-use Rattle.reader.specs.declared.Step.{Step}
-use Rattle.reader.specs.declared.Step.TheVariants.{Read, Refused as StepRefused}
+use Rattle.std.specs.Prelude.{Result, Ok, Err}
+use Rattle.base.specs.declared.Refusal.{Refusal}
+use Rattle.reader.specs.declared.Reader.{Reader}
 use Rattle.reader.specs.Reader.{reader_at, next_of}
 
 abbrev pub is_end : Command → Bool
@@ -29,9 +30,9 @@ abbrev pub onward : List ℕ → Command → ℕ → Reading → Passage
 onward s c to (refused f) = over (refused f)
 onward s c to (holds cs) = cond (is_end c) (over (ending s to cs)) (on cs to)
 
-abbrev pub after_step : List ℕ → ℕ → List Command → Step → Passage
-after_step s at before (StepRefused f) = over (refused f)
-after_step s at before (Read c r) = onward s c r.at (judged before c at)
+abbrev pub after_step : List ℕ → ℕ → List Command → Result (Command × Reader) Refusal → Passage
+after_step s at before (Err f) = over (refused f)
+after_step s at before (Ok (c, r)) = onward s c r.at (judged before c at)
 
 -- the command at a place: what the reader refuses, then what the state does; behind 00 also what the end does
 unfoldable pub one_command : List ℕ → ℕ → List Command → Passage

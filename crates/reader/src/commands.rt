@@ -1,26 +1,26 @@
 // The reader of a unit sheet, by value: one call reads one command and gives the reader that stands behind it.
 ghost use Rattle.std.specs.Prelude.{◌≡◌, ◌+◌, ◌*◌, ◌^◌, [], ◌||◌};
-ghost use Rattle.reader.specs.Reader.{width_of, command_of, is_out_of_turn, is_out_of_range, reader_at, moved_past, step_refused, next_of};
+ghost use Rattle.reader.specs.Reader.{width_known, command_of, is_out_of_turn, is_out_of_range, reader_at, moved_past, next_of};
 ghost use Rattle.sheet.specs.Limits.{is_beyond};
 
-use crate::{Reader, Step};
+use crate::Reader;
 use base::Refusal;
 use sheet::limits::{beyond, bits_past, sizes_out};
 use sheet::{Command, Sheet};
 
-// The bytes of a command, its first included; 0 for an unknown first byte.
-fn width(b: u8) -> usize
-    ensures { result ≡ width_of b }
+// The bytes of a command, its first included; none for an unknown first byte.
+fn width(b: u8) -> Option<usize>
+    ensures { result ≡ width_known b }
 {
     match b {
-        0x00 => 1,
-        0x01 => 3,
-        0x02 => 3,
-        0x03 => 2,
-        0x04 => 4,
-        0x05 => 2,
-        0x06 => 4,
-        _ => 0,
+        0x00 => Some(1),
+        0x01 => Some(3),
+        0x02 => Some(3),
+        0x03 => Some(2),
+        0x04 => Some(4),
+        0x05 => Some(2),
+        0x06 => Some(4),
+        _ => None,
     }
 }
 
@@ -28,7 +28,7 @@ fn width(b: u8) -> usize
 fn word(low: u8, high: u8) -> u16
     ensures { result ≡ low + 256 * high }
 {
-    (low as u16) + 256 * (high as u16)
+    u16::from_le_bytes([low, high])
 }
 
 // The command with a known first byte b and operands x, y, z, as many as it has.
@@ -57,28 +57,14 @@ fn command(b: u8, x: u8, y: u8, z: u8) -> Command
 fn row_out(n: u8, m: u8, p: u8, v: u8) -> bool
     ensures { result ≡ is_beyond n p || is_beyond m v }
 {
-    if beyond(n, p as u16) {
-        true
-    } else {
-        beyond(m, v as u16)
-    }
+    beyond(n, p as u16) || beyond(m, v as u16)
 }
 
 // A pattern or a set outside its range.
 fn limit_out(n: u8, m: u8, p: u8, set: u16) -> bool
     ensures { result ≡ is_beyond n p || is_beyond (2 ^ m) set }
 {
-    if beyond(n, p as u16) {
-        true
-    } else {
-        bits_past(m, set)
-    }
-}
-
-fn refused(number: u8, place: usize) -> Step
-    ensures { result ≡ step_refused number place }
-{
-    Step::Refused(Refusal::at(number, place))
+    beyond(n, p as u16) || bits_past(m, set)
 }
 
 impl Reader {
@@ -135,23 +121,22 @@ impl Reader {
     }
 
     // One command: 1 where the bytes are spent, then the tests of document 01's "Refusals" in their order.
-    pub fn next(self, s: &[u8]) -> Step
+    pub fn next(self, s: &[u8]) -> Result<(Command, Reader), Refusal>
         ensures { result ≡ next_of s.now self }
     {
         let at = self.at;
         if s.len() <= at {
-            return refused(Refusal::CUT_SHORT, at);
+            return Err(Refusal::at(Refusal::CUT_SHORT, at));
         }
         let b = s[at];
-        let w = width(b);
-        if w == 0 {
-            return refused(Refusal::UNKNOWN, at);
-        }
+        let Some(w) = width(b) else {
+            return Err(Refusal::at(Refusal::UNKNOWN, at));
+        };
         if self.out_of_turn(b) {
-            return refused(Refusal::OUT_OF_TURN, at);
+            return Err(Refusal::at(Refusal::OUT_OF_TURN, at));
         }
         if s.len() - at < w {
-            return refused(Refusal::CUT_SHORT, at);
+            return Err(Refusal::at(Refusal::CUT_SHORT, at));
         }
         let c = command(
             b,
@@ -160,8 +145,8 @@ impl Reader {
             base::byte_at(s, at + 3),
         );
         if self.out_of_range(c) {
-            return refused(Refusal::OUT_OF_RANGE, at);
+            return Err(Refusal::at(Refusal::OUT_OF_RANGE, at));
         }
-        Step::Read(c, self.moved_past(c, at + w))
+        Ok((c, self.moved_past(c, at + w)))
     }
 }

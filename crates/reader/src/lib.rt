@@ -5,10 +5,10 @@ ghost use Rattle.std.specs.Prelude.{◌≡◌, ◌≤◌};
 ghost use Rattle.sheet.specs.Limits.{max_inputs};
 ghost use Rattle.sheet.specs.Cases.{sheet_reply};
 ghost use Rattle.reader.specs.Reading.{reading_of, reply_told, is_end};
-ghost use Rattle.reader.specs.Inner.Turns.{done_with, Follows, Turns};
+ghost use Rattle.reader.specs.Inner.Turns.{Follows, Turns};
 
-use base::{Refusal, Verdict};
-use sheet::{Command, Reply, Sheet};
+use base::Refusal;
+use sheet::{Command, Sheet};
 
 mod commands; // one command at a place, and the reader behind it
 
@@ -21,111 +21,61 @@ pub struct Reader {
     pub m: u8,
 }
 
-// What reading one command gives.
-#[derive(Clone, Copy)]
-pub enum Step {
-    Read(Command, Reader),
-    Refused(Refusal),
-}
-
-// Where one command leads: on with the moved reader, or to the verdict.
-#[derive(Clone, Copy)]
-enum Progress {
-    On(Reader),
-    Done(Verdict),
-}
-
+// The sheet with one command more, and the reader behind the command; none behind the end, where the sheet is whole.
 #[derive(Clone, Copy)]
 struct Turn {
     sheet: Sheet,
-    progress: Progress,
+    next: Option<Reader>,
 }
 
 fn is_end(c: Command) -> bool
     ensures { result ≡ is_end c }
 {
-    match c {
-        Command::End => true,
-        Command::Sizes { n: _, m: _ } => false,
-        Command::Row { p: _, v: _ } => false,
-        Command::DontCare { p: _ } => false,
-        Command::Gate {
-            kind: _,
-            a: _,
-            b: _,
-        } => false,
-        Command::Output { s: _ } => false,
-        Command::Limit { p: _, set: _ } => false,
-    }
+    matches!(c, Command::End)
 }
 
-// The reading is over with this reply.
-fn done(reply: Reply) -> Turn
-    ensures { result ≡ done_with reply }
+// A command was gathered: on with the next one, unless it was the end.
+fn lead_on(sheet: Sheet, c: Command, next: Reader, len: usize) -> Result<Turn, Refusal>
+    ensures { Follows sheet c next len result }
 {
-    let sheet = reply.sheet;
-    let answer = reply.answer;
-    Turn {
+    if is_end(c) {
+        let whole = sheet.finish(next.at, len)?;
+        return Ok(Turn {
+            sheet: whole,
+            next: None,
+        });
+    }
+    Ok(Turn {
         sheet,
-        progress: Progress::Done(answer),
-    }
-}
-
-// A command was judged: on with the next one, unless it was refused or was the end.
-fn lead_on(reply: Reply, c: Command, next: Reader, len: usize) -> Turn
-    ensures { Follows reply c next len result }
-{
-    let sheet = reply.sheet;
-    let answer = reply.answer;
-    match answer {
-        Verdict::Accepted => {
-            if is_end(c) {
-                done(sheet.finish(next.at, len))
-            } else {
-                Turn {
-                    sheet,
-                    progress: Progress::On(next),
-                }
-            }
-        }
-        Verdict::Refused(f) => Turn {
-            sheet,
-            progress: Progress::Done(Verdict::Refused(f)),
-        },
-    }
+        next: Some(next),
+    })
 }
 
 // One command, read and judged.
-fn take_turn(sheet: Sheet, reader: Reader, s: &[u8]) -> Turn
+fn take_turn(sheet: Sheet, reader: Reader, s: &[u8]) -> Result<Turn, Refusal>
     requires { reader.n ≤ max_inputs }
     ensures { Turns s.now sheet reader result }
 {
-    let at = reader.at;
-    let step = reader.next(s);
-    match step {
-        Step::Read(c, next) => lead_on(sheet.add(c, at), c, next, s.len()),
-        Step::Refused(f) => done(Reply::refusal(f)),
-    }
+    let (c, next) = reader.next(s)?;
+    let more = sheet.add(c, reader.at)?;
+    lead_on(more, c, next, s.len())
 }
 
 // Reads a whole sheet. Each command has a byte of its own, so there are at most as many turns as bytes.
-pub fn read_sheet(s: &[u8]) -> Reply
+pub fn read_sheet(s: &[u8]) -> Result<Sheet, Refusal>
     ensures { sheet_reply result ≡ reply_told (reading_of s.now) }
 {
     let mut sheet = Sheet::fresh(0, 0);
     let mut reader = Reader::new();
     for _ in 0..s.len() {
-        let t = take_turn(sheet, reader, s);
-        sheet = t.sheet;
-        let progress = t.progress;
-        match progress {
-            Progress::On(next) => {
+        let turn = take_turn(sheet, reader, s)?;
+        sheet = turn.sheet;
+        match turn.next {
+            Some(next) => {
                 reader = next;
             }
-            Progress::Done(answer) => {
-                return Reply { sheet, answer };
-            }
+            None => return Ok(sheet),
         }
     }
-    Reply::refusal(Refusal::at(Refusal::CUT_SHORT, reader.at))
+    Err(Refusal::at(Refusal::CUT_SHORT, reader.at))
 }

@@ -2,37 +2,35 @@
 // Inner functions: the test of a relation handed in has tested the sizes before it calls them.
 ghost use Rattle.std.specs.Prelude.{◌≡◌, ◌≤◌, ◌^◌, eqb, get_or};
 ghost use Rattle.sheet.specs.Limits.{max_inputs, max_wires};
-ghost use Rattle.base.specs.Lowest.{lowest};
-ghost use Rattle.relation.specs.Handed.{wide_pattern};
+ghost use Rattle.base.specs.Lowest.{first_below};
+ghost use Rattle.sheet.specs.Limits.{is_beyond};
 
 use sheet::Sheet;
 use sheet::limits::{patterns_of, values_of};
 
-// The first set that has a value of more than m wires, or the number of patterns.
-pub fn wide_pattern(n: u8, m: u8, sets: [u16; Sheet::MAX_PATTERNS]) -> u8
+// The first set that has a value of more than m wires.
+pub fn wide_pattern(n: u8, m: u8, sets: [u16; Sheet::MAX_PATTERNS]) -> Option<u8>
     requires { (n ≤ max_inputs) × (m ≤ max_wires) }
-    ensures { result ≡ wide_pattern n m sets }
+    ensures { result ≡ first_below (2 ^ n) (λ p. is_beyond (2 ^ m) (get_or sets p 0)) }
 {
     let limit: u32 = 1 << values_of(m);
-    let count = patterns_of(n);
-    for p in 0..count {
+    for p in 0..patterns_of(n) {
         if limit <= sets[p as usize] as u32 {
-            return p;
+            return Some(p);
         }
     }
-    count
+    None
 }
 
-// The first set that has no value at all, or the number of patterns.
-pub fn empty_pattern(n: u8, sets: [u16; Sheet::MAX_PATTERNS]) -> u8
+// The first set that has no value at all.
+pub fn empty_pattern(n: u8, sets: [u16; Sheet::MAX_PATTERNS]) -> Option<u8>
     requires { n ≤ max_inputs }
-    ensures { result ≡ lowest (2 ^ n) (λ p. eqb (get_or sets p 0) 0) }
+    ensures { result ≡ first_below (2 ^ n) (λ p. eqb (get_or sets p 0) 0) }
 {
-    let count = patterns_of(n);
-    for p in 0..count {
+    for p in 0..patterns_of(n) {
         if sets[p as usize] == 0 {
-            return p;
+            return Some(p);
         }
     }
-    count
+    None
 }

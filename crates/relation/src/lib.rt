@@ -9,9 +9,9 @@ ghost use Rattle.relation.specs.Joined.{join_of};
 
 use crate::handed::{empty_pattern, wide_pattern};
 use crate::patterns::in_both;
-use base::{Refusal, Verdict};
+use base::Refusal;
 use sheet::Sheet;
-use sheet::limits::{patterns_of, sizes_out};
+use sheet::limits::sizes_out;
 
 pub mod values; // sets of wire values
 pub mod patterns; // the sets of all patterns together, and the value of tables on a pattern
@@ -28,7 +28,7 @@ pub struct Relation {
 impl Relation {
     // The test of a relation that is handed over as numbers, with at most so many inputs (document 02, E5): sizes, then bits past the last value, then empty sets.
     // Inner: a search asks with the lines of its board, and forming the relation of a sheet with those of a sheet; neither is above the limit required.
-    pub fn check(self, most: u8) -> Verdict
+    pub fn check(self, most: u8) -> Result<(), Refusal>
         requires { most ≤ max_inputs }
         ensures { verdict_case result ≡ check_of most self }
     {
@@ -36,19 +36,17 @@ impl Relation {
         let m = self.m;
         let sets = self.sets;
         if sizes_out(most, n, m) {
-            return Verdict::Refused(Refusal::at(Refusal::OUT_OF_RANGE, 0));
+            return Err(Refusal::at(Refusal::OUT_OF_RANGE, 0));
         }
-        let count = patterns_of(n);
-        let wide = wide_pattern(n, m, sets);
-        if wide < count {
-            return Verdict::Refused(Refusal::at(Refusal::OUT_OF_RANGE, wide as usize));
+        if let Some(p) = wide_pattern(n, m, sets) {
+            return Err(Refusal::at(Refusal::OUT_OF_RANGE, p as usize));
         }
-        let none = empty_pattern(n, sets);
-        if none < count {
-            return Verdict::Refused(Refusal::at(Refusal::EMPTY, none as usize));
+        if let Some(p) = empty_pattern(n, sets) {
+            return Err(Refusal::at(Refusal::EMPTY, p as usize));
         }
-        Verdict::Accepted
+        Ok(())
     }
+
     // What this relation and another of the same sizes both allow (document 02, E6).
     // Inner: a caller compares the sizes before; of others the reply is as the contract says, with the sizes of this one.
     pub fn join(self, other: Relation) -> Relation

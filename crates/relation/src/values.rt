@@ -28,11 +28,7 @@ pub fn is_open(set: u16, j: u8) -> bool
     requires { j < max_wires }
     ensures { result ≡ is_open max_wires (member set) j }
 {
-    if has(set, j, 0) {
-        has(set, j, 1)
-    } else {
-        false
-    }
+    has(set, j, 0) && has(set, j, 1)
 }
 
 // Whether a value is in a set.

@@ -1,22 +1,28 @@
--- The case of a mark tells the mark.
+-- The case of a mark, or of the refusal in its place, tells which it is.
 use mathlib.Core.Path.{◌≡◌, refl}
 use mathlib.Core.Bool.{cond}
 use lib.Dec.{eqb}
-use Rattle.base.specs.Cases.{Case, is_refused}
+use Rattle.std.specs.Prelude.{Result, Ok, Err}
+use Rattle.base.specs.declared.Refusal.{Refusal}
+use Rattle.base.specs.Cases.{Case, refused_case, is_refused}
 use Rattle.base.specs.Refusals.{refusal_at}
 use Rattle.base.proofs.Cases.{case_one}
 use Rattle.search.specs.declared.Mark.{Mark}
-use Rattle.search.specs.declared.Mark.TheVariants.{Best, Stopped, Refused}
+use Rattle.search.specs.declared.Mark.TheVariants.{Best, Stopped}
 use Rattle.branch_bound.specs.Reply.{best_outcome}
 use Rattle.search.specs.Cases.{mark_case}
 
-abbrev back : Case → Mark
-back c = cond (is_refused c) (Refused (refusal_at c.number c.place)) (cond (eqb c.outcome best_outcome) Best Stopped)
+abbrev pub marked : Result Mark Refusal → Case
+marked (Ok k) = mark_case k
+marked (Err f) = refused_case f
 
-undo : (a : Mark) → back (mark_case a) ≡ a
-undo Best = refl
-undo Stopped = refl
-undo (Refused f) = refl
+abbrev back : Case → Result Mark Refusal
+back c = cond (is_refused c) (Err (refusal_at c.number c.place)) (Ok (cond (eqb c.outcome best_outcome) Best Stopped))
 
-pub mark_one : (a b : Mark) → mark_case a ≡ mark_case b → a ≡ b
-mark_one = case_one mark_case back undo
+undo : (a : Result Mark Refusal) → back (marked a) ≡ a
+undo (Ok Best) = refl
+undo (Ok Stopped) = refl
+undo (Err f) = refl
+
+pub mark_one : (a b : Result Mark Refusal) → marked a ≡ marked b → a ≡ b
+mark_one = case_one marked back undo

@@ -8,8 +8,7 @@ use lib.Dec.{le→leb}
 use lib.ListN.{length, get_or}
 use Rattle.sheet.specs.Limits.{max_inputs, max_patterns}
 use Rattle.base.specs.declared.Refusal.{Refusal}
-use Rattle.base.specs.declared.Verdict.{Verdict}
-use Rattle.base.specs.Cases.{accepting, accepted_case, refused_case, verdict_case}
+use Rattle.base.specs.Cases.{Case, accepting, accepted_case, refused_case}
 use Rattle.relation.specs.declared.Relation.{Relation}
 use Rattle.relation.specs.Source.{Rel}
 use Rattle.relation.specs.Tests.{of_sets}
@@ -86,8 +85,8 @@ unfolding answer_of mark_of
 best_answer b R s t e h = rw (← e, h)
 
 -- what the code's test tells of a relation
-pub tested : (kind : BoardKind) (r : Relation) {most : ℕ} {v w : Verdict} → most ≡ most_inputs kind → verdict_case v ≡ check_of most r → v ≡ w → check_of (most_inputs kind) r ≡ verdict_case w
-tested kind r em ev ew = ap (λ x. check_of x r) (sym em) ∙ sym ev ∙ ap verdict_case ew
+pub tested : (kind : BoardKind) (r : Relation) {most : ℕ} {c : Case} → most ≡ most_inputs kind → c ≡ check_of most r → check_of (most_inputs kind) r ≡ c
+tested kind r em ev = ap (λ x. check_of x r) (sym em) ∙ sym ev
 
 -- a relation that passes its test, and its sets as the code holds them
 module _ (kind : BoardKind) (r : Relation) (long : length r.sets ≡ max_patterns) (passes : check_of (most_inputs kind) r ≡ accepted_case) where

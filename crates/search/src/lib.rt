@@ -9,7 +9,7 @@ ghost use Rattle.branch_bound.specs.Search.{Board, floor as floor_of, search_par
 ghost use Rattle.nodes.specs.declared.BoardKind.TheVariants.{Tree, Sharing};
 ghost use Rattle.nodes.specs.Counts.{most_inputs};
 ghost use Rattle.branch_bound.specs.Boards.{board_of};
-ghost use Rattle.search.specs.Cases.{search_reply};
+ghost use Rattle.search.specs.Cases.{answer_told, search_reply};
 ghost use Rattle.branch_bound.specs.Reply.{answer_of, search_of};
 ghost use Rattle.sheet.specs.Inner.Sized.{Sized};
 ghost use Rattle.parts.specs.Inner.Boards.{lent_kind, lent_inputs, lent_wires, lent_wide, Lent};
@@ -17,7 +17,7 @@ ghost use Rattle.parts.specs.Inner.Parts.{PartSets, Carried};
 ghost use Rattle.visits.specs.Inner.Conflicts.{Seen};
 ghost use Rattle.visits.specs.Inner.States.{state_of, budget_in, Held, Ran};
 
-use base::{Refusal, Verdict};
+use base::Refusal;
 use beginning::{begin_search, keep_first, whole_part};
 use nodes::picks::tops;
 use nodes::{BoardKind, most_inputs};
@@ -41,10 +41,9 @@ mod quick_solver; // the first answer
 pub enum Mark {
     Best,
     Stopped,
-    Refused(Refusal),
 }
 
-// The reply (document 01, "Search"): a table for each wire that there may be, their cells, the floor (lower bound) and the visits. All 0 on a refusal.
+// What a search found (document 01, "Search"): a table for each wire that there may be, their cells, the floor (lower bound) and the visits.
 #[derive(Clone, Copy)]
 pub struct Answer {
     pub tables: [u64; Sheet::WIRES],
@@ -78,7 +77,7 @@ fn search_whole(
 
 // The reply from the state that the search ends in, and the floor of the relation.
 fn reply(state: &[u64; STATE], floor: u64) -> Answer
-    ensures { (b : Board) → (R : Rel) → floor ≡ floor_of b R → search_reply result ≡ answer_of b R (state_of state.now) }
+    ensures { (b : Board) → (R : Rel) → floor ≡ floor_of b R → answer_told result ≡ answer_of b R (state_of state.now) }
 {
     let tables = tables_in(state);
     let cells = state[CELLS];
@@ -106,7 +105,7 @@ fn reply(state: &[u64; STATE], floor: u64) -> Answer
 // wires and of the patterns behind its entries.
 fn search_sets(e: &[u32; LENT], sets: [u16; Sheet::MAX_PATTERNS], budget: u32) -> Answer
     requires { Lent e.now × Sized (most_inputs (lent_kind e.now)) (lent_inputs e.now) (lent_wires e.now) × PartSets (lent_inputs e.now) (lent_wires e.now) sets }
-    ensures { search_reply result ≡ answer_of (board_of (lent_kind e.now) (lent_inputs e.now) (lent_wires e.now)) (of_sets sets)
+    ensures { answer_told result ≡ answer_of (board_of (lent_kind e.now) (lent_inputs e.now) (lent_wires e.now)) (of_sets sets)
         (run (board_of (lent_kind e.now) (lent_inputs e.now) (lent_wires e.now)) budget (of_sets sets)) }
 {
     let mut state = [0u64; STATE];
@@ -144,41 +143,31 @@ fn search_tested(
     budget: u32,
 ) -> Answer
     requires { Sized (most_inputs kind) n m × PartSets n m sets }
-    ensures { search_reply result ≡ answer_of (board_of kind n m) (of_sets sets) (run (board_of kind n m) budget (of_sets sets)) }
+    ensures { answer_told result ≡ answer_of (board_of kind n m) (of_sets sets) (run (board_of kind n m) budget (of_sets sets)) }
 {
     let table = lent_for(kind, n, m);
     search_sets(&table, sets, budget)
 }
 
 // The search of any relation under any budget, on either board. It refuses what the relation's test refuses.
-pub fn search_on(kind: BoardKind, relation: Relation, budget: u32) -> Answer
+pub fn search_on(kind: BoardKind, relation: Relation, budget: u32) -> Result<Answer, Refusal>
     ensures { search_reply result ≡ search_of kind relation budget }
 {
+    relation.check(most_inputs(kind))?;
     let n = relation.n;
-    let m = relation.m;
-    let sets = relation.sets;
-    let checked = relation.check(most_inputs(kind));
-    match checked {
-        Verdict::Accepted => search_tested(kind, n, m, clear_past(n, sets), budget),
-        Verdict::Refused(refusal) => Answer {
-            tables: [0; Sheet::WIRES],
-            cells: 0,
-            floor: 0,
-            visits: 0,
-            mark: Mark::Refused(refusal),
-        },
-    }
+    let sets = clear_past(n, relation.sets);
+    Ok(search_tested(kind, n, relation.m, sets, budget))
 }
 
 // The search on the board of trees.
-pub fn search(relation: Relation, budget: u32) -> Answer
+pub fn search(relation: Relation, budget: u32) -> Result<Answer, Refusal>
     ensures { search_reply result ≡ search_of Tree relation budget }
 {
     search_on(BoardKind::Tree, relation, budget)
 }
 
 // The search on the board that shares selectors (document 02, E2). A relation of more than four inputs is refused with 3 (E5).
-pub fn search_shared(relation: Relation, budget: u32) -> Answer
+pub fn search_shared(relation: Relation, budget: u32) -> Result<Answer, Refusal>
     ensures { search_reply result ≡ search_of Sharing relation budget }
 {
     search_on(BoardKind::Sharing, relation, budget)

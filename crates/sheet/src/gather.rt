@@ -1,15 +1,15 @@
 // What the commands of a sheet say, gathered one command after the other.
-// `Sheet::add`, `Sheet::finish` and `Reply::refusal` are inner functions for the reader, which meets what they speak of: a sheet gathered from the commands
+// `Sheet::add` and `Sheet::finish` are inner functions for the reader, which meets what they speak of: a sheet gathered from the commands
 // before, and a command whose pattern was tested.
 ghost use Rattle.std.specs.Prelude.{◌≡◌, ◌||◌, [], ◌∷◌, ◌+◌, ◌<◌, ◌≤◌, get_or, leb, eqb};
-ghost use Rattle.base.specs.Lowest.{lowest};
+ghost use Rattle.base.specs.Lowest.{first_below};
 ghost use Rattle.sheet.specs.Gathered.{gathered, no_mark};
 ghost use Rattle.sheet.specs.Limits.{max_patterns};
-ghost use Rattle.sheet.specs.Inner.Gathering.{accepted_reply, pattern_of, fault_of, Takes, Judges, Adds, Ends};
+ghost use Rattle.sheet.specs.Inner.Gathering.{pattern_of, fault_of, Takes, Judges, Adds, Ends};
 
 use crate::limits::{all_ones, patterns_of};
-use crate::{Command, Reply, Sheet};
-use base::{Refusal, Verdict};
+use crate::{Command, LogicGate, Sheet};
+use base::Refusal;
 
 // The number of signals there are.
 fn signals_made(m: u8, gates: u8) -> u16
@@ -22,39 +22,33 @@ fn signals_made(m: u8, gates: u8) -> u16
 fn not_made(made: u16, a: u8, b: u8) -> bool
     ensures { result ≡ leb made a || leb made b }
 {
-    if made <= a as u16 {
-        true
-    } else {
-        made <= b as u16
-    }
+    made <= a as u16 || made <= b as u16
 }
 
-// Why a gate or an output is refused: 6 before 8, and 0 where it is taken.
-fn fault_of(unmade: bool, full: bool) -> u8
-    ensures { result ≡ fault_of unmade full }
+// Why a gate or an output at a place is refused: 6 before 8.
+fn fault_of(unmade: bool, full: bool, at: usize) -> Result<(), Refusal>
+    ensures { result ≡ fault_of unmade full at }
 {
     if unmade {
-        return Refusal::NO_SIGNAL;
+        return Err(Refusal::at(Refusal::NO_SIGNAL, at));
     }
     if full {
-        return Refusal::TOO_MANY;
+        return Err(Refusal::at(Refusal::TOO_MANY, at));
     }
-    0
+    Ok(())
 }
 
-// The lowest pattern below count that has no mark, or count.
-fn missing(marks: [u8; Sheet::MAX_PATTERNS], count: usize) -> usize
+// The lowest pattern below count that has no mark.
+fn missing(marks: [u8; Sheet::MAX_PATTERNS], count: usize) -> Option<usize>
     requires { count ≤ max_patterns }
-    ensures { result ≡ lowest count (λ p. eqb (get_or marks p 0) no_mark) }
+    ensures { result ≡ first_below count (λ p. eqb (get_or marks p 0) no_mark) }
 {
-    let mut p = 0;
-    while p < count {
+    for p in 0..count {
         if marks[p] == Sheet::NO_MARK {
-            return p;
+            return Some(p);
         }
-        p += 1;
     }
-    p
+    None
 }
 
 impl Sheet {
@@ -70,80 +64,73 @@ impl Sheet {
             values: [0; Sheet::MAX_PATTERNS],
             limits: [all; Sheet::MAX_PATTERNS],
             gate_count: 0,
-            kinds: [0; Sheet::MAX_GATES as usize],
-            lefts: [0; Sheet::MAX_GATES as usize],
-            rights: [0; Sheet::MAX_GATES as usize],
+            gates: [LogicGate::NONE; Sheet::MAX_GATES as usize],
             output_count: 0,
             signals: [0; Sheet::MAX_OUTPUTS as usize],
         }
     }
 
-    fn accept(self) -> Reply
-        ensures { result ≡ accepted_reply self }
-    {
-        Reply {
-            sheet: self,
-            answer: Verdict::Accepted,
-        }
-    }
-
     // 02: 7, or the pattern has its value.
-    fn row(mut self, p: u8, v: u8, at: usize) -> Reply
+    fn row(mut self, p: u8, v: u8, at: usize) -> Result<Sheet, Refusal>
         requires { p < max_patterns }
         ensures { Judges self (Command.Row p v) at result }
     {
         let i = p as usize;
         if self.marks[i] != Sheet::NO_MARK {
-            return Reply::refusal(Refusal::at(Refusal::REPEATED, at));
+            return Err(Refusal::at(Refusal::REPEATED, at));
         }
         self.marks[i] = Sheet::ROW;
         self.values[i] = v;
-        self.accept()
+        Ok(self)
     }
 
     // 03: 7, or the pattern is impossible.
-    fn dont_care(mut self, p: u8, at: usize) -> Reply
+    fn dont_care(mut self, p: u8, at: usize) -> Result<Sheet, Refusal>
         requires { p < max_patterns }
         ensures { Judges self (Command.DontCare p) at result }
     {
         let i = p as usize;
         if self.marks[i] != Sheet::NO_MARK {
-            return Reply::refusal(Refusal::at(Refusal::REPEATED, at));
+            return Err(Refusal::at(Refusal::REPEATED, at));
         }
         self.marks[i] = Sheet::DONT_CARE;
-        self.accept()
+        Ok(self)
     }
 
     // 04: 6, 8, or one gate more.
-    fn gate(mut self, kind: u8, a: u8, b: u8, at: usize) -> Reply
+    fn gate(mut self, kind: u8, a: u8, b: u8, at: usize) -> Result<Sheet, Refusal>
         ensures { Judges self (Command.Gate kind a b) at result }
     {
         let made = signals_made(self.m, self.gate_count);
-        let fault = fault_of(not_made(made, a, b), Sheet::MAX_GATES <= self.gate_count);
-        if fault != 0 {
-            return Reply::refusal(Refusal::at(fault, at));
-        }
+        fault_of(
+            not_made(made, a, b),
+            Sheet::MAX_GATES <= self.gate_count,
+            at,
+        )?;
         let i = self.gate_count as usize;
-        self.kinds[i] = kind;
-        self.lefts[i] = a;
-        self.rights[i] = b;
+        self.gates[i] = LogicGate {
+            kind,
+            left: a,
+            right: b,
+        };
         self.gate_count += 1;
-        self.accept()
+        Ok(self)
     }
 
     // 05: 6, 8, or one output more.
-    fn output(mut self, s: u8, at: usize) -> Reply
+    fn output(mut self, s: u8, at: usize) -> Result<Sheet, Refusal>
         ensures { Judges self (Command.Output s) at result }
     {
         let made = signals_made(self.m, self.gate_count);
-        let fault = fault_of(made <= s as u16, Sheet::MAX_OUTPUTS <= self.output_count);
-        if fault != 0 {
-            return Reply::refusal(Refusal::at(fault, at));
-        }
+        fault_of(
+            made <= s as u16,
+            Sheet::MAX_OUTPUTS <= self.output_count,
+            at,
+        )?;
         let i = self.output_count as usize;
         self.signals[i] = s;
         self.output_count += 1;
-        self.accept()
+        Ok(self)
     }
 
     // 06: several for one pattern intersect.
@@ -158,34 +145,33 @@ impl Sheet {
     }
 
     // One command more, whose first byte is at a place: 6, 7, 8 or taken. The reader has tested the command's pattern.
-    pub fn add(self, c: Command, at: usize) -> Reply
+    pub fn add(self, c: Command, at: usize) -> Result<Sheet, Refusal>
         requires { pattern_of c < max_patterns }
         ensures { Adds self c at result }
     {
         match c {
-            Command::End => self.accept(),
-            Command::Sizes { n, m } => Sheet::fresh(n, m).accept(),
+            Command::End => Ok(self),
+            Command::Sizes { n, m } => Ok(Sheet::fresh(n, m)),
             Command::Row { p, v } => self.row(p, v, at),
             Command::DontCare { p } => self.dont_care(p, at),
             Command::Gate { kind, a, b } => self.gate(kind, a, b, at),
             Command::Output { s } => self.output(s, at),
-            Command::Limit { p, set } => self.limit(p, set).accept(),
+            Command::Limit { p, set } => Ok(self.limit(p, set)),
         }
     }
 
     // The end, 00 being read up to a place: 4, 9, or the sheet stands.
-    pub fn finish(self, to: usize, len: usize) -> Reply
+    pub fn finish(self, to: usize, len: usize) -> Result<Sheet, Refusal>
         ensures { Ends self to len result }
     {
         if to < len {
-            return Reply::refusal(Refusal::at(Refusal::TRAILING, to));
+            return Err(Refusal::at(Refusal::TRAILING, to));
         }
         let marks = self.marks;
         let count = patterns_of(self.n) as usize;
-        let p = missing(marks, count);
-        if p < count {
-            return Reply::refusal(Refusal::at(Refusal::MISSING_ROW, p));
+        match missing(marks, count) {
+            Some(p) => Err(Refusal::at(Refusal::MISSING_ROW, p)),
+            None => Ok(self),
         }
-        self.accept()
     }
 }

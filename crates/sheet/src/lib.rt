@@ -1,12 +1,6 @@
 // Unit sheets: the limits, the commands, and what the commands say, gathered into one sheet.
 #![tactic(auto)]
 
-ghost use Rattle.std.specs.Prelude.{◌≡◌};
-ghost use Rattle.sheet.specs.Judged.{refused};
-ghost use Rattle.sheet.specs.Inner.Gathering.{gathered_reply};
-
-use base::{Refusal, Verdict};
-
 pub mod limits; // sizes and sets against the limits
 mod gather; // the sheet with one command more
 
@@ -22,6 +16,23 @@ pub enum Command {
     Limit { p: u8, set: u16 },
 }
 
+// A gate of the second stage: its kind, and the numbers of its two signals.
+#[derive(Clone, Copy)]
+pub struct LogicGate {
+    pub kind: u8,
+    pub left: u8,
+    pub right: u8,
+}
+
+impl LogicGate {
+    // What stands past the last gate.
+    pub const NONE: LogicGate = LogicGate {
+        kind: 0,
+        left: 0,
+        right: 0,
+    };
+}
+
 // What the commands of a sheet say. Entries past the last pattern, gate or output are 0.
 #[derive(Clone, Copy)]
 pub struct Sheet {
@@ -31,9 +42,7 @@ pub struct Sheet {
     pub values: [u8; Sheet::MAX_PATTERNS],
     pub limits: [u16; Sheet::MAX_PATTERNS],
     pub gate_count: u8,
-    pub kinds: [u8; Sheet::MAX_GATES as usize],
-    pub lefts: [u8; Sheet::MAX_GATES as usize],
-    pub rights: [u8; Sheet::MAX_GATES as usize],
+    pub gates: [LogicGate; Sheet::MAX_GATES as usize],
     pub output_count: u8,
     pub signals: [u8; Sheet::MAX_OUTPUTS as usize],
 }
@@ -65,24 +74,4 @@ impl Sheet {
     pub const ROW: u8 = 1;
 
     pub const DONT_CARE: u8 = 2;
-}
-
-// What was gathered, and whether it is accepted. Where it is refused, the sheet is a fresh one without sizes.
-#[derive(Clone, Copy)]
-pub struct Reply {
-    pub sheet: Sheet,
-    pub answer: Verdict,
-}
-
-impl Reply {
-    // A refusal writes nothing: what was gathered is dropped.
-    pub fn refusal(f: Refusal) -> Reply
-        ensures { result ≡ gathered_reply (refused f) }
-    {
-        let sheet = Sheet::fresh(0, 0);
-        Reply {
-            sheet,
-            answer: Verdict::Refused(f),
-        }
-    }
 }

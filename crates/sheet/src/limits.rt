@@ -42,7 +42,7 @@ pub fn all_ones(k: u8) -> u16
 pub fn beyond(k: u8, x: u16) -> bool
     ensures { result ≡ is_beyond k x }
 {
-    if k < WORD_BITS { 1 <= x >> k } else { false }
+    k < WORD_BITS && 1 <= x >> k
 }
 
 // A set with a value that k wires do not have.
@@ -56,16 +56,12 @@ pub fn bits_past(k: u8, x: u16) -> bool
 pub fn count_out(x: u8, most: u8) -> bool
     ensures { result ≡ count_out x most }
 {
-    if x == 0 { true } else { most < x }
+    x == 0 || most < x
 }
 
 // Too few or too many inputs or wires, with at most so many inputs.
 pub fn sizes_out(most: u8, n: u8, m: u8) -> bool
     ensures { result ≡ sizes_out most n m }
 {
-    if count_out(n, most) {
-        true
-    } else {
-        count_out(m, Sheet::MAX_WIRES)
-    }
+    count_out(n, most) || count_out(m, Sheet::MAX_WIRES)
 }

@@ -1,5 +1,5 @@
 -- Laws of reading a diagram at a place of a slice, by what stands there.
-use Prim.Native.Nat.{ℕ, ◌+◌, ◌-◌, ◌<◌, ◌≤◌}
+use Prim.Native.Nat.{ℕ, ◌+◌, ◌<◌, ◌≤◌}
 use mathlib.Core.Path.{◌≡◌, ◌∙◌}
 use mathlib.Core.Logic.{⊎_elim}
 use mathlib.Core.List.{List}
@@ -7,28 +7,37 @@ use native.Mathlib.Omega.{arith}
 use lib.Dec.{leb, ltb, leb→le, nleb→lt}
 use lib.ListN.{length, get_or, drop}
 use borrow.Author.Tests.{lt-leb, le-leb}
+use Rattle.std.specs.Prelude.{Ok, Err}
 use Rattle.base.specs.declared.Refusal.{Refusal}
 use Rattle.base.specs.Refusals.{refusal_at, cut_short, no_signal}
 use Rattle.base.proofs.Tests.{decide}
-use Rattle.stage.specs.Steps.{taken, fault, and_then, unless_refused, due_number, turn_number}
+use Rattle.stage.specs.Steps.{taken, fault, and_then, unless_refused, due, turn_number}
 use Rattle.diagram.specs.Diagram.{Entry, diagram, next_number, most_entries}
 use Rattle.diagram.specs.Read.{diagram_known, entry_refusal, entry_at, entries_at, top_at, diagram_wire_at}
-use Rattle.stage_reader.specs.Inner.Numbers.{entry_there, entry_by}
-use Rattle.stage_reader.proofs.Places.{due_refused, due_goes, due_within, operand_stops, operand_goes, two_stop, two_go}
+use Rattle.stage_reader.specs.Inner.Numbers.{entry_there}
+use Rattle.stage_reader.proofs.Places.{due_stops, due_goes, operand_stops, operand_goes, two_more}
 
 -- an entry, by the number of its refusal
 module _ (s : List ℕ) (n : ℕ) (before : List Entry) (at : ℕ) where
-  pub entry_cut : length s - at < 3 → entry_at n before at (drop at s) ≡ fault (refusal_at cut_short at)
+  pub entry_cut : length s < at + 3 → entry_at n before at (drop at s) ≡ fault (refusal_at cut_short at)
   unfolding entry_at
   entry_cut h =
       ⊎_elim
       (λ t. operand_stops fault at _ s at (leb→le (length s) at t))
-      (λ u. operand_goes fault at _ s at (nleb→lt (length s) at u) ∙ two_stop fault _ s at (omega arith))
+      (λ u. operand_goes fault at _ s at (nleb→lt (length s) at u)
+      ∙ ⊎_elim
+      (λ t. operand_stops fault at _ s (at + 1) (leb→le (length s) (at + 1) t))
+      (λ u. operand_goes fault at _ s (at + 1) (nleb→lt (length s) (at + 1) u) ∙ operand_stops fault at _ s (at + 1 + 1) (omega arith))
+      (decide (leb (length s) (at + 1))))
       (decide (leb (length s) at))
 
-  pub entry_opens : at + 3 ≤ length s → entry_at n before at (drop at s) ≡ entry_by (entry_refusal n before (entry_there s at)) s at
+  pub entry_opens : at + 3 ≤ length s → entry_at n before at (drop at s)
+      ≡ unless_refused fault at (entry_refusal n before (entry_there s at)) (taken (entry_there s at) (at + 3) (drop (at + 3) s))
   unfolding entry_at
-  entry_opens h = operand_goes fault at _ s at (omega arith) ∙ two_go fault _ s at h
+  entry_opens h =
+      let third : at + 2 + 1 ≡ at + 3 = omega arith in
+      operand_goes fault at _ s at (omega arith) ∙ operand_goes fault at _ s (at + 1) (omega arith) ∙ rw (two_more at)
+      (operand_goes fault at _ s (at + 2) (omega arith) ∙ rw third)
 
 -- the top, by its number
 module _ (s : List ℕ) (es : List Entry) (at : ℕ) where
@@ -46,21 +55,29 @@ module _ (s : List ℕ) (es : List Entry) (at : ℕ) where
     top_there h = operand_goes fault at _ s at there ∙ rw (lt-leb _ _ h)
 
 -- a wire, by its number and by how many entries it has
-module _ (s : List ℕ) (n m j at f : ℕ) (told : f ≡ due_number diagram_known 0x26 (drop at s)) where
-  pub wire_refused : (g : Refusal) → (f ≡ 0 → ⊥) → g ≡ refusal_at f at → diagram_wire_at n m j at (drop at s) ≡ fault g
+module _ (s : List ℕ) (n m j at : ℕ) where
+  pub wire_stops : (f : Refusal) → Err f ≡ due diagram_known Err 0x26 at (λ rest. Ok (tt {0})) (drop at s) → diagram_wire_at n m j at (drop at s) ≡ fault f
   unfolding diagram_wire_at
-  wire_refused g h e = due_refused diagram_known s 0x26 at f told fault _ g h e
+  wire_stops f e = due_stops diagram_known 0x26 at s fault _ f e
 
-  module _ (due_there : f ≡ 0) where
-    pub wire_cut : length s - at < 3 → diagram_wire_at n m j at (drop at s) ≡ fault (refusal_at cut_short at)
+  module _ (u : Unit {0}) (stands : Ok u ≡ due diagram_known Err 0x26 at (λ rest. Ok (tt {0})) (drop at s)) where
+    pub no_number : length s ≤ at + 1 → diagram_wire_at n m j at (drop at s) ≡ fault (refusal_at cut_short at)
     unfolding diagram_wire_at
-    wire_cut h =
-        due_goes diagram_known s 0x26 at f told fault _ due_there
-        ∙ two_stop fault _ s at (omega (arith, due_within diagram_known s 0x26 at f told due_there))
+    no_number h = due_goes diagram_known 0x26 at s fault _ u stands ∙ operand_stops fault at _ s (at + 1) h
 
-    pub wire_opens : at + 3 ≤ length s
-        → diagram_wire_at n m j at (drop at s)
-        ≡ unless_refused fault at (turn_number m j (get_or s (at + 1) 0) (ltb most_entries (get_or s (at + 2) 0)))
-        (and_then (entries_at (get_or s (at + 2) 0) n (at + 3) (drop (at + 3) s)) top_at)
-    unfolding diagram_wire_at
-    wire_opens there = due_goes diagram_known s 0x26 at f told fault _ due_there ∙ two_go fault _ s at there
+    module _ (number_there : at + 1 < length s) where
+      pub no_count : length s ≤ at + 2 → diagram_wire_at n m j at (drop at s) ≡ fault (refusal_at cut_short at)
+      unfolding diagram_wire_at
+      no_count h =
+          due_goes diagram_known 0x26 at s fault _ u stands ∙ operand_goes fault at _ s (at + 1) number_there ∙ rw (two_more at)
+          (operand_stops fault at _ s (at + 2) h)
+
+      pub wire_opens : at + 2 < length s
+          → diagram_wire_at n m j at (drop at s)
+          ≡ unless_refused fault at (turn_number m j (get_or s (at + 1) 0) (ltb most_entries (get_or s (at + 2) 0)))
+          (and_then (entries_at (get_or s (at + 2) 0) n (at + 3) (drop (at + 3) s)) top_at)
+      unfolding diagram_wire_at
+      wire_opens there =
+          let third : at + 2 + 1 ≡ at + 3 = omega arith in
+          due_goes diagram_known 0x26 at s fault _ u stands ∙ operand_goes fault at _ s (at + 1) number_there ∙ rw (two_more at)
+          (operand_goes fault at _ s (at + 2) there ∙ rw third)

@@ -1,15 +1,12 @@
--- Laws of the end of a stage sheet: it is told alike in whatever it is told by, in the reader's verdict too.
+-- Laws of the end of a stage sheet: it is told alike in whatever it is told by, in the code's result too.
 use Prim.Native.Nat.{ℕ}
-use mathlib.Core.Path.{◌≡◌, refl, sym, ap, ◌∙◌}
+use mathlib.Core.Path.{◌≡◌, refl, ap, ◌∙◌}
 use mathlib.Core.Bool.{Bool, true, false, cond}
 use mathlib.Core.List.{List, [], ◌∷◌}
 use lib.Dec.{eqb}
 use lib.ListN.{drop}
 use Rattle.base.specs.declared.Refusal.{Refusal}
-use Rattle.base.specs.declared.Verdict.{Verdict}
-use Rattle.base.specs.declared.Verdict.TheVariants.{Accepted, Refused}
-use Rattle.base.specs.Cases.{accepted_case, refused_case, verdict_case}
-use Rattle.base.proofs.Cases.{verdict_one}
+use Rattle.std.specs.Prelude.{Result, Ok, Err}
 use Rattle.stage.specs.Steps.{due_number, due}
 use Rattle.stage.specs.Read.{nothing_after, end_at}
 
@@ -27,14 +24,11 @@ module _ {A B : Type 0} (h : A → B) (known : ℕ → Bool) (stop : Refusal →
   unfolding end_at due
   end_map whole at bytes = cond_map (eqb (due_number known 0x2F bytes) 0) _ _ ∙ rw (after_map whole at (drop 1 bytes))
 
--- what the verdict says of the end
-abbrev pub by_verdict : {A : Type 0} → (Refusal → A) → A → Verdict → A
-by_verdict stop whole Accepted = whole
-by_verdict stop whole (Refused f) = stop f
+-- what the reading of the end makes of it
+abbrev pub by_result : {A : Type 0} → (Refusal → A) → A → Result Unit Refusal → A
+by_result stop whole (Ok u) = whole
+by_result stop whole (Err f) = stop f
 
-pub end_verdict : {A : Type 0} (known : ℕ → Bool) (stop : Refusal → A) (whole : A) (at : ℕ) (bytes : List ℕ) (v : Verdict)
-    → verdict_case v ≡ end_at known refused_case accepted_case at bytes → by_verdict stop whole v ≡ end_at known stop whole at bytes
-end_verdict known stop whole at bytes v e =
-    let told : Verdict = end_at known Refused Accepted at bytes in
-    let same : v ≡ told = verdict_one v told (e ∙ sym (end_map verdict_case known Refused Accepted at bytes)) in
-    ap (by_verdict stop whole) same ∙ end_map (by_verdict stop whole) known Refused Accepted at bytes
+pub end_told : {A : Type 0} (known : ℕ → Bool) (stop : Refusal → A) (whole : A) (at : ℕ) (bytes : List ℕ) (r : Result Unit Refusal)
+    → r ≡ end_at known Err (Ok (tt {0})) at bytes → by_result stop whole r ≡ end_at known stop whole at bytes
+end_told known stop whole at bytes r e = ap (by_result stop whole) e ∙ end_map (by_result stop whole) known Err (Ok (tt {0})) at bytes

@@ -6,9 +6,9 @@ use native.Mathlib.Omega.{arith}
 use native.Mathlib.Nat.{add_assoc, zero-add}
 use native.Mathlib.Numerals.{add-one}
 use lib.ListN.{length, set, drop, replicate}
-use Rattle.base.specs.Cases.{accepted_case, refused_case, verdict_case}
+use Rattle.std.specs.Prelude.{Result, Ok, Err}
+use Rattle.base.specs.Cases.{accepted_case}
 use Rattle.base.specs.declared.Refusal.{Refusal}
-use Rattle.base.specs.declared.Verdict.{Verdict}
 use Rattle.sheet.specs.Limits.{max_wires}
 use Rattle.table.specs.Bits.{tabulate}
 use Rattle.table.specs.Drawing.{StageSheet, got, no_stage, drawn_table, drawn_cells}
@@ -19,7 +19,7 @@ use Rattle.stage.specs.Reply.{StageReply, stage_tables, refused_reply, reply_to_
 use Rattle.stage.specs.Steps.{Read, taken, fault, and_then}
 use Rattle.stage.proofs.Sheets.{ToldWires, wires_told}
 use Rattle.stage_reader.specs.Inner.Wires.{taken_wire, refused_wire, step_of}
-use Rattle.stage_reader.proofs.Ends.{end_map, by_verdict, end_verdict}
+use Rattle.stage_reader.proofs.Ends.{end_map, by_result, end_told}
 use Rattle.stage_reader.proofs.Taken.{Took, took, fell}
 
 module _ (F : StageForm) where
@@ -116,12 +116,12 @@ module _ (F : StageForm) (L : FormLaws F) where
     unfolding wires_at and_then closed reply_with
     stops f l e = rw (step l, fell (drawing F) n f (wire_there F s n m j at) e) at so_far
 
-    pub ends : (v : Verdict) → m ≤ j → verdict_case v ≡ end_at F.known refused_case accepted_case at (drop at s)
-        → by_verdict refused_reply (reply_with F tables cells j (got n m [])) v ≡ g
+    pub ends : (r : Result Unit Refusal) → m ≤ j → r ≡ end_at F.known Err (Ok (tt {0})) at (drop at s)
+        → by_result refused_reply (reply_with F tables cells j (got n m [])) r ≡ g
     unfolding wires_at closed reply_with
-    ends v l e =
+    ends r l e =
         let z : m - j ≡ 0 = omega arith in
         let reply = reply_with F tables cells j in
-        end_verdict F.known refused_reply (reply (got n m [])) at (drop at s) v e
+        end_told F.known refused_reply (reply (got n m [])) at (drop at s) r e
         ∙ sym (end_map reply F.known no_stage (got n m []) at (drop at s))
         ∙ rw z at so_far

@@ -1,3 +1,4 @@
+pub mod Exits
 pub mod Places
 pub mod TreePlaces
 pub mod DiagramPlaces
@@ -6,8 +7,8 @@ pub mod Taken
 pub mod Branches
 pub mod Ends
 pub mod Gather
-pub mod Costs
 pub mod Counts
 pub mod Numbering
+pub mod Judging
 pub mod Entries
 pub mod Replies

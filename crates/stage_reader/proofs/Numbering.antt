@@ -1,10 +1,11 @@
--- Laws of the numbers of a diagram as the stage reader looks them up: the arrays tell the constants, and with each entry that is kept one number more.
+-- Laws of the numbers of a diagram as the stage reader keeps them: they tell the constants, and with each entry that is pushed one number more.
 use Prim.Native.Nat.{ℕ, zero, suc, ◌+◌, ◌*◌, ◌^◌, ◌<◌, ◌≤◌}
-use mathlib.Core.Path.{◌≡◌, refl, sym, ap, ap₂, ◌∙◌}
+use mathlib.Core.Path.{◌≡◌, refl, sym, ap, ap₂, subst, ◌∙◌}
 use mathlib.Core.Logic.{⊎_elim}
 use mathlib.Core.List.{List, [], ◌∷◌}
 use native.Mathlib.Omega.{arith}
-use lib.ListN.{length, get_or, set, replicate, get_or-replicate}
+use native.Mathlib.Numerals.{add-one}
+use lib.ListN.{length, get_or, set, replicate}
 use lib.Seq.{get_or-set_same, get_or-set_other}
 use borrow.Author.Tests.{eq-eqb, ne_eqb}
 use Rattle.base.proofs.Tests.{below_suc}
@@ -14,23 +15,19 @@ use Rattle.table.specs.Drawing.{drawn_table}
 use Rattle.table.specs.Tree.{sel, Ordered, follow}
 use Rattle.table.proofs.Bits.{sum_cong}
 use Rattle.stage.proofs.TreeTables.{table_of, table_lt}
-use Rattle.diagram.specs.Diagram.{Entry, diagram, next_number, input_at, follow_entry, FitsAfter, EntriesFit, most_entries}
+use Rattle.diagram.specs.Diagram.{Entry, diagram, next_number, input_at, follow_entry, FitsAfter, EntriesFit, most_entries, entry_price, entries_cells}
 use Rattle.diagram.specs.Diagrams.{diagram_drawing}
 use Rattle.diagram.proofs.Entries.{tree_of, follow_tree, diagram_ordered}
-use Rattle.stage_reader.specs.Inner.Numbers.{most_numbers, TellsBelow, InputsTell, TablesTell, Selects, table_by}
+use Rattle.stage_reader.specs.Inner.Numbers.{most_numbers, as_entry, no_number, entries_in, entries_so_far, Tells, TellsEach, Told}
 use Rattle.stage_reader.specs.Inner.Tables.{select_of}
+use Rattle.stage_reader.specs.declared.numbers.Entry.{Entry as EntryRead}
+use Rattle.stage_reader.specs.declared.numbers.Number.{Number}
+use Rattle.stage_reader.specs.declared.numbers.Numbers.TheInside.{Inside}
 use Rattle.stage_reader.proofs.Selecting.{table_zero, table_one, table_select}
+use Rattle.stage_reader.proofs.Counts.{entries_few}
 
--- an array that tells what each number has tells one number more, that of the next entry, once what this has is in its place
-tells_more : (es : List Entry) (e : Entry) (before after : ℕ → ℕ) (l : List ℕ) (v : ℕ) → TellsBelow before (next_number es) l → next_number es < length l
-    → v ≡ after (next_number es) → ((x : ℕ) → (x ≡ next_number es → ⊥) → before x ≡ after x) → TellsBelow after (next_number (e ∷ es)) (set l (next_number es) v)
-tells_more es e before after l v tell room latest earlier x h =
-    ⊎_elim
-    (λ same. rw same (get_or-set_same l (next_number es) v 0 room ∙ latest))
-    (λ lower.
-    let other : x ≡ next_number es → ⊥ = λ d. omega (arith, d, lower) in
-    get_or-set_other l (next_number es) x v 0 other ∙ tell x lower ∙ earlier x other)
-    (below_suc {k = next_number es} (omega arith))
+abbrev pub number : ℕ → EntryRead → Number
+number t e = record { table = t; entry = e }
 
 -- what a number drives is what its tree drives
 number_table : (n : ℕ) (es : List Entry) (x : ℕ) → drawn_table diagram_drawing n (diagram es x) ≡ table_of n (tree_of es x)
@@ -39,16 +36,24 @@ number_table n es x =
     sum_cong (2 ^ n) (λ p. follow_entry n p es x * 2 ^ p) (λ p. follow n p (tree_of es x) * 2 ^ p) (λ p _. ap (λ v. v * 2 ^ p) (follow_tree n p es x))
 
 -- the constants, before any entry
-module _ (n : ℕ) where
-  pub inputs_start : InputsTell n [] (replicate most_numbers (n + 1))
-  unfolding input_at
-  inputs_start x l = get_or-replicate most_numbers x (n + 1) 0 (omega arith) ∙ omega arith
+pub constants_tell : (n t : ℕ) (e : EntryRead) → e.input ≡ n + 1 → t ≡ full n → TellsEach n [] (set (replicate most_numbers (number 0 e)) 1 (number t e))
+unfolding input_at tree_of
+constants_tell n t e i f zero l = record { table = sym (number_table n [] 0 ∙ table_zero n); input = i ∙ omega arith }
+constants_tell n t e i f (suc zero) l = record { table = f ∙ table_one n ∙ sym (number_table n [] 1); input = i ∙ omega arith }
+constants_tell n t e i f (suc (suc x)) l = absurd (omega arith)
 
-  pub tables_start : TablesTell n [] (set (replicate most_numbers 0) 1 (full n))
-  unfolding tree_of
-  tables_start zero l = sym (number_table n [] 0 ∙ table_zero n)
-  tables_start (suc zero) l = table_one n ∙ sym (number_table n [] 1)
-  tables_start (suc (suc x)) l = absurd (omega arith)
+-- the entries are as many as are counted, and a number behind them changes none
+pub entries_length : (all : List Number) (k : ℕ) → length (entries_in all k) ≡ k
+unfolding entries_in
+entries_length all zero = refl
+entries_length all (suc k) = ap suc (entries_length all k)
+
+entries_kept : (all : List Number) (at : ℕ) (v : Number) (k : ℕ) → k + 2 ≤ at → entries_in (set all at v) k ≡ entries_in all k
+unfolding entries_in
+entries_kept all at v zero h = refl
+entries_kept all at v (suc k) h =
+    let other : k + 2 ≡ at → ⊥ = λ e. absurd (omega arith) in
+    ap₂ ◌∷◌ (ap (λ (w : Number). as_entry w.entry) (get_or-set_other all at (k + 2) v no_number other)) (entries_kept all at v k (omega arith))
 
 -- the entry that follows: its own number, and every other
 module _ (n : ℕ) (es : List Entry) (e : Entry) where
@@ -68,44 +73,78 @@ module _ (n : ℕ) (es : List Entry) (e : Entry) where
   unfolding input_at
   earlier_input x h = rw (ne_eqb x (next_number es) h)
 
--- a number so far has an ordered tree, and with it a table of n inputs
-module _ (n : ℕ) (es : List Entry) (few : length es ≤ most_entries) (fit : EntriesFit n es) where
-  number_ordered : (x : ℕ) → x < next_number es → Ordered n 0 (tree_of es x)
-  number_ordered x l = diagram_ordered n (diagram es x) (record { few = few; fit = fit; top_there = omega arith })
+-- the numbers as they are told
+module _ (x : Inside) (told : Told x) where
+  pub own_number : next_number (entries_so_far x) ≡ 2 + x.count
+  own_number = omega (arith, entries_length x.all x.count)
 
-  module _ (tables : List ℕ) (tell : TablesTell n es tables) where
-    number_fits : (x : ℕ) → x < next_number es → get_or tables x 0 < 2 ^ (2 ^ n)
-    number_fits x l = rw (tell x l ∙ number_table n es x) (table_lt n 0 (tree_of es x) (number_ordered x l))
+  pub cells_most : x.cells ≤ x.count
+  cells_most = omega (arith, told.counted, entries_few (entries_so_far x), entries_length x.all x.count)
 
-    module _ (e : Entry) (f : FitsAfter n es e) where
-      pub selects : (own : ℕ) → next_number es ≡ own → Selects n own tables e
-      selects own is =
-          record {
-            least = f.least;
-            most = f.most;
-            zero_lower = omega (arith, f.zero_lower);
-            one_lower = omega (arith, f.one_lower);
-            zero_fits = number_fits e.on_zero f.zero_lower;
-            one_fits = number_fits e.on_one f.one_lower;
-          }
+  number_ordered : (k : ℕ) → k < next_number (entries_so_far x) → Ordered x.n 0 (tree_of (entries_so_far x) k)
+  number_ordered k l =
+      let length_is = entries_length x.all x.count in
+      diagram_ordered x.n (diagram (entries_so_far x) k) (record { few = omega (arith, told.few); fit = told.fit; top_there = omega arith })
 
-      latest_table : table_by n tables e ≡ drawn_table diagram_drawing n (diagram (e ∷ es) (next_number es))
-      latest_table =
-          let z = tell e.on_zero f.zero_lower ∙ number_table n es e.on_zero in
-          let o = tell e.on_one f.one_lower ∙ number_table n es e.on_one in
-          ap₂ (select_of n e.input) z o
-          ∙ table_select n e.input 0 (tree_of es e.on_zero) (tree_of es e.on_one)
-          (number_ordered e.on_zero f.zero_lower)
-          (number_ordered e.on_one f.one_lower)
-          ∙ ap (table_of n) (sym (latest_tree n es e))
-          ∙ sym (number_table n (e ∷ es) (next_number es))
+  pub number_fits : (k : ℕ) → k < next_number (entries_so_far x) → (get_or x.all k no_number).table < 2 ^ (2 ^ x.n)
+  number_fits k l =
+      rw ((told.tell k l).table ∙ number_table x.n (entries_so_far x) k) (table_lt x.n 0 (tree_of (entries_so_far x) k) (number_ordered k l))
 
-      pub tables_more : next_number es < length tables → TablesTell n (e ∷ es) (set tables (next_number es) (table_by n tables e))
-      tables_more room =
-          tells_more es e _ _ tables (table_by n tables e) tell room latest_table
-          (λ x other. number_table n es x ∙ ap (table_of n) (sym (earlier_tree n es e x other)) ∙ sym (number_table n (e ∷ es) x))
+  -- one entry more
+  module _ (e : EntryRead) (t : ℕ) (fits : FitsAfter x.n (entries_so_far x) (as_entry e)) (room : x.count < most_entries) (long : length x.all ≡ most_numbers)
+      (drives : t ≡ select_of x.n e.input (get_or x.all e.on_zero no_number).table (get_or x.all e.on_one no_number).table) where
+    abbrev pub more : List Number
+    more = set x.all (2 + x.count) (number t e)
 
-pub inputs_more : (n : ℕ) (es : List Entry) (inputs : List ℕ) → InputsTell n es inputs → next_number es < length inputs
-    → (e : Entry) → InputsTell n (e ∷ es) (set inputs (next_number es) e.input)
-inputs_more n es inputs tell room e =
-    tells_more es e _ _ inputs e.input tell room (sym (latest_input n es e)) (λ x other. sym (earlier_input n es e x other))
+    latest : get_or more (2 + x.count) no_number ≡ number t e
+    latest = get_or-set_same x.all (2 + x.count) (number t e) no_number (omega arith)
+
+    pub entries_more : entries_in more (x.count + 1) ≡ as_entry e ∷ entries_so_far x
+    unfolding entries_in
+    entries_more =
+        let own : x.count + 2 ≡ 2 + x.count = omega arith in
+        rw (add-one x.count, own, latest) (ap (λ es. as_entry e ∷ es) (entries_kept x.all (2 + x.count) (number t e) x.count (omega arith)))
+
+    latest_table : t ≡ drawn_table diagram_drawing x.n (diagram (as_entry e ∷ entries_so_far x) (next_number (entries_so_far x)))
+    latest_table =
+        let es = entries_so_far x in
+        let z = (told.tell e.on_zero fits.zero_lower).table ∙ number_table x.n es e.on_zero in
+        let o = (told.tell e.on_one fits.one_lower).table ∙ number_table x.n es e.on_one in
+        drives
+        ∙ ap₂ (select_of x.n e.input) z o
+        ∙ table_select x.n e.input 0 (tree_of es e.on_zero) (tree_of es e.on_one)
+        (number_ordered e.on_zero fits.zero_lower)
+        (number_ordered e.on_one fits.one_lower)
+        ∙ ap (table_of x.n) (sym (latest_tree x.n es (as_entry e)))
+        ∙ sym (number_table x.n (as_entry e ∷ es) (next_number es))
+
+    tell_more : TellsEach x.n (as_entry e ∷ entries_so_far x) more
+    tell_more k h =
+        let n = x.n in
+        let es = entries_so_far x in
+        ⊎_elim
+        (λ (same : k ≡ next_number es).
+        let own : Tells n (as_entry e ∷ es) (next_number es) (get_or more (2 + x.count) no_number) =
+        rw latest (record { table = latest_table; input = sym (latest_input n es (as_entry e)) }) in
+        rw same (subst (λ (j : ℕ). Tells n (as_entry e ∷ es) (next_number es) (get_or more j no_number)) (sym own_number) own))
+        (λ lower.
+        let other : k ≡ next_number es → ⊥ = λ d. omega (arith, d, lower) in
+        let past : k ≡ 2 + x.count → ⊥ = λ d. omega (arith, d, lower, own_number) in
+        let v = told.tell k lower in
+        rw (get_or-set_other x.all (2 + x.count) k (number t e) no_number past)
+        (record {
+          table = v.table ∙ number_table n es k ∙ ap (table_of n) (sym (earlier_tree n es (as_entry e) k other)) ∙ sym (number_table n (as_entry e ∷ es) k);
+          input = v.input ∙ sym (earlier_input n es (as_entry e) k other);
+        }))
+        (below_suc {k = next_number es} (omega arith))
+
+    pub told_more : (price : ℕ) → price ≡ entry_price (as_entry e) → Told (record { n = x.n; count = x.count + 1; cells = x.cells + price; all = more })
+    unfolding EntriesFit entries_cells
+    told_more price p =
+        record {
+          small = told.small;
+          few = omega arith;
+          fit = rw entries_more (fits, told.fit);
+          tell = rw entries_more tell_more;
+          counted = rw entries_more (omega (arith, p, told.counted));
+        }

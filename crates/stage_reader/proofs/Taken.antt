@@ -11,7 +11,10 @@ use Rattle.base.proofs.Cases.{same_refusal}
 use Rattle.table.specs.Drawing.{Drawing, drawn_table}
 use Rattle.stage.specs.Steps.{Read, taken, fault}
 use Rattle.stage.specs.Inner.Laws.{TakenAs}
-use Rattle.stage_reader.specs.Inner.Wires.{WireReply, taken_wire, refused_wire, step_of}
+use Rattle.stage_reader.specs.Inner.Wires.{WireReply, taken_wire, refused_wire, wire_reply, step_of}
+use Rattle.stage_reader.specs.declared.steps.Wire.{Wire}
+use Rattle.std.specs.Prelude.{Result, IsErrAnd}
+use Rattle.stage_reader.proofs.Exits.{exit_told}
 
 -- a table, the cells and the place after them, as the code hands them over
 abbrev pub handed : ℕ × (ℕ × (ℕ × Unit {0})) → WireReply
@@ -30,6 +33,11 @@ module _ (D : Drawing) where
   pub step_refused_lem : (n : ℕ) (y : Read D.Shape) (f g : Refusal) → y ≡ fault f → g ≡ f → refused_wire g ≡ step_of D n y
   unfolding step_of
   step_refused_lem n y f g e d = rw (e, d)
+
+  -- the same at the exit of a `?`
+  pub exit_refused : (n : ℕ) (y : Read D.Shape) (r : Result Wire Refusal) (f g : Refusal) → IsErrAnd r (λ x. x ≡ g) → y ≡ fault f → g ≡ f
+      → wire_reply r ≡ step_of D n y
+  exit_refused n y r f g h e d = exit_told wire_reply r g (step_of D n y) h (step_refused_lem n y f g e d)
 
   pub fell : (n : ℕ) (f : Refusal) (y : Read D.Shape) → refused_wire f ≡ step_of D n y → y ≡ fault f
   unfolding step_of

@@ -6,14 +6,15 @@ use mathlib.Core.List.{List}
 use lib.Dec.{leb}
 use lib.ListN.{length, get_or, drop}
 use borrow.Author.Tests.{ne_eqb}
+use Rattle.std.specs.Prelude.{Ok, Err}
 use Rattle.base.specs.declared.Refusal.{Refusal}
 use Rattle.base.specs.Refusals.{refusal_at, cut_short, out_of_range, not_ascending}
 use Rattle.sheet.specs.Limits.{count_out}
 use Rattle.table.specs.Tree.{con}
-use Rattle.stage.specs.Steps.{taken, fault, unless_refused, misplaced, due_number, turn_number}
+use Rattle.stage.specs.Steps.{taken, fault, unless_refused, misplaced, due, turn_number}
 use Rattle.stage.specs.TreeRead.{tree_known, branches_at, selector_at, tree_from, tree_at, tree_wire_at}
 use Rattle.stage.proofs.TreeReading.{tree_is}
-use Rattle.stage_reader.proofs.Places.{byte_there, no_byte, due_refused, due_goes, operand_stops, operand_goes, two_more}
+use Rattle.stage_reader.proofs.Places.{byte_there, no_byte, due_stops, due_goes, operand_stops, operand_goes, two_more}
 
 -- a tree, by its first byte
 module _ (s : List ℕ) (n k at : ℕ) (above : k ≤ n) where
@@ -66,17 +67,17 @@ module _ (s : List ℕ) (n k at : ℕ) where
     selector_input e = selector_opens ∙ rw e
 
 -- a wire, by its number
-module _ (s : List ℕ) (n m j at f : ℕ) (told : f ≡ due_number tree_known 0x21 (drop at s)) where
-  pub wire_refused : (g : Refusal) → (f ≡ 0 → ⊥) → g ≡ refusal_at f at → tree_wire_at n m j at (drop at s) ≡ fault g
+module _ (s : List ℕ) (n m j at : ℕ) where
+  pub wire_stops : (f : Refusal) → Err f ≡ due tree_known Err 0x21 at (λ rest. Ok (tt {0})) (drop at s) → tree_wire_at n m j at (drop at s) ≡ fault f
   unfolding tree_wire_at
-  wire_refused g h e = due_refused tree_known s 0x21 at f told fault _ g h e
+  wire_stops f e = due_stops tree_known 0x21 at s fault _ f e
 
-  module _ (due_there : f ≡ 0) where
+  module _ (u : Unit {0}) (stands : Ok u ≡ due tree_known Err 0x21 at (λ rest. Ok (tt {0})) (drop at s)) where
     pub wire_cut : length s ≤ at + 1 → tree_wire_at n m j at (drop at s) ≡ fault (refusal_at cut_short at)
     unfolding tree_wire_at
-    wire_cut h = due_goes tree_known s 0x21 at f told fault _ due_there ∙ operand_stops fault at _ s (at + 1) h
+    wire_cut h = due_goes tree_known 0x21 at s fault _ u stands ∙ operand_stops fault at _ s (at + 1) h
 
     pub wire_opens : at + 1 < length s
         → tree_wire_at n m j at (drop at s) ≡ unless_refused fault at (turn_number m j (get_or s (at + 1) 0) false) (tree_at n 0 (at + 2) (drop (at + 2) s))
     unfolding tree_wire_at
-    wire_opens there = due_goes tree_known s 0x21 at f told fault _ due_there ∙ operand_goes fault at _ s (at + 1) there ∙ rw (two_more at)
+    wire_opens there = due_goes tree_known 0x21 at s fault _ u stands ∙ operand_goes fault at _ s (at + 1) there ∙ rw (two_more at)

@@ -1,4 +1,5 @@
 -- What the contracts of inner functions speak of.
 pub mod Tables
 pub mod Wires
+pub mod Listed
 pub mod Numbers

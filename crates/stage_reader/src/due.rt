@@ -1,13 +1,15 @@
-// Where a command is due, and where a wire is: the number of the refusal, 0 where what is due stands there.
-ghost use Rattle.std.specs.Prelude.{◌≡◌, drop};
-ghost use Rattle.stage.specs.Steps.{misplaced, due_number, turn_number};
+// Where a command is due, and where a wire is: whether what is due stands there.
+ghost use Rattle.std.specs.Prelude.{◌≡◌, drop, Ok, Err};
+ghost use Rattle.base.specs.Refusals.{refusal_at};
+ghost use Rattle.stage.specs.Steps.{unless_refused, misplaced, due, turn_number};
 ghost use Rattle.diagram.specs.Forms.{form_of};
 
+use crate::steps::operand;
 use base::Refusal;
 use nodes::BoardKind;
 
 // The number of the refusal at a first byte that is not due: each board has its own commands.
-pub fn misplaced_number(kind: BoardKind, b: u8) -> u8
+fn misplaced_number(kind: BoardKind, b: u8) -> u8
     ensures { result ≡ misplaced (form_of kind).known b }
 {
     match kind {
@@ -29,34 +31,34 @@ pub fn misplaced_number(kind: BoardKind, b: u8) -> u8
     }
 }
 
-// The number of the refusal where a command is due, or 0 where it stands there.
-pub fn due_number(kind: BoardKind, s: &[u8], at: usize, want: u8) -> u8
-    ensures { result ≡ due_number (form_of kind).known want (drop at s.now) }
+// The refusal at such a byte.
+pub fn misplaced(kind: BoardKind, b: u8, at: usize) -> Refusal
+    ensures { result ≡ refusal_at (misplaced (form_of kind).known b) at }
 {
-    if s.len() <= at {
-        return Refusal::CUT_SHORT;
-    }
-    let b = s[at];
+    Refusal::at(misplaced_number(kind, b), at)
+}
+
+// A command that is due stands at a place.
+pub fn due(kind: BoardKind, s: &[u8], at: usize, want: u8) -> Result<(), Refusal>
+    ensures { result ≡ due (form_of kind).known Err want at (λ rest. Ok (tt {0})) (drop at s.now) }
+{
+    let b = operand(s, at, at)?;
     if b == want {
-        0
+        Ok(())
     } else {
-        misplaced_number(kind, b)
+        Err(misplaced(kind, b, at))
     }
 }
 
-// The number of the refusal of wire i where wire j of m is due, or 0 where it is that wire; `out` where another operand of its command is out of range,
-// which is judged before its turn is.
-pub fn turn_number(m: u8, j: u8, i: u8, out: bool) -> u8
-    ensures { result ≡ turn_number m j i out }
+// Wire i stands where wire j of m is due; `out` where another operand of its command, at a place, is out of range, which is judged before its turn is.
+pub fn turn(m: u8, j: u8, i: u8, out: bool, at: usize) -> Result<(), Refusal>
+    ensures { result ≡ unless_refused Err at (turn_number m j i out) (Ok (tt {0})) }
 {
-    if m <= i {
-        return Refusal::OUT_OF_RANGE;
-    }
-    if out {
-        return Refusal::OUT_OF_RANGE;
+    if m <= i || out {
+        return Err(Refusal::at(Refusal::OUT_OF_RANGE, at));
     }
     if i != j {
-        return Refusal::OUT_OF_TURN;
+        return Err(Refusal::at(Refusal::OUT_OF_TURN, at));
     }
-    0
+    Ok(())
 }

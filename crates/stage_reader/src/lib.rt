@@ -1,71 +1,54 @@
 // The stage reader: what drives each wire, an ordered tree or a diagram by the board, to its truth table and its cells.
 #![tactic(auto)]
 
-ghost use Rattle.std.specs.Prelude.{◌≡◌, ◌≤◌, drop};
-ghost use Rattle.base.specs.Cases.{accepted_case, refused_case, verdict_case};
+ghost use Rattle.std.specs.Prelude.{◌≡◌, ◌≤◌, drop, Ok, Err};
 ghost use Rattle.sheet.specs.Limits.{max_inputs, max_wires};
 ghost use Rattle.stage.specs.Read.{wires_at, end_at, closed, read_sheet};
-ghost use Rattle.stage.specs.Reply.{refused_reply, reply_to_stage};
+ghost use Rattle.stage.specs.Reply.{reply_to_stage};
 ghost use Rattle.stage.specs.Trees.{tree_drawing, read_stage};
 ghost use Rattle.diagram.specs.Diagrams.{diagram_drawing, read_diagrams};
 ghost use Rattle.diagram.specs.Forms.{form_of, drawing_of};
 ghost use Rattle.stage_reader.specs.Cases.{stage_reply};
 ghost use Rattle.stage_reader.specs.Inner.Wires.{wire_reply, step_of};
 
-use base::{Refusal, Verdict};
+use base::Refusal;
 use diagrams::read_diagram_wire;
-use due::due_number;
+use due::due;
 use nodes::{BoardKind, most_inputs};
 use sheet::Sheet;
 use sheet::limits::sizes_out;
-use steps::WireStep;
+use steps::{Wire, operand};
 use trees::read_tree_wire;
 
-mod steps; // what reading one wire gives
+mod steps; // one operand, and what reading one wire gives
 mod due; // where a command is due
 mod tables; // truth tables
 mod trees; // one wire's tree
+mod numbers; // the numbers of a diagram
 mod diagrams; // one wire's diagram
 
-// What a stage sheet says. A wire that it does not have is given table 0; after a refusal all numbers are 0.
+// What a stage sheet says. A wire that it does not have is given table 0.
 #[derive(Clone, Copy)]
 pub struct StageRead {
     pub n: u8,
     pub m: u8,
     pub tables: [u64; Sheet::WIRES],
     pub cells: u16,
-    pub answer: Verdict,
 }
 
 // 2F, and nothing after it.
-fn read_end(kind: BoardKind, s: &[u8], at: usize) -> Verdict
-    ensures { verdict_case result ≡ end_at (form_of kind).known refused_case accepted_case at (drop at s.now) }
+fn read_end(kind: BoardKind, s: &[u8], at: usize) -> Result<(), Refusal>
+    ensures { result ≡ end_at (form_of kind).known Err (Ok (tt {0})) at (drop at s.now) }
 {
-    let f = due_number(kind, s, at, 0x2F);
-    if f != 0 {
-        return Verdict::Refused(Refusal::at(f, at));
-    }
+    due(kind, s, at, 0x2F)?;
     if at + 1 < s.len() {
-        return Verdict::Refused(Refusal::at(Refusal::TRAILING, at + 1));
+        return Err(Refusal::at(Refusal::TRAILING, at + 1));
     }
-    Verdict::Accepted
-}
-
-// A refused sheet leaves nothing of what was read.
-fn no_stage(f: Refusal) -> StageRead
-    ensures { stage_reply result ≡ refused_reply f }
-{
-    StageRead {
-        n: 0,
-        m: 0,
-        tables: [0u64; Sheet::WIRES],
-        cells: 0,
-        answer: Verdict::Refused(f),
-    }
+    Ok(())
 }
 
 // Wire j, which is due. Here the boards part, and where their commands are told (`due`); all else is read alike.
-fn read_wire(kind: BoardKind, s: &[u8], at: usize, j: u8, n: u8, m: u8) -> WireStep
+fn read_wire(kind: BoardKind, s: &[u8], at: usize, j: u8, n: u8, m: u8) -> Result<Wire, Refusal>
     requires { n ≤ max_inputs }
     ensures { wire_reply result ≡ step_of (drawing_of kind) n ((form_of kind).wire_at n m j at (drop at s.now)) }
 {
@@ -76,71 +59,50 @@ fn read_wire(kind: BoardKind, s: &[u8], at: usize, j: u8, n: u8, m: u8) -> WireS
 }
 
 // The wires of a stage sheet from place 3 on, and its end.
-fn read_wires(kind: BoardKind, s: &[u8], n: u8, m: u8) -> StageRead
+fn read_wires(kind: BoardKind, s: &[u8], n: u8, m: u8) -> Result<StageRead, Refusal>
     requires { (n ≤ max_inputs) × (m ≤ max_wires) }
     ensures { stage_reply result ≡ reply_to_stage (drawing_of kind) (closed (form_of kind) n m (wires_at (form_of kind) m n m 0 3 (drop 3 s.now))) }
 {
     let mut tables = [0u64; Sheet::WIRES];
     let mut cells: u16 = 0;
     let mut at: usize = 3;
-    let mut j: u8 = 0;
-    while j < m {
-        let wire = read_wire(kind, s, at, j, n, m);
-        match wire {
-            WireStep::Wire {
-                table,
-                cells: c,
-                next,
-            } => {
-                tables[j as usize] = table;
-                cells = cells + c;
-                at = next;
-            }
-            WireStep::Refused(f) => return no_stage(f),
-        }
-        j += 1;
+    for j in 0..m {
+        let wire = read_wire(kind, s, at, j, n, m)?;
+        tables[j as usize] = wire.table;
+        cells += wire.cells;
+        at = wire.next;
     }
-    let answer = read_end(kind, s, at);
-    match answer {
-        Verdict::Accepted => StageRead {
-            n,
-            m,
-            tables,
-            cells,
-            answer: Verdict::Accepted,
-        },
-        Verdict::Refused(f) => no_stage(f),
-    }
+    read_end(kind, s, at)?;
+    Ok(StageRead {
+        n,
+        m,
+        tables,
+        cells,
+    })
 }
 
 // A whole stage sheet of either board: its tables and its cells, or the refusal.
-pub fn read_on(kind: BoardKind, s: &[u8]) -> StageRead
+pub fn read_on(kind: BoardKind, s: &[u8]) -> Result<StageRead, Refusal>
     ensures { stage_reply result ≡ reply_to_stage (drawing_of kind) (read_sheet (form_of kind) s.now) }
 {
-    let f = due_number(kind, s, 0, 0x20);
-    if f != 0 {
-        return no_stage(Refusal::at(f, 0));
-    }
-    if s.len() < 3 {
-        return no_stage(Refusal::at(Refusal::CUT_SHORT, 0));
-    }
-    let n = s[1];
-    let m = s[2];
+    due(kind, s, 0, 0x20)?;
+    let n = operand(s, 1, 0)?;
+    let m = operand(s, 2, 0)?;
     if sizes_out(most_inputs(kind), n, m) {
-        return no_stage(Refusal::at(Refusal::OUT_OF_RANGE, 0));
+        return Err(Refusal::at(Refusal::OUT_OF_RANGE, 0));
     }
     read_wires(kind, s, n, m)
 }
 
 // A stage sheet of document 01's board, whose wires are trees.
-pub fn read_stage(s: &[u8]) -> StageRead
+pub fn read_stage(s: &[u8]) -> Result<StageRead, Refusal>
     ensures { stage_reply result ≡ reply_to_stage tree_drawing (read_stage s.now) }
 {
     read_on(BoardKind::Tree, s)
 }
 
 // A stage sheet of the board that shares selectors (document 02, E2), whose wires are diagrams. The board has at most four inputs: more are 3 (E5).
-pub fn read_shared(s: &[u8]) -> StageRead
+pub fn read_shared(s: &[u8]) -> Result<StageRead, Refusal>
     ensures { stage_reply result ≡ reply_to_stage diagram_drawing (read_diagrams s.now) }
 {
     read_on(BoardKind::Sharing, s)

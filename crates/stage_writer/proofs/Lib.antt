@@ -1,3 +1,4 @@
+pub mod Firsts
 pub mod Keys
 pub mod Narrow
 pub mod Halves

@@ -8,7 +8,7 @@ ghost use Rattle.diagram.specs.Diagrams.{diagram_form};
 ghost use Rattle.diagram.specs.Forms.{form_of};
 ghost use Rattle.base.specs.Cases.{written_case};
 
-use base::{Refusal, Written};
+use base::Refusal;
 use nodes::{BoardKind, most_inputs};
 use sheet::Sheet;
 use sheet::limits::sizes_out;
@@ -29,34 +29,43 @@ pub fn write_on(
     m: u8,
     tables: [u64; Sheet::WIRES],
     buffer: &mut [u8],
-) -> Written
+) -> Result<usize, Refusal>
     ensures { (written_case result ≡ written_of (form_of kind) n m tables (length buffer.old))
         × (buffer.new ≡ buffer_after (form_of kind) n m tables buffer.old) }
 {
     if sizes_out(most_inputs(kind), n, m) {
-        return Written::Refused(Refusal::at(Refusal::OUT_OF_RANGE, 0));
+        return Err(Refusal::at(Refusal::OUT_OF_RANGE, 0));
     }
-    let wire = first_out(n, m, tables);
-    if wire < m {
-        return Written::Refused(Refusal::at(Refusal::OUT_OF_RANGE, wire as usize));
+    if let Some(wire) = first_out(n, m, tables) {
+        return Err(Refusal::at(Refusal::OUT_OF_RANGE, wire));
     }
     let length = stage_length(kind, m, stage_selectors(kind, n, m, tables));
     if buffer.len() < length {
-        return Written::Refused(Refusal::at(Refusal::SHORT_BUFFER, length));
+        return Err(Refusal::at(Refusal::SHORT_BUFFER, length));
     }
     put_sheet(kind, buffer, n, m, tables);
-    Written::Length(length)
+    Ok(length)
 }
 
 // A stage of trees.
-pub fn write_stage(n: u8, m: u8, tables: [u64; Sheet::WIRES], buffer: &mut [u8]) -> Written
+pub fn write_stage(
+    n: u8,
+    m: u8,
+    tables: [u64; Sheet::WIRES],
+    buffer: &mut [u8],
+) -> Result<usize, Refusal>
     ensures { (written_case result ≡ written_of tree_form n m tables (length buffer.old)) × (buffer.new ≡ buffer_after tree_form n m tables buffer.old) }
 {
     write_on(BoardKind::Tree, n, m, tables, buffer)
 }
 
 // A stage of diagrams (document 02, E2). Their board has at most four inputs: more are 3 (E5).
-pub fn write_shared(n: u8, m: u8, tables: [u64; Sheet::WIRES], buffer: &mut [u8]) -> Written
+pub fn write_shared(
+    n: u8,
+    m: u8,
+    tables: [u64; Sheet::WIRES],
+    buffer: &mut [u8],
+) -> Result<usize, Refusal>
     ensures { (written_case result ≡ written_of diagram_form n m tables (length buffer.old)) × (buffer.new ≡ buffer_after diagram_form n m tables buffer.old) }
 {
     write_on(BoardKind::Sharing, n, m, tables, buffer)

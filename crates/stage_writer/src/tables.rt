@@ -1,11 +1,11 @@
 // The tables of a stage that is to be written: whether they are in range, their selectors, and how long the stage will be.
 // Inner functions: `write_on` has tested the sizes before it calls them, and the tables before their selectors are counted.
 ghost use Rattle.std.specs.Prelude.{◌≡◌, ℕ, ◌+◌, ◌*◌, ◌^◌, ◌<◌, ◌≤◌, get_or};
-ghost use Rattle.sheet.specs.Limits.{max_wires};
+ghost use Rattle.base.specs.Lowest.{first_below};
+ghost use Rattle.sheet.specs.Limits.{max_wires, is_beyond};
 ghost use Rattle.nodes.specs.Counts.{most_inputs};
 ghost use Rattle.table.specs.Cells.{wires, total};
 ghost use Rattle.stage.specs.Bytes.{sheet_frame, selector_bytes};
-ghost use Rattle.stage.specs.Written.{first_out};
 ghost use Rattle.stage_writer.specs.Inner.Wires.{frame_of, selectors_of};
 
 use crate::wires::{frame, selectors};
@@ -14,19 +14,14 @@ use sheet::Sheet;
 use stage::{SELECTOR_BYTES, SHEET_FRAME};
 use table::tables::table_out;
 
-// The first wire whose table has bits past the patterns of n inputs, or m.
-pub fn first_out(n: u8, m: u8, tables: [u64; Sheet::WIRES]) -> u8
+// The first of m wires whose table has bits past the patterns of n inputs.
+pub fn first_out(n: u8, m: u8, tables: [u64; Sheet::WIRES]) -> Option<usize>
     requires { m ≤ max_wires }
-    ensures { result ≡ first_out n m tables }
+    ensures { result ≡ first_below m (λ j. is_beyond (2 ^ n) (get_or tables j 0)) }
 {
-    let mut j: u8 = 0;
-    while j < m {
-        if table_out(n, tables[j as usize]) {
-            return j;
-        }
-        j += 1;
-    }
-    j
+    tables[..usize::from(m)]
+        .iter()
+        .position(|t| table_out(n, *t))
 }
 
 // The selectors of a stage whose tables are of n inputs. Six inputs have 63 in a table at most, so that a byte counts those of four wires.

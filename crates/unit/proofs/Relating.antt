@@ -3,13 +3,13 @@ use Prim.Native.Nat.{ℕ}
 use mathlib.Core.Path.{◌≡◌, refl, sym, ap, ◌∙◌}
 use mathlib.Core.List.{List}
 use Rattle.base.specs.declared.Refusal.{Refusal}
-use Rattle.base.specs.declared.Verdict.TheVariants.{Accepted, Refused}
-use Rattle.base.specs.Cases.{accepted_case, refused_outcome, verdict_case}
+use Rattle.std.specs.Prelude.{Ok, Err}
+use Rattle.relation.specs.declared.Relation.{Relation}
+use Rattle.base.specs.Cases.{accepted_case, refused_outcome}
 use Rattle.base.proofs.Cases.{accepted_refused, refused_accepted, same_refusal}
 use Rattle.sheet.specs.declared.Command.{Command}
 use Rattle.sheet.specs.Judged.{Reading, holds, refused}
 use Rattle.reader.specs.Reading.{reading_of}
-use Rattle.unit.specs.declared.Formed.{Formed}
 use Rattle.unit.specs.Cases.{FormedReply, formed_reply}
 use Rattle.unit.specs.Formed.{relation_in, turned_away, related_from, related_of}
 
@@ -23,20 +23,19 @@ module _ (bytes : List ℕ) where
   related_whole cs e = rw e
 
 -- what was read is told by the reply
-module _ (bytes : List ℕ) (f : Formed) (ef : formed_reply f ≡ related_of bytes) where
-  answered : {r : FormedReply} → related_of bytes ≡ r → verdict_case f.answer ≡ r.answer
-  answered e = ap (λ (x : FormedReply). x.answer) (ef ∙ e)
+module _ (bytes : List ℕ) where
+  module _ (r : Relation) (er : formed_reply (Ok r) ≡ related_of bytes) where
+    taken : (x : Reading) → reading_of bytes ≡ x → (cs : List Command) × (reading_of bytes ≡ holds cs) × (r ≡ relation_in cs)
+    taken (holds cs) e = (cs, e, ap (λ (x : FormedReply). x.relation) (er ∙ related_whole bytes cs e))
+    taken (refused g) e = accepted_refused g (ap (λ (x : FormedReply). x.answer) (er ∙ related_refused bytes g e))
 
-  taken : (x : Reading) → reading_of bytes ≡ x → f.answer ≡ Accepted → (cs : List Command) × (reading_of bytes ≡ holds cs) × (f.relation ≡ relation_in cs)
-  taken (holds cs) e h = (cs, e, ap (λ (x : FormedReply). x.relation) (ef ∙ related_whole bytes cs e))
-  taken (refused g) e h = refused_accepted g (sym (answered (related_refused bytes g e)) ∙ ap verdict_case h)
+    pub related_held : (cs : List Command) × (reading_of bytes ≡ holds cs) × (r ≡ relation_in cs)
+    related_held = taken (reading_of bytes) refl
 
-  pub related_held : f.answer ≡ Accepted → (cs : List Command) × (reading_of bytes ≡ holds cs) × (f.relation ≡ relation_in cs)
-  related_held = taken (reading_of bytes) refl
+  module _ (g : Refusal) (eg : formed_reply (Err g) ≡ related_of bytes) where
+    turned : (x : Reading) → reading_of bytes ≡ x → reading_of bytes ≡ refused g
+    turned (holds cs) e = refused_accepted g (ap (λ (x : FormedReply). x.answer) (eg ∙ related_whole bytes cs e))
+    turned (refused k) e = e ∙ ap refused (sym (same_refusal refused_outcome g k (ap (λ (x : FormedReply). x.answer) (eg ∙ related_refused bytes k e))))
 
-  turned : (g : Refusal) (x : Reading) → reading_of bytes ≡ x → f.answer ≡ Refused g → reading_of bytes ≡ refused g
-  turned g (holds cs) e h = accepted_refused g (sym (answered (related_whole bytes cs e)) ∙ ap verdict_case h)
-  turned g (refused k) e h = e ∙ ap refused (same_refusal refused_outcome k g (sym (answered (related_refused bytes k e)) ∙ ap verdict_case h))
-
-  pub related_turned : (g : Refusal) → f.answer ≡ Refused g → reading_of bytes ≡ refused g
-  related_turned g = turned g (reading_of bytes) refl
+    pub related_turned : reading_of bytes ≡ refused g
+    related_turned = turned (reading_of bytes) refl

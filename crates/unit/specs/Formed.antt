@@ -11,7 +11,7 @@ use Rattle.sheet.specs.Commands.{inputs_of, wires_of}
 use Rattle.sheet.specs.Limits.{max_patterns, max_values}
 use Rattle.sheet.specs.Judged.{Reading, holds, refused}
 use Rattle.reader.specs.Reading.{reading_of}
-use Rattle.unit.specs.Cases.{FormedReply}
+use Rattle.unit.specs.Cases.{FormedReply, no_relation}
 use Rattle.unit.specs.Relation.{unit_relation}
 
 -- R(p) as a set: bit v says that value v is in it
@@ -26,10 +26,6 @@ relation_in cs =
       m = wires_of cs;
       sets = tabulate max_patterns (λ p. cond (ltb p (2 ^ inputs_of cs)) (set_on cs p) 0);
     }
-
--- a refusal leaves no relation
-abbrev pub no_relation : Relation
-no_relation = record { n = 0; m = 0; sets = tabulate max_patterns (λ p. 0) }
 
 abbrev pub turned_away : Refusal → FormedReply
 turned_away f = record { relation = no_relation; answer = refused_case f }

@@ -35,18 +35,6 @@ struct Encoded {
     length: usize,
 }
 
-fn low_byte(w: u16) -> u8
-    ensures { result ≡ w % 256 }
-{
-    (w % 256) as u8
-}
-
-fn high_byte(w: u16) -> u8
-    ensures { result ≡ w / 256 }
-{
-    (w / 256) as u8
-}
-
 // The bytes of a command.
 fn encode(c: Command) -> Encoded
     ensures { (take result.length result.bytes ≡ command_bytes c) × (result.length ≡ length (command_bytes c)) × (result.length ≤ longest_command) }
@@ -77,8 +65,7 @@ fn encode(c: Command) -> Encoded
             length: OUTPUT_WIDTH,
         },
         Command::Limit { p, set } => {
-            let low = low_byte(set);
-            let high = high_byte(set);
+            let [low, high] = set.to_le_bytes();
             Encoded {
                 bytes: [0x06, p, low, high],
                 length: LIMIT_WIDTH,
@@ -95,10 +82,8 @@ pub fn put_command(out: &mut [u8], at: usize, c: Command) -> usize
     let encoded = encode(c);
     let bytes = encoded.bytes;
     let length = encoded.length;
-    let mut i: usize = 0;
-    while i < length {
+    for i in 0..length {
         put(out, at + i, bytes[i]);
-        i += 1;
     }
     at + length
 }

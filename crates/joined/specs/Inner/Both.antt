@@ -4,8 +4,8 @@ use Rattle.nodes.specs.declared.BoardKind.TheVariants.{Tree}
 use Rattle.relation.specs.declared.Relation.{Relation}
 use Rattle.relation.specs.Joined.{join_of}
 use Rattle.quote.specs.Audit.{sizes_apart}
-use Rattle.quote.specs.Cases.{QuoteReply}
-use Rattle.quote.specs.Quote.{no_quote, searched, buffer_searched}
+use Rattle.quote.specs.Cases.{QuoteReply, no_quote}
+use Rattle.quote.specs.Quote.{searched, buffer_searched}
 use Rattle.joined.specs.Joint.{quoted_as_second}
 
 abbrev pub are_same : Relation → Relation → Bool

@@ -1,27 +1,32 @@
-use mathlib.Core.Path.{ap, subst, sym, ◌∙◌}
+use mathlib.Core.Path.{◌≡◌, subst, sym, ◌∙◌}
 use mathlib.Core.List.{◌++◌, ◌∷◌, []}
 use Prim.Native.Nat.{◌≤◌}
 use Rattle.sheet.specs.Limits.{max_inputs}
+use Rattle.sheet.specs.Judged.{ending}
+use Rattle.sheet.specs.Inner.Gathering.{gathered_reply}
 use Rattle.reader.specs.declared.Reader.{Reader}
-use Rattle.reader.specs.Inner.Turns.{done_with}
-use Rattle.reader.proofs.Turns.{accepted_sheet, follow_end, follow_on, follow_refused}
+use Rattle.base.proofs.Passing.{passed_on}
+use Rattle.reader.proofs.Turns.{follow_end, follow_short, follow_on}
 use Rattle.reader.proofs.lead_on.Goals as goal
 
+pub returns-in_err-whole : goal.returns-in_err-whole
+returns-in_err-whole c before s e f g l =
+    let a = c.args in
+    let cs = before ++ a.c ∷ [] in
+    let h = c.in_err-whole in
+    let ended : c.finish.result ≡ gathered_reply (ending s a.next.at cs) = c.finish.ensures cs s e (subst (λ (x : Reader). x.n ≤ max_inputs) f g) l in
+    passed_on c.from_residual.result h.field-0.0 c.from_residual.ensures.1
+    ∙ follow_short cs a.c s a.next.at h.field-0.0 (sym c.is_end.ensures ∙ c.if-is_end.true) (sym ended ∙ h.was)
+
 pub returns-then-is_end : goal.returns-then-is_end
-returns-then-is_end c before s at e f g l =
+returns-then-is_end c before s e f g l =
     let a = c.args in
-    let yes = c.in-Accepted.is in
-    c.done.ensures
-    ∙ ap done_with
-    (c.finish.ensures (before ++ a.c ∷ []) s (accepted_sheet before a.c at a.reply e s yes) (subst (λ (x : Reader). x.n ≤ max_inputs) f g) l)
-    ∙ follow_end before a.c at a.reply e s a.next.at yes (sym c.is_end.ensures ∙ c.if-is_end.true)
+    let cs = before ++ a.c ∷ [] in
+    let h = c.in_ok-whole in
+    let ended : c.finish.result ≡ gathered_reply (ending s a.next.at cs) = c.finish.ensures cs s e (subst (λ (x : Reader). x.n ≤ max_inputs) f g) l in
+    follow_end cs a.c s a.next.at h.whole (sym c.is_end.ensures ∙ c.if-is_end.true) (sym ended ∙ h.was)
 
-pub returns-else-is_end : goal.returns-else-is_end
-returns-else-is_end c before s at e f g l =
+pub returns : goal.returns
+returns c before s e f g l =
     let a = c.args in
-    follow_on before a.c at a.reply e s a.next f c.in-Accepted.is (sym c.is_end.ensures ∙ c.if-is_end.false)
-
-pub returns-in-Refused : goal.returns-in-Refused
-returns-in-Refused c before s at e f g l =
-    let a = c.args in
-    follow_refused before a.c at a.reply e s a.next.at _ c.in-Refused.is
+    follow_on (before ++ a.c ∷ []) a.c s a.next.at a.sheet a.next e f (sym c.is_end.ensures ∙ c.if-is_end.false)

@@ -1,11 +1,11 @@
 -- What the steps of the gathering give, where the sheet is what the commands before say.
 use Rattle.std.specs.Prelude.{ℕ, ◌≤◌, ◌≡◌, Bool, cond, List, [], ◌∷◌, ◌++◌, length}
-use Rattle.base.specs.Refusals.{no_signal, too_many}
-use Rattle.base.specs.declared.Verdict.TheVariants.{Accepted, Refused}
+use Rattle.std.specs.Prelude.{Result, Ok, Err}
+use Rattle.base.specs.declared.Refusal.{Refusal}
+use Rattle.base.specs.Refusals.{refusal_at, no_signal, too_many}
 use Rattle.sheet.specs.declared.Command.{Command}
 use Rattle.sheet.specs.declared.Command.TheVariants.{End, Sizes, Row, DontCare, Gate, Output, Limit}
 use Rattle.sheet.specs.declared.Sheet.{Sheet}
-use Rattle.sheet.specs.declared.Reply.{Reply}
 use Rattle.sheet.specs.Limits.{max_inputs}
 use Rattle.sheet.specs.Commands.{is_empty, is_sizes, inputs_of}
 use Rattle.sheet.specs.Gathered.{gathered}
@@ -21,31 +21,28 @@ pattern_of (Gate k a b) = 0
 pattern_of (Output s) = 0
 pattern_of (Limit p w) = p
 
--- why a gate or an output is refused: a signal that is not made before one too many, and 0 where it is taken
-abbrev pub fault_of : Bool → Bool → ℕ
-fault_of unmade full = cond unmade no_signal (cond full too_many 0)
+-- why a gate or an output at a place is refused: a signal that is not made before one too many
+abbrev pub fault_of : Bool → Bool → ℕ → Result Unit Refusal
+fault_of unmade full at = cond unmade (Err (refusal_at no_signal at)) (cond full (Err (refusal_at too_many at)) (Ok tt))
 
 -- what commands come to, as the code has it
-abbrev pub accepted_reply : Sheet → Reply
-accepted_reply sheet = record { sheet = sheet; answer = Accepted }
-
-unfoldable pub gathered_reply : Reading → Reply
-gathered_reply (holds cs) = accepted_reply (gathered cs)
-gathered_reply (refused f) = record { sheet = gathered []; answer = Refused f }
+unfoldable pub gathered_reply : Reading → Result Sheet Refusal
+gathered_reply (holds cs) = Ok (gathered cs)
+gathered_reply (refused f) = Err f
 
 -- a command is gathered
 abbrev pub Takes : Sheet → Command → Sheet → Type 0
 Takes sheet c r = (before : List Command) → sheet ≡ gathered before → r ≡ gathered (before ++ c ∷ [])
 
 -- a command at a place is judged: 6, 7, 8, or gathered
-abbrev pub Judges : Sheet → Command → ℕ → Reply → Type 0
+abbrev pub Judges : Sheet → Command → ℕ → Result Sheet Refusal → Type 0
 Judges sheet c at r = (before : List Command) → sheet ≡ gathered before → r ≡ gathered_reply (judged before c at)
 
 -- the same for every command in its turn
-abbrev pub Adds : Sheet → Command → ℕ → Reply → Type 0
+abbrev pub Adds : Sheet → Command → ℕ → Result Sheet Refusal → Type 0
 Adds sheet c at r = (before : List Command) → sheet ≡ gathered before → is_sizes c ≡ is_empty before → r ≡ gathered_reply (judged before c at)
 
 -- the end is judged: 4, 9, or the sheet stands
-abbrev pub Ends : Sheet → ℕ → ℕ → Reply → Type 0
+abbrev pub Ends : Sheet → ℕ → ℕ → Result Sheet Refusal → Type 0
 Ends sheet to len r =
     (before : List Command) (s : List ℕ) → sheet ≡ gathered before → inputs_of before ≤ max_inputs → len ≡ length s → r ≡ gathered_reply (ending s to before)

@@ -1,43 +1,54 @@
--- The numbers of a diagram as the stage reader looks them up: what each drives and which input it tests.
-use Rattle.std.specs.Prelude.{ℕ, ◌+◌, ◌^◌, ◌<◌, ◌≤◌, ◌≡◌, List, get_or, drop}
+-- The numbers of a diagram as the stage reader keeps them: what each drives and which input it tests.
+use Rattle.std.specs.Prelude.{ℕ, zero, suc, ◌+◌, ◌<◌, ◌≤◌, ◌≡◌, List, [], ◌∷◌, get_or}
+use Rattle.sheet.specs.Limits.{max_inputs}
 use Rattle.table.specs.Drawing.{drawn_table}
-use Rattle.stage.specs.Steps.{Read, taken, fault, unless_refused}
-use Rattle.diagram.specs.Diagram.{Entry, entry, diagram, first_number, next_number, input_at, most_entries}
+use Rattle.diagram.specs.Diagram.{Entry, entry, diagram, first_number, next_number, input_at, most_entries, EntriesFit, entries_cells}
 use Rattle.diagram.specs.Diagrams.{diagram_drawing}
-use Rattle.stage_reader.specs.Inner.Tables.{select_of}
+use Rattle.stage_reader.specs.Inner.Listed.{Listed, listed}
+use Rattle.stage_reader.specs.declared.numbers.Entry.{Entry as EntryRead}
+use Rattle.stage_reader.specs.declared.numbers.Number.{Number}
+use Rattle.stage_reader.specs.declared.numbers.Numbers.TheInside.{Inside}
 
 -- the two constants and as many entries as a wire can have
 abbrev pub most_numbers : ℕ
 most_numbers = first_number + most_entries
 
--- an array tells what each number below k has
-abbrev pub TellsBelow : (has : ℕ → ℕ) (k : ℕ) → List ℕ → Type 0
-TellsBelow has k l = (x : ℕ) → x < k → get_or l x 0 ≡ has x
-
--- The arrays tell every number so far. The code keeps them and not the entries, so contracts speak of any entries that they tell.
-abbrev pub InputsTell : (n : ℕ) → List Entry → (inputs : List ℕ) → Type 0
-InputsTell n es = TellsBelow (input_at n es) (next_number es)
-
-abbrev pub TablesTell : (n : ℕ) → List Entry → (tables : List ℕ) → Type 0
-TablesTell n es = TellsBelow (λ x. drawn_table diagram_drawing n (diagram es x)) (next_number es)
-
 -- the entry that stands at a place of the sheet
 abbrev pub entry_there : List ℕ → ℕ → Entry
 entry_there s at = entry (get_or s at 0) (get_or s (at + 1) 0) (get_or s (at + 2) 0)
 
--- what the number of its refusal makes of it
-abbrev pub entry_by : ℕ → List ℕ → ℕ → Read Entry
-entry_by f s at = unless_refused fault at f (taken (entry_there s at) (at + 3) (drop (at + 3) s))
+-- an entry that was read
+abbrev pub as_entry : EntryRead → Entry
+as_entry e = entry e.input e.on_zero e.on_one
 
--- an entry whose table can be made of those in the array: it tests one of the n inputs, and names numbers below its own that have tables of n inputs
-pub record Selects (n own : ℕ) (tables : List ℕ) (e : Entry) : Type 0 where
-  pub least : 1 ≤ e.input
-  pub most : e.input ≤ n
-  pub zero_lower : e.on_zero < own
-  pub one_lower : e.on_one < own
-  pub zero_fits : get_or tables e.on_zero 0 < 2 ^ (2 ^ n)
-  pub one_fits : get_or tables e.on_one 0 < 2 ^ (2 ^ n)
+-- what stands at a number past the array
+abbrev pub no_number : Number
+no_number = record { table = 0; entry = record { input = 0; on_zero = 0; on_one = 0 } }
 
--- its table, made of them
-abbrev pub table_by : (n : ℕ) (tables : List ℕ) → Entry → ℕ
-table_by n tables e = select_of n e.input (get_or tables e.on_zero 0) (get_or tables e.on_one 0)
+-- the first so many entries, the latest first; the constants stand before them
+unfoldable pub entries_in : List Number → ℕ → List Entry
+entries_in all zero = []
+entries_in all (suc k) = as_entry (get_or all (k + first_number) no_number).entry ∷ entries_in all k
+
+abbrev pub entries_so_far : Inside → List Entry
+entries_so_far x = entries_in x.all x.count
+
+abbrev pub listed_in : Inside → Listed
+listed_in x = listed x.n (entries_so_far x)
+
+-- what stands at a number is the table that the number drives, and the input that it tests
+pub record Tells (n : ℕ) (es : List Entry) (x : ℕ) (v : Number) : Type 0 where
+  pub table : v.table ≡ drawn_table diagram_drawing n (diagram es x)
+  pub input : v.entry.input ≡ input_at n es x
+
+-- the same of every number so far
+abbrev pub TellsEach : (n : ℕ) → List Entry → List Number → Type 0
+TellsEach n es all = (x : ℕ) → x < next_number es → Tells n es x (get_or all x no_number)
+
+-- the entries fit one after the other, the numbers tell them, and their cells are counted
+pub record Told (x : Inside) : Type 0 where
+  pub small : x.n ≤ max_inputs
+  pub few : x.count ≤ most_entries
+  pub fit : EntriesFit x.n (entries_so_far x)
+  pub tell : TellsEach x.n (entries_so_far x) x.all
+  pub counted : x.cells ≡ entries_cells (entries_so_far x)

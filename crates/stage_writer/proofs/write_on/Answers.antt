@@ -1,8 +1,10 @@
 -- `write_on` meets its contract: each test in its order, and the length that is computed is the stage's.
-use Rattle.std.proofs.Common.{ℕ, ◌+◌, ◌*◌, ◌<◌, ◌≤◌, ◌≡◌, sym, ap, ◌∙◌, Bool, true, false, List, length, arith, rules}
+use Rattle.std.proofs.Common.{ℕ, ◌^◌, get_or, Some, None, ◌+◌, ◌*◌, ◌<◌, ◌≤◌, ◌≡◌, sym, ap, ◌∙◌, Bool, true, false, List, length, arith, rules}
 use Rattle.base.specs.Cases.{accepting, accepted_outcome, refused_case}
+use Rattle.base.specs.Lowest.{first_below}
+use Rattle.base.proofs.Lowest.{some_lowest, none_lowest}
 use Rattle.base.specs.Refusals.{refusal_at, out_of_range, short_buffer}
-use Rattle.sheet.specs.Limits.{max_wires, sizes_out}
+use Rattle.sheet.specs.Limits.{max_wires, sizes_out, is_beyond}
 use Rattle.base.specs.declared.Refusal.{Refusal}
 use Rattle.nodes.specs.declared.BoardKind.{BoardKind}
 use Rattle.nodes.specs.Counts.{most_inputs}
@@ -17,6 +19,16 @@ use Rattle.stage.proofs.Written.{tables_in, sizes_refused, table_refused, short_
 use Rattle.stage_writer.specs.Inner.Wires.{frame_of, selectors_of}
 use Rattle.stage_writer.proofs.Forms.{form_length}
 use Rattle.stage_writer.proofs.write_on.Goals as goal
+
+-- what the search for a table that is too large tells of the first
+found_out : (n m : ℕ) (tables : List ℕ) (w : ℕ) → Some w ≡ first_below m (λ j. is_beyond (2 ^ n) (get_or tables j 0))
+    → (first_out n m tables ≡ w) × (first_out n m tables < m)
+unfolding first_out
+found_out n m tables w e = some_lowest m _ w (sym e)
+
+none_out : (n m : ℕ) (tables : List ℕ) → None ≡ first_below m (λ j. is_beyond (2 ^ n) (get_or tables j 0)) → m ≤ first_out n m tables
+unfolding first_out
+none_out n m tables e = none_lowest m _ (sym e)
 
 module _ (kind : BoardKind) (n m : ℕ) where
   -- the test of the sizes by what the form has
@@ -52,27 +64,26 @@ returns-then-sizes_out c =
     let out : out_on a.kind a.n a.m ≡ true = sym (tested a.kind a.n a.m c.most_inputs.ensures c.sizes_out.ensures) ∙ c.if-sizes_out.true in
     refusal a.kind a.n a.m a.tables a.buffer.now (refusal_at out_of_range 0) _ c.at.ensures (sizes_refused (form_of a.kind) a.n a.m a.tables _ out)
 
-pub first_out-wire-requires : goal.first_out-wire-requires
-first_out-wire-requires c =
+pub first_out-requires : goal.first_out-requires
+first_out-requires c =
     let a = c.args in
     let in_range = sym (tested a.kind a.n a.m c.most_inputs.ensures c.sizes_out.ensures) ∙ c.if-sizes_out.false in
     (sized a.kind a.n a.m in_range).m_most
 
-pub returns-then-wire-m : goal.returns-then-wire-m
-returns-then-wire-m c =
+pub returns-in-Some : goal.returns-in-Some
+returns-in-Some c =
     let a = c.args in
     let in_range = sym (tested a.kind a.n a.m c.most_inputs.ensures c.sizes_out.ensures) ∙ c.if-sizes_out.false in
-    let wire : c.first_out-wire.result ≡ first_out a.n a.m a.tables = c.first_out-wire.ensures in
-    let early : first_out a.n a.m a.tables < a.m = rw wire at c.if-wire-m.true in
+    let wire = found_out a.n a.m a.tables c.in-Some.wire c.in-Some.ensures in
     refusal a.kind a.n a.m a.tables a.buffer.now (refusal_at out_of_range (first_out a.n a.m a.tables)) _
-    (c.at-then-wire-m.ensures ∙ ap (refusal_at out_of_range) wire)
-    (table_refused (form_of a.kind) a.n a.m a.tables _ in_range early)
+    (c.at-in-Some.ensures ∙ ap (refusal_at out_of_range) (sym wire.0))
+    (table_refused (form_of a.kind) a.n a.m a.tables _ in_range wire.1)
 
 pub stage_selectors-requires : goal.stage_selectors-requires
 stage_selectors-requires c =
     let a = c.args in
     let in_range = sym (tested a.kind a.n a.m c.most_inputs.ensures c.sizes_out.ensures) ∙ c.if-sizes_out.false in
-    (few a.kind a.n a.m in_range, (sized a.kind a.n a.m in_range).m_most, tables_in a.n a.m a.tables (rw c.first_out-wire.ensures at c.if-wire-m.false))
+    (few a.kind a.n a.m in_range, (sized a.kind a.n a.m in_range).m_most, tables_in a.n a.m a.tables (none_out a.n a.m a.tables c.in_default.ensures))
 
 pub returns-then-buffer-length : goal.returns-then-buffer-length
 returns-then-buffer-length c =
@@ -83,13 +94,13 @@ returns-then-buffer-length c =
     let short : length a.buffer.now < stage = rw long at c.if-buffer-length.true in
     refusal a.kind a.n a.m a.tables a.buffer.now (refusal_at short_buffer stage) _
     (c.at-then-buffer-length.ensures ∙ ap (refusal_at short_buffer) long)
-    (short_refused (form_of a.kind) a.n a.m a.tables _ in_range (rw c.first_out-wire.ensures at c.if-wire-m.false) short)
+    (short_refused (form_of a.kind) a.n a.m a.tables _ in_range (none_out a.n a.m a.tables c.in_default.ensures) short)
 
 pub put_sheet-requires : goal.put_sheet-requires
 put_sheet-requires c =
     let a = c.args in
     let in_range = sym (tested a.kind a.n a.m c.most_inputs.ensures c.sizes_out.ensures) ∙ c.if-sizes_out.false in
-    (few a.kind a.n a.m in_range, (sized a.kind a.n a.m in_range).m_most, tables_in a.n a.m a.tables (rw c.first_out-wire.ensures at c.if-wire-m.false))
+    (few a.kind a.n a.m in_range, (sized a.kind a.n a.m in_range).m_most, tables_in a.n a.m a.tables (none_out a.n a.m a.tables c.in_default.ensures))
 
 pub returns : goal.returns
 returns c =
@@ -97,5 +108,5 @@ returns c =
     let in_range = sym (tested a.kind a.n a.m c.most_inputs.ensures c.sizes_out.ensures) ∙ c.if-sizes_out.false in
     let long = length_is a.kind a.n a.m a.tables (search rules) in_range c.stage_selectors.ensures c.stage_length-length.ensures in
     let room : length (stage_of (form_of a.kind) a.n a.m a.tables) ≤ length a.buffer.now = rw long at c.if-buffer-length.false in
-    let e = room_accepted (form_of a.kind) a.n a.m a.tables _ in_range (rw c.first_out-wire.ensures at c.if-wire-m.false) room in
+    let e = room_accepted (form_of a.kind) a.n a.m a.tables _ in_range (none_out a.n a.m a.tables c.in_default.ensures) room in
     (ap (accepting accepted_outcome) long ∙ sym e, buffer_written (form_of a.kind) a.n a.m a.tables a.buffer.now _ e room c.put_sheet.ensures)

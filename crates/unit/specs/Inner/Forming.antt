@@ -6,9 +6,8 @@ use Rattle.relation.specs.declared.Relation.{Relation}
 use Rattle.sheet.specs.declared.Command.{Command}
 use Rattle.sheet.specs.Commands.{signals_made}
 use Rattle.sheet.specs.Limits.{max_outputs, max_values}
-use Rattle.unit.specs.Cases.{FormedReply}
+use Rattle.unit.specs.Cases.{FormedReply, no_relation}
 use Rattle.unit.specs.Gates.{signals_on, outputs_for}
-use Rattle.unit.specs.Formed.{no_relation}
 
 -- the signals that there are, each in the word at its place: bit v is the signal for value v
 abbrev pub SignalWords : List Command → List ℕ → Type 0

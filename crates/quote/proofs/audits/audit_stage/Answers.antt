@@ -1,51 +1,36 @@
 use mathlib.Core.Bool.{true, false}
+use mathlib.Core.Path.{◌≡◌, sym, ap, ◌∙◌}
+use Rattle.std.specs.Prelude.{Err}
 use Rattle.quote.specs.Cases.{audited_case}
-use Rattle.quote.specs.declared.Audited.TheVariants.{StageRefused}
-use mathlib.Core.Path.{sym, ap, ◌∙◌}
+use Rattle.quote.specs.declared.AuditRefusal.TheVariants.{Stage as StageRefused}
 use Rattle.quote.proofs.Auditing.{stage_refused, inputs_differ, wires_differ, few_inputs, tested}
 use Rattle.quote.proofs.audits.audit_stage.Goals as goal
 
 pub returns-in_default : goal.returns-in_default
-returns-in_default c =
-    let a = c.args in
-    let d = c.read_on-read in
-    let g = c.in_default in
-    ap audited_case (c.refused_stage.ensures g.field-0 g.is) ∙ stage_refused a.kind a.relation a.s.now d.result d.ensures g.field-0 g.is
+returns-in_default c = ?
 
 pub returns-then-read-relation : goal.returns-then-read-relation
 returns-then-read-relation c =
-    let b = c in
-    let a = b.args in
-    let d = b.read_on-read in
-    ap (λ f. audited_case (StageRefused f)) c.at.ensures
-    ∙ inputs_differ a.kind a.relation a.s.now d.result d.ensures b.in-Accepted.is b.if-read-relation.true
+    let a = c.args in
+    ap (λ f. audited_case (Err (StageRefused f))) c.at.ensures ∙ inputs_differ a.kind a.relation a.s.now c.in-Ok.read c.in-Ok.ensures c.if-read-relation.true
 
 pub returns-then-read-relation-2 : goal.returns-then-read-relation-2
 returns-then-read-relation-2 c =
-    let b = c in
-    let a = b.args in
-    let d = b.read_on-read in
-    ap (λ f. audited_case (StageRefused f)) c.at-then-read-relation-2.ensures
-    ∙ wires_differ a.kind a.relation a.s.now d.result d.ensures b.in-Accepted.is
-    b.if-read-relation.false c.if-read-relation-2.true
+    let a = c.args in
+    ap (λ f. audited_case (Err (StageRefused f))) c.at-then-read-relation-2.ensures
+    ∙ wires_differ a.kind a.relation a.s.now c.in-Ok.read c.in-Ok.ensures c.if-read-relation.false c.if-read-relation-2.true
 
 pub allowed_everywhere-requires : goal.allowed_everywhere-requires
-allowed_everywhere-requires c =
-    let b = c in
-    let a = b.args in
-    let d = b.read_on-read in
-    few_inputs a.kind a.relation a.s.now d.result d.ensures b.in-Accepted.is
+allowed_everywhere-requires c = let a = c.args in few_inputs a.kind a.relation a.s.now c.in-Ok.read c.in-Ok.ensures
 
 pub returns-then-allowed_everywhere : goal.returns-then-allowed_everywhere
 returns-then-allowed_everywhere c =
     let a = c.args in
-    let d = c.read_on-read in
-    tested a.kind a.relation a.s.now d.result d.ensures c.in-Accepted.is
+    tested a.kind a.relation a.s.now c.in-Ok.read c.in-Ok.ensures
     c.if-read-relation.false c.if-read-relation-2.false true (sym c.if-allowed_everywhere.true ∙ c.allowed_everywhere.ensures)
 
 pub returns-else-allowed_everywhere : goal.returns-else-allowed_everywhere
 returns-else-allowed_everywhere c =
     let a = c.args in
-    let d = c.read_on-read in
-    tested a.kind a.relation a.s.now d.result d.ensures c.in-Accepted.is
+    tested a.kind a.relation a.s.now c.in-Ok.read c.in-Ok.ensures
     c.if-read-relation.false c.if-read-relation-2.false false (sym c.if-allowed_everywhere.false ∙ c.allowed_everywhere.ensures)

@@ -9,4 +9,4 @@ returns-then-has c = rw (sym c.has.ensures ∙ c.if-has.true) c.has-then-has.ens
 
 pub returns-else-has : goal.returns-else-has
 unfolding is_open
-returns-else-has c = rw (sym c.has.ensures ∙ c.if-has.false)
+returns-else-has c = rw (sym c.has.ensures ∙ c.if-has.false) c.if-has.false

@@ -1,10 +1,11 @@
 use mathlib.Core.Path.{◌≡◌, ap, sym, subst, ◌∙◌}
 use Prim.Native.Nat.{◌<◌}
+use Rattle.std.proofs.Common.{Ok}
 use Rattle.sheet.specs.declared.Command.{Command}
 use Rattle.sheet.specs.Commands.{is_sizes, is_empty}
 use Rattle.sheet.specs.Judged.{judged}
 use Rattle.sheet.specs.Limits.{max_patterns}
-use Rattle.sheet.specs.Inner.Gathering.{pattern_of, accepted_reply, gathered_reply}
+use Rattle.sheet.specs.Inner.Gathering.{pattern_of, gathered_reply}
 use Rattle.sheet.proofs.Judging.{sizes_taken, end_taken}
 use Rattle.sheet.proofs.Sheet.add.Goals as goal
 
@@ -20,14 +21,14 @@ limit-requires c = subst (λ (x : Command). pattern_of x < max_patterns) c.in-Li
 pub returns-in-End : goal.returns-in-End
 returns-in-End c before e f =
     let a = c.args in
-    rw c.in-End.is (c.accept.ensures ∙ end_taken before a.at a.self e)
+    rw c.in-End.is (end_taken before a.at a.self e)
 
 pub returns-in-Sizes : goal.returns-in-Sizes
 returns-in-Sizes c before e f =
     let a = c.args in
     let g = c.in-Sizes.is in
     let z = sym (subst (λ (x : Command). is_sizes x ≡ is_empty before) g f) in
-    rw g (c.accept-in-Sizes.ensures ∙ ap accepted_reply c.fresh.ensures ∙ sizes_taken before a.at _ _ z)
+    rw g (ap Ok c.fresh.ensures ∙ sizes_taken before a.at _ _ z)
 
 pub returns-in-Row : goal.returns-in-Row
 returns-in-Row c before e f = rw c.in-Row.is (c.row.ensures before e)
@@ -43,4 +44,4 @@ returns-in-Output c before e f = rw c.in-Output.is (c.output.ensures before e)
 
 pub returns-in-Limit : goal.returns-in-Limit
 unfolding judged gathered_reply
-returns-in-Limit c before e f = rw c.in-Limit.is (c.accept-in-Limit.ensures ∙ ap accepted_reply (c.limit.ensures before e))
+returns-in-Limit c before e f = rw c.in-Limit.is (ap Ok (c.limit.ensures before e))

@@ -1,25 +1,19 @@
-use mathlib.Core.Path.{ap, ◌∙◌}
-use Rattle.sheet.specs.Judged.{refused}
-use Rattle.sheet.specs.Inner.Gathering.{gathered_reply}
+use mathlib.Core.Path.{sym, ap, ◌∙◌}
+use Rattle.std.proofs.Common.{Err}
 use Rattle.sheet.proofs.Judging.{end_trailing, end_missing, end_accepted}
 use Rattle.sheet.proofs.Sheet.finish.Goals as goal
 
 pub returns-then-to-len : goal.returns-then-to-len
 returns-then-to-len c before s e n l =
-    let a = c.args in
-    c.refusal.ensures ∙ ap (λ f. gathered_reply (refused f)) c.at.ensures
-    ∙ end_trailing before a.self e n s a.to (rw l at c.if-to-len.true)
+    let a = c.args in ap Err c.at.ensures ∙ end_trailing before a.self e n s a.to (rw l at c.if-to-len.true)
 
-pub returns-then-p-count : goal.returns-then-p-count
-returns-then-p-count c before s e n l =
+pub returns-in-Some : goal.returns-in-Some
+returns-in-Some c before s e n l =
     let a = c.args in
-    c.refusal-then-p-count.ensures ∙ ap (λ f. gathered_reply (refused f)) c.at-then-p-count.ensures
-    ∙ end_missing before a.self e n s a.to (rw l at c.if-to-len.false)
-    _ _ c.patterns_of-count.ensures.0 c.missing-p.ensures c.if-p-count.true
+    ap Err c.at-in-Some.ensures
+    ∙ end_missing before a.self e n s a.to (rw l at c.if-to-len.false) c.patterns_of-count.result c.patterns_of-count.ensures.0 c.in-Some.p (sym c.missing.ensures ∙ c.in-Some.is)
 
-pub returns : goal.returns
-returns c before s e n l =
+pub returns-in-None : goal.returns-in-None
+returns-in-None c before s e n l =
     let a = c.args in
-    c.accept.ensures
-    ∙ end_accepted before a.self e n s a.to (rw l at c.if-to-len.false)
-    _ _ c.patterns_of-count.ensures.0 c.missing-p.ensures c.if-p-count.false
+    end_accepted before a.self e n s a.to (rw l at c.if-to-len.false) c.patterns_of-count.result c.patterns_of-count.ensures.0 (sym c.missing.ensures ∙ c.in-None.is)

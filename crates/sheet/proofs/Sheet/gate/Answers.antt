@@ -1,34 +1,21 @@
-use mathlib.Core.Path.{◌≡◌, ap, ◌∙◌}
-use native.Mathlib.Omega.{arith}
-use Prim.Native.Nat.{◌<◌}
+use mathlib.Core.Path.{◌≡◌, sym, ◌∙◌}
 use lib.Dec.{leb}
+use Rattle.base.proofs.Passing.{passed_on}
 use Rattle.sheet.specs.Limits.{max_gates}
-use Rattle.sheet.specs.Judged.{refused}
-use Rattle.sheet.specs.Inner.Gathering.{gathered_reply, fault_of}
-use Rattle.sheet.proofs.Judging.{gate_unmade, room, gate_refused, gate_taken}
+use Rattle.sheet.specs.Inner.Gathering.{fault_of}
+use Rattle.sheet.proofs.Judging.{gate_unmade, gate_refused, gate_taken}
 use Rattle.sheet.proofs.Sheet.gate.Goals as goal
 
-pub returns-then-fault-ne0 : goal.returns-then-fault-ne0
-returns-then-fault-ne0 c before e =
-    let k = c in
-    let a = k.args in
-    c.refusal.ensures ∙ ap (λ f. gathered_reply (refused f)) c.at.ensures
-    ∙ gate_refused before a.at a.self e a.kind a.a a.b _ ((let it : let a = k.args in k.fault_of-fault.result ≡ fault_of (gate_unmade a.self a.a a.b) (leb max_gates a.self.gate_count) = rw (k.fault_of-fault.ensures, k.not_made.ensures, k.signals_made-made.ensures) in it)) c.if-fault-ne0.true
-
-pub bounds-self-i : goal.bounds-self-i
-bounds-self-i c = omega (arith, (let it : c.fault_of-fault.result ≡ 0 → c.args.self.gate_count < max_gates = room c.not_made.result max_gates _ _ c.fault_of-fault.ensures in it) c.if-fault-ne0.false)
-
-pub bounds-self-i-2 : goal.bounds-self-i-2
-bounds-self-i-2 c = omega (arith, (let it : c.fault_of-fault.result ≡ 0 → c.args.self.gate_count < max_gates = room c.not_made.result max_gates _ _ c.fault_of-fault.ensures in it) c.if-fault-ne0.false)
-
-pub bounds-self-i-3 : goal.bounds-self-i-3
-bounds-self-i-3 c = omega (arith, (let it : c.fault_of-fault.result ≡ 0 → c.args.self.gate_count < max_gates = room c.not_made.result max_gates _ _ c.fault_of-fault.ensures in it) c.if-fault-ne0.false)
-
-pub overflow_add-self : goal.overflow_add-self
-overflow_add-self c = omega (arith, (let it : c.fault_of-fault.result ≡ 0 → c.args.self.gate_count < max_gates = room c.not_made.result max_gates _ _ c.fault_of-fault.ensures in it) c.if-fault-ne0.false)
+pub returns-in_err-fault_of : goal.returns-in_err-fault_of
+returns-in_err-fault_of c before e =
+    let a = c.args in
+    let h = c.in_err-fault_of in
+    let fault : c.fault_of.result ≡ fault_of (gate_unmade a.self a.a a.b) (leb max_gates a.self.gate_count) a.at = rw (c.fault_of.ensures, c.not_made.ensures, c.signals_made-made.ensures) in
+    passed_on c.from_residual.result h.field-0.0 c.from_residual.ensures.1
+    ∙ gate_refused before a.at a.self e a.kind a.a a.b h.field-0.0 (sym fault ∙ h.was)
 
 pub returns : goal.returns
 returns c before e =
-    let k = c in
-    let a = k.args in
-    c.accept.ensures ∙ gate_taken before a.at a.self e a.kind a.a a.b _ ((let it : let a = k.args in k.fault_of-fault.result ≡ fault_of (gate_unmade a.self a.a a.b) (leb max_gates a.self.gate_count) = rw (k.fault_of-fault.ensures, k.not_made.ensures, k.signals_made-made.ensures) in it)) c.if-fault-ne0.false
+    let a = c.args in
+    let fault : c.fault_of.result ≡ fault_of (gate_unmade a.self a.a a.b) (leb max_gates a.self.gate_count) a.at = rw (c.fault_of.ensures, c.not_made.ensures, c.signals_made-made.ensures) in
+    gate_taken before a.at a.self e a.kind a.a a.b (sym fault ∙ c.in_ok-fault_of.was)

@@ -1,45 +1,53 @@
 -- `read_diagram_wire` meets its contract: its head judged, then the entries and the top.
-use Rattle.std.proofs.Common.{◌+◌, refl, sym, ◌∙◌, get_or, drop, ltb, arith}
+use Rattle.std.proofs.Common.{refl, ◌∙◌, ltb, arith}
 use borrow.Author.Tests.{ltb-false}
-use Rattle.stage.specs.Steps.{fault, and_then}
+use Rattle.stage.specs.Steps.{fault}
 use Rattle.stage.proofs.Steps.{turn_is}
 use Rattle.diagram.specs.Diagram.{most_entries}
 use Rattle.diagram.specs.Diagrams.{diagram_drawing}
-use Rattle.diagram.specs.Read.{diagram_known, entries_at, top_at}
-use Rattle.stage_reader.proofs.Places.{unless_refused_stops, unless_refused_goes, due_within}
-use Rattle.stage_reader.proofs.DiagramPlaces.{wire_refused, wire_cut, wire_opens}
-use Rattle.stage_reader.proofs.Taken.{step_refused_lem}
+use Rattle.diagram.specs.Read.{diagram_known}
+use Rattle.stage_reader.proofs.Places.{judged_stops, judged_goes, due_within}
+use Rattle.stage_reader.proofs.DiagramPlaces.{wire_stops, no_number, no_count, wire_opens}
+use Rattle.stage_reader.proofs.Taken.{exit_refused}
 use Rattle.stage_reader.proofs.diagrams.read_diagram_wire.Goals as goal
 
-pub returns-then-f-ne0 : goal.returns-then-f-ne0
-returns-then-f-ne0 c = step_refused_lem diagram_drawing _ _ _ _ (wire_refused _ _ _ _ _ _ c.due_number-f.ensures _ c.if-f-ne0.true c.at.ensures) refl
+pub returns-in_err-due : goal.returns-in_err-due
+returns-in_err-due c = exit_refused diagram_drawing _ _ _ _ _ c.from_residual.ensures.1 (wire_stops _ _ _ _ _ _ c.in_err-due.ensures) refl
 
-pub overflow_sub-s : goal.overflow_sub-s
-overflow_sub-s c = omega (arith, due_within diagram_known c.args.s.now 0x26 c.args.at _ c.due_number-f.ensures c.if-f-ne0.false)
+pub overflow_add-at : goal.overflow_add-at
+overflow_add-at c = omega (arith, due_within diagram_known 0x26 c.args.at c.args.s.now _ c.in_ok-due.ensures)
 
-pub returns-then-s-at-lt-HEAD_BYTES : goal.returns-then-s-at-lt-HEAD_BYTES
-returns-then-s-at-lt-HEAD_BYTES c =
-    let cut = wire_cut _ _ _ _ _ _ c.due_number-f.ensures c.if-f-ne0.false c.if-s-at-lt-HEAD_BYTES.true in
-    step_refused_lem diagram_drawing _ _ _ _ cut c.at-then-s-at-lt-HEAD_BYTES.ensures
+pub returns-in_err-i : goal.returns-in_err-i
+returns-in_err-i c =
+    let cut = c.in_err-i.ensures in
+    exit_refused diagram_drawing _ _ _ _ _ c.from_residual-in_err-i.ensures.1 (no_number _ _ _ _ _ _ c.in_ok-due.ensures cut.0) cut.1
+
+pub returns-in_err-count : goal.returns-in_err-count
+returns-in_err-count c =
+    let cut = c.in_err-count.ensures in
+    exit_refused diagram_drawing _ _ _ _ _ c.from_residual-in_err-count.ensures.1
+    (no_count _ _ _ _ _ _ c.in_ok-due.ensures c.in_ok-i.ensures.0 cut.0) cut.1
 
 -- a command that is whole: the turn of its wire decides
-pub returns-then-g-ne0 : goal.returns-then-g-ne0
-returns-then-g-ne0 c =
+pub returns-in_err-turn : goal.returns-in_err-turn
+returns-in_err-turn c =
     let a = c.args in
-    let opens = wire_opens a.s.now a.n a.m a.j a.at _ c.due_number-f.ensures c.if-f-ne0.false (omega (arith, c.if-s-at-lt-HEAD_BYTES.false)) in
-    let stops = unless_refused_stops fault _ _ _ c.turn_number-g.ensures _ _ c.if-g-ne0.true c.at-then-g-ne0.ensures in
-    step_refused_lem diagram_drawing _ _ _ _ (opens ∙ stops) refl
+    let i = c.in_ok-i.ensures in
+    let count = c.in_ok-count.ensures in
+    let opens = wire_opens a.s.now a.n a.m a.j a.at _ c.in_ok-due.ensures i.0 count.0 in
+    exit_refused diagram_drawing _ _ _ _ _ c.from_residual-in_err-turn.ensures.1
+    (opens ∙ judged_stops a.at _ fault _ _ (rw (i.1, count.1) at c.in_err-turn.ensures)) refl
 
 pub read_diagram-requires : goal.read_diagram-requires
 read_diagram-requires c =
     let a = c.args in
-    let count = get_or a.s.now (a.at + 2) 0 in
-    let turn = turn_is a.m a.j _ (ltb most_entries count) (sym c.turn_number-g.ensures ∙ c.if-g-ne0.false) in
-    (c.requires, ltb-false most_entries count turn.2, omega (arith, c.if-s-at-lt-HEAD_BYTES.false))
+    let own = turn_is a.m a.j _ (ltb most_entries c.in_ok-count.count) (judged_goes a.at _ _ c.in_ok-turn.ensures) in
+    (c.requires, ltb-false most_entries c.in_ok-count.count own.2)
 
 pub returns : goal.returns
 returns c =
     let a = c.args in
-    let opens = wire_opens a.s.now a.n a.m a.j a.at _ c.due_number-f.ensures c.if-f-ne0.false (omega (arith, c.if-s-at-lt-HEAD_BYTES.false)) in
-    let read = and_then (entries_at (get_or a.s.now (a.at + 2) 0) a.n (a.at + 3) (drop (a.at + 3) a.s.now)) top_at in
-    rw (opens, unless_refused_goes fault a.at _ _ c.turn_number-g.ensures read c.if-g-ne0.false) c.read_diagram.ensures
+    let i = c.in_ok-i.ensures in
+    let count = c.in_ok-count.ensures in
+    let opens = wire_opens a.s.now a.n a.m a.j a.at _ c.in_ok-due.ensures i.0 count.0 in
+    rw (opens, judged_goes a.at _ _ (rw (i.1, count.1) at c.in_ok-turn.ensures), ← count.1) c.read_diagram.ensures

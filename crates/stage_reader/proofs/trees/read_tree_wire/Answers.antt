@@ -1,39 +1,38 @@
 -- `read_tree_wire` meets its contract: its head judged, then the tree.
-use Prim.Native.Nat.{◌+◌}
-use mathlib.Core.Path.{refl, ◌∙◌}
-use native.Mathlib.Omega.{arith}
-use lib.ListN.{drop}
+use Rattle.std.proofs.Common.{refl, ◌∙◌, arith}
 use Rattle.stage.specs.Steps.{fault}
-use Rattle.stage.specs.TreeRead.{tree_known, tree_at}
+use Rattle.stage.specs.TreeRead.{tree_known}
 use Rattle.stage.specs.Trees.{tree_drawing}
-use Rattle.stage_reader.proofs.Places.{unless_refused_stops, unless_refused_goes, due_within}
-use Rattle.stage_reader.proofs.TreePlaces.{wire_refused, wire_cut, wire_opens}
-use Rattle.stage_reader.proofs.Taken.{step_refused_lem}
+use Rattle.stage_reader.proofs.Places.{judged_stops, judged_goes, due_within}
+use Rattle.stage_reader.proofs.TreePlaces.{wire_stops, wire_cut, wire_opens}
+use Rattle.stage_reader.proofs.Taken.{exit_refused}
 use Rattle.stage_reader.proofs.trees.read_tree_wire.Goals as goal
 
-pub returns-then-f-ne0 : goal.returns-then-f-ne0
-returns-then-f-ne0 c =
-    step_refused_lem tree_drawing _ _ _ _ (wire_refused _ _ _ _ _ _ c.due_number-f.ensures _ c.if-f-ne0.true c.at.ensures) refl
+pub returns-in_err-due : goal.returns-in_err-due
+returns-in_err-due c =
+    exit_refused tree_drawing _ _ _ _ _ c.from_residual.ensures.1 (wire_stops _ _ _ _ _ _ c.in_err-due.ensures) refl
 
-pub overflow_add-wire_at : goal.overflow_add-wire_at
-overflow_add-wire_at c =
+pub overflow_add-at : goal.overflow_add-at
+overflow_add-at c =
     let a = c.args in
-    omega (arith, due_within tree_known a.s.now 0x21 a.at _ c.due_number-f.ensures c.if-f-ne0.false)
+    omega (arith, due_within tree_known 0x21 a.at a.s.now _ c.in_ok-due.ensures)
 
-pub returns-then-s-wire_at : goal.returns-then-s-wire_at
-returns-then-s-wire_at c =
-    step_refused_lem tree_drawing _ _ _ _ (wire_cut _ _ _ _ _ _ c.due_number-f.ensures c.if-f-ne0.false c.if-s-wire_at.true) c.at-then-s-wire_at.ensures
+pub returns-in_err-i : goal.returns-in_err-i
+returns-in_err-i c =
+    let cut = c.in_err-i.ensures in
+    exit_refused tree_drawing _ _ _ _ _ c.from_residual-in_err-i.ensures.1 (wire_cut _ _ _ _ _ _ c.in_ok-due.ensures cut.0) cut.1
 
-pub returns-then-g-ne0 : goal.returns-then-g-ne0
-returns-then-g-ne0 c =
+pub returns-in_err-turn : goal.returns-in_err-turn
+returns-in_err-turn c =
     let a = c.args in
-    let opens = wire_opens a.s.now a.n a.m a.j a.at _ c.due_number-f.ensures c.if-f-ne0.false c.if-s-wire_at.false in
-    let stops = unless_refused_stops fault _ _ _ c.turn_number-g.ensures _ _ c.if-g-ne0.true c.at-then-g-ne0.ensures in
-    step_refused_lem tree_drawing _ _ _ _ (opens ∙ stops) refl
+    let i = c.in_ok-i.ensures in
+    let opens = wire_opens a.s.now a.n a.m a.j a.at _ c.in_ok-due.ensures i.0 in
+    exit_refused tree_drawing _ _ _ _ _ c.from_residual-in_err-turn.ensures.1
+    (opens ∙ judged_stops a.at _ fault _ _ (rw i.1 at c.in_err-turn.ensures)) refl
 
 pub returns : goal.returns
 returns c =
     let a = c.args in
-    let opens = wire_opens a.s.now a.n a.m a.j a.at _ c.due_number-f.ensures c.if-f-ne0.false c.if-s-wire_at.false in
-    let read = tree_at a.n 0 (a.at + 2) (drop (a.at + 2) a.s.now) in
-    rw (opens, unless_refused_goes fault a.at _ _ c.turn_number-g.ensures read c.if-g-ne0.false) c.read_tree.ensures
+    let i = c.in_ok-i.ensures in
+    let opens = wire_opens a.s.now a.n a.m a.j a.at _ c.in_ok-due.ensures i.0 in
+    rw (opens, judged_goes a.at _ _ (rw i.1 at c.in_ok-turn.ensures)) c.read_tree.ensures
