@@ -8,8 +8,6 @@ use lib.Dec.{ltb, ltb→lt, nltb→le}
 use lib.ListN.{length, get_or, length-append, get_or-append}
 use lib.Seq.{append_snoc}
 use Rattle.base.proofs.Tests.{cond_has, cond_has₂}
-use Rattle.std.proofs.lemmas.Fmt.{AppendsLastDigit, decimal_from_appends, length-decimal-le_succ}
-use Rattle.std.specs.Fmt as Fmt
 use Rattle.text.specs.Text.{digit, digits, decimal}
 
 -- more turns than the number needs change nothing
@@ -125,15 +123,3 @@ decimal_length = decimal_all (λ x s. (k : ℕ) → x < 10 ^ suc k → length s 
     longer x s h f (suc k) l =
         let z = f k ((div-lt_iff_lt-mul {k = 10} (omega arith)).1 (rw (pow-suc 10 (suc k)) at l)) in
         omega (arith, length-append s (digit (x % 10) ∷ []))
-
--- the library prints a number with the same digits
-appends : AppendsLastDigit digits
-unfolding digits
-appends = record {
-  one = λ k n h. cond_has (λ s. s ≡ (48 + n) ∷ []) (ltb n 10) (λ _. refl) (λ u. absurd (omega (arith, nltb→le n 10 u)));
-  more = λ k n h. cond_has (λ s. s ≡ digits k (n / 10) ++ (48 + n % 10) ∷ []) (ltb n 10) (λ t. absurd (omega (arith, ltb→lt n 10 t))) (λ _. refl);
-}
-
-pub decimal_printed : (x : ℕ) → x < 2 ^ 64 → decimal x ≡ Fmt.decimal x
-unfolding decimal
-decimal_printed x h = decimal_from_appends digits appends (suc x) x h (omega (arith, length-decimal-le_succ x h))

@@ -6,7 +6,6 @@ ghost use Rattle.std.specs.Prelude.{◌≡◌, [], ◌∷◌, ◌+◌, ◌*◌, 
 ghost use Rattle.text.specs.Text.{decimal, hex_digit, hex_pair, hex_pairs, longest_decimal, named};
 
 use base::put;
-use itoa::Buffer;
 
 // The most digits of a number.
 pub const LONGEST_DECIMAL: usize = 20;
@@ -41,13 +40,16 @@ impl Page<'_> {
         }
     }
 
-    // Puts a number in decimal digits: those of `itoa`, since std's own printing may fail.
+    // Puts a number in decimal digits: those of a tenth of it, and the last one. The library's own printing may fail, and this may not.
     pub fn put_decimal(&mut self, x: u64)
         requires { HasRoom longest_decimal self.old }
         ensures { Adds longest_decimal (decimal x) self.old self.new }
     {
-        let mut digits = Buffer::new();
-        self.put_text(digits.format(x).as_bytes());
+        if x < 10 {
+            return self.put_byte(b'0' + x as u8);
+        }
+        self.put_decimal(x / 10);
+        self.put_byte(b'0' + (x % 10) as u8);
     }
 
     // Puts a number after its name.
