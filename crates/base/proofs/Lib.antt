@@ -2,6 +2,7 @@ pub mod Tests
 pub mod Lowest
 pub mod Passing
 pub mod Each
+pub mod FromFn
 pub mod Table
 pub mod Tabulate
 pub mod Cases

@@ -13,19 +13,23 @@ use Rattle.base.specs.Tabulate.{tabulate}
 use Rattle.base.proofs.Tests.{cond_has, decide, below_suc, eq_test, test_yes, test_no}
 
 -- the entries of a row
-pub tabulate_length : (k : ℕ) (f : ℕ → ℕ) → length (tabulate k f) ≡ k
+pub tabulate_length {ℓ} : {A : Type ℓ} (k : ℕ) (f : ℕ → A) → length (tabulate k f) ≡ k
 unfolding tabulate
 tabulate_length zero f = refl
 tabulate_length (suc k) f = length-append (tabulate k f) (f k ∷ []) ∙ omega (arith, tabulate_length k f)
 
-pub tabulate_at : (k : ℕ) (f : ℕ → ℕ) (i : ℕ) → i < k → get_or (tabulate k f) i 0 ≡ f i
+-- past the end there is d
+pub tabulate_at_or {ℓ} : {A : Type ℓ} (d : A) (k : ℕ) (f : ℕ → A) (i : ℕ) → i < k → get_or (tabulate k f) i d ≡ f i
 unfolding tabulate
-tabulate_at zero f i h = absurd (not-suc-le-zero h)
-tabulate_at (suc k) f i h =
+tabulate_at_or d zero f i h = absurd (not-suc-le-zero h)
+tabulate_at_or d (suc k) f i h =
     ⊎_elim
-    (λ (e : i ≡ k). rw e (get_or_at (tabulate k f) (f k) [] 0 k (tabulate_length k f)))
-    (λ l. get_or-append (tabulate k f) (f k ∷ []) 0 i (rw tabulate_length l) ∙ tabulate_at k f i l)
+    (λ (e : i ≡ k). rw e (get_or_at (tabulate k f) (f k) [] d k (tabulate_length k f)))
+    (λ l. get_or-append (tabulate k f) (f k ∷ []) d i (rw tabulate_length l) ∙ tabulate_at_or d k f i l)
     (below_suc h)
+
+pub tabulate_at : (k : ℕ) (f : ℕ → ℕ) (i : ℕ) → i < k → get_or (tabulate k f) i 0 ≡ f i
+tabulate_at = tabulate_at_or 0
 
 pub tabulate_cong : (k : ℕ) (f g : ℕ → ℕ) → ((i : ℕ) → i < k → f i ≡ g i) → tabulate k f ≡ tabulate k g
 unfolding tabulate
@@ -38,17 +42,20 @@ unfolding tabulate
 tabulate_four f p q r s = cc
 
 -- one entry set
-pub tabulate_set : (k : ℕ) (f g : ℕ → ℕ) (i x : ℕ) → i < k → x ≡ g i → ((j : ℕ) → (j ≡ i → ⊥) → f j ≡ g j) → set (tabulate k f) i x ≡ tabulate k g
-tabulate_set k f g i x h e o =
-    ext_get_or 0 (set (tabulate k f) i x) (tabulate k g) (length-set (tabulate k f) i x ∙ tabulate_length k f ∙ sym (tabulate_length k g)) λ j l.
+pub tabulate_set_or {ℓ} : {A : Type ℓ} (d : A) (k : ℕ) (f g : ℕ → A) (i : ℕ) (x : A) → i < k → x ≡ g i → ((j : ℕ) → (j ≡ i → ⊥) → f j ≡ g j) → set (tabulate k f) i x ≡ tabulate k g
+tabulate_set_or d k f g i x h e o =
+    ext_get_or d (set (tabulate k f) i x) (tabulate k g) (length-set (tabulate k f) i x ∙ tabulate_length k f ∙ sym (tabulate_length k g)) λ j l.
     let b : j < k = rw (tabulate_length k f) at (rw (length-set (tabulate k f) i x) at l) in
-    rw (tabulate_at k g j b)
+    rw (tabulate_at_or d k g j b)
     (⊎_elim
-    (λ t. let same = eqb→eq j i t in rw same (get_or-set_same (tabulate k f) i x 0 (rw (tabulate_length k f) h) ∙ e))
+    (λ t. let same = eqb→eq j i t in rw same (get_or-set_same (tabulate k f) i x d (rw (tabulate_length k f) h) ∙ e))
     (λ t.
     let other : j ≡ i → ⊥ = λ q. T_not (eqb j i) t (eq_test q) in
-    get_or-set_other (tabulate k f) i j x 0 other ∙ tabulate_at k f j b ∙ o j other)
+    get_or-set_other (tabulate k f) i j x d other ∙ tabulate_at_or d k f j b ∙ o j other)
     (decide (eqb j i)))
+
+pub tabulate_set : (k : ℕ) (f g : ℕ → ℕ) (i x : ℕ) → i < k → x ≡ g i → ((j : ℕ) → (j ≡ i → ⊥) → f j ≡ g j) → set (tabulate k f) i x ≡ tabulate k g
+tabulate_set = tabulate_set_or 0
 
 -- a list filled one place after the other
 pub filled_has : (P : ℕ → ℕ → Type 0) (l : List ℕ) (p x : ℕ) → p < length l → ((q : ℕ) → q < p → P q (get_or l q 0)) → P p x
@@ -73,7 +80,7 @@ tabulate_entry k f p =
     (λ l. let h = nltb→le p k l in rw (test_no (ltb p k) l) (get_or-eq_default (tabulate k f) 0 (omega (arith, tabulate_length k f))))
     (decide (ltb p k))
 
-pub zeros_entry : (k p : ℕ) → get_or (tabulate k (λ _. 0)) p 0 ≡ 0
+pub zeros_entry : (k p : ℕ) → get_or (tabulate {A = ℕ} k (λ _. 0)) p 0 ≡ 0
 zeros_entry k p = rw (tabulate_entry k (λ _. 0) p) (cond_has (λ x. x ≡ 0) (ltb p k) (λ _. refl) (λ _. refl))
 
 pub take_entry : (k : ℕ) (l : List ℕ) (p : ℕ) → get_or (take k l) p 0 ≡ cond (ltb p k) (get_or l p 0) 0

@@ -2,6 +2,6 @@
 use Rattle.std.specs.Prelude.{ℕ, zero, suc, List, [], ◌∷◌, ◌++◌}
 
 -- the list f 0, .., f (k - 1)
-unfoldable pub tabulate : ℕ → (ℕ → ℕ) → List ℕ
+unfoldable pub tabulate {ℓ} : {A : Type ℓ} → ℕ → (ℕ → A) → List A
 tabulate zero f = []
 tabulate (suc k) f = tabulate k f ++ f k ∷ []

@@ -49,11 +49,22 @@ impl Refusal {
     }
 }
 
+// What stands at a place, or another value past the end.
+pub fn entry_or<T: Copy>(entries: &[T], at: usize, other: T) -> T
+    ensures { result ≡ get_or entries.now at other }
+{
+    if at < entries.len() {
+        entries[at]
+    } else {
+        other
+    }
+}
+
 // The byte at a place, or 0 past the end.
 pub fn byte_at(s: &[u8], at: usize) -> u8
     ensures { result ≡ get_or s.now at 0 }
 {
-    if at < s.len() { s[at] } else { 0 }
+    entry_or(s, at, 0)
 }
 
 // Puts a byte at a place; past the end it changes nothing.

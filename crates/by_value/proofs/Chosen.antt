@@ -13,7 +13,7 @@ use Rattle.table.specs.Inner.Ranks.{narrow_space}
 use Rattle.table.proofs.Bits.{bit_lt, bit_mod, bit_div, bit_cases}
 use Rattle.relation.specs.Inner.Side.{value_in}
 use Rattle.by_value.specs.Inner.ByValue.{word_values, allowed_at}
-use Rattle.by_value.proofs.Lanes.{Chosen}
+use Rattle.lanes.specs.Inner.Lanes.{Chosen}
 
 -- lane j of a number stands in each lane of another
 abbrev pub InLanes : (tables j r : ℕ) → Type 0

@@ -10,7 +10,10 @@ use lib.Count.{count_trailing_zeros, under}
 use lib.Dec.{T, T_not, not_T, eqb, eqb→eq, ltb, ltb→lt, nltb→le}
 use lib.Pow.{ones_lt}
 use Rattle.base.proofs.Tests.{decide, eq_test}
-use Rattle.base.proofs.Lowest.{lowest_at, lowest_none, lowest_or, lowest_is}
+use Rattle.std.specs.Prelude.{Some, None}
+use borrow.Author.Tests.{lt-ltb}
+use Rattle.base.specs.Lowest.{lowest}
+use Rattle.base.proofs.Lowest.{lowest_at, lowest_or, lowest_is, first_none}
 use Rattle.table.specs.Bits.{bit}
 use Rattle.table.specs.Inner.Pairs.{narrow_patterns}
 use Rattle.table.specs.Inner.Ranks.{narrow_space}
@@ -57,14 +60,18 @@ every_bit p l = ones_bit narrow_patterns p l
 fine_bit : (fine p : ℕ) → T (not (refuses fine p)) → bit fine p ≡ 1
 fine_bit fine p t = ⊎_elim (λ e. absurd (T_not (refuses fine p) t (eq_test e))) (λ e. e) (bit_cases fine p)
 
-pub all_fine : (fine : ℕ) → fine ≡ every → first_refused fine ≡ narrow_patterns
+pub all_fine : (fine : ℕ) → fine ≡ every → first_refused fine ≡ None
 all_fine fine e =
-    lowest_none narrow_patterns (refuses fine)
+    first_none narrow_patterns (refuses fine)
     (λ p l. not_T (refuses fine p) (λ t. let z = eqb→eq (bit fine p) 0 t in omega (arith, every_bit p l, ap (λ x. bit x p) e)))
 
 module _ (fine : ℕ) (lf : fine < narrow_space) (ne : fine ≡ every → ⊥) where
   -- some pattern is refused
-  refused_lt : first_refused fine < narrow_patterns
+  refused : ℕ
+  refused = lowest narrow_patterns (refuses fine)
+
+  refused_lt : refused < narrow_patterns
+  unfolding refused
   refused_lt =
       ⊎_elim (λ l. l)
       (λ h. absurd (ne (bit_ext narrow_patterns fine every lf (ones_lt narrow_patterns) (λ p l. fine_bit fine p (h p l) ∙ sym (every_bit p l)))))
@@ -80,11 +87,11 @@ module _ (fine : ℕ) (lf : fine < narrow_space) (ne : fine ≡ every → ⊥) w
       let x = bit_xor_lem fine every p ∙ ap (bit_xor (bit fine p)) (every_bit p l) in
       omega (arith, x, xor_add_and (bit fine p) 1, and_le_l (bit fine p) 1, and_le_r (bit fine p) 1, bit_lt fine p, bit_lt other p)
 
-  pub found : count_trailing_zeros word_width (bit_xor fine every) ≡ first_refused fine
-  unfolding other
-  found =
+  found_at : count_trailing_zeros word_width (bit_xor fine every) ≡ refused
+  unfolding other refused
+  found_at =
       let z = count_trailing_zeros word_width other in
-      let p = first_refused fine in
+      let p = refused in
       let lp = refused_lt in
       let lz : z ≤ p = ⊎_elim (λ t. absurd (below t (trailing word_width other).0)) (λ t. nltb→le p z t) (decide (ltb p z)) in
       let top : bit other z ≡ 1 = (trailing word_width other).1 (omega arith) in
@@ -92,10 +99,11 @@ module _ (fine : ℕ) (lf : fine < narrow_space) (ne : fine ≡ every → ⊥) w
       sym (lowest_at narrow_patterns (refuses fine) z (omega arith) (eq_test shut)
       (λ q l. not_T (refuses fine q) (λ t. let e = eqb→eq (bit fine q) 0 t in omega (arith, contrary q (omega arith), (trailing word_width other).0 q l))))
     where
-      below : T (ltb (first_refused fine) (count_trailing_zeros word_width other)) → ((q : ℕ) → q < count_trailing_zeros word_width other → bit other q ≡ 0) → ⊥
+      below : T (ltb (refused) (count_trailing_zeros word_width other)) → ((q : ℕ) → q < count_trailing_zeros word_width other → bit other q ≡ 0) → ⊥
       below t h =
-          let e = eqb→eq (bit fine (first_refused fine)) 0 (lowest_is narrow_patterns (refuses fine) refused_lt) in
-          omega (arith, contrary (first_refused fine) refused_lt, h (first_refused fine) (ltb→lt (first_refused fine) (count_trailing_zeros word_width other) t))
+          let e = eqb→eq (bit fine (refused)) 0 (lowest_is narrow_patterns (refuses fine) refused_lt) in
+          omega (arith, contrary (refused) refused_lt, h (refused) (ltb→lt (refused) (count_trailing_zeros word_width other) t))
 
-  pub found_lt : count_trailing_zeros word_width (bit_xor fine every) < narrow_patterns
-  found_lt = rw found refused_lt
+  pub found : Some (count_trailing_zeros word_width (bit_xor fine every)) ≡ first_refused fine
+  unfolding refused
+  found = rw (lt-ltb refused narrow_patterns refused_lt, found_at)

@@ -32,6 +32,3 @@ spread_taken x l = eqb→eq (bit_and (x * copies) each_lane) (lanes_of (bit x)) 
 module _ (word s p : ℕ) (l : s ≤ each_lane) (room : word + each_lane * 2 ^ p < 2 ^ word_width) where
   pub moved : s * 2 ^ p % 2 ^ word_width ≡ s * 2 ^ p
   moved = mod-eq_of_lt (omega (arith, mul-le-mul_right (2 ^ p) l))
-
-  pub moved_fits : word + s * 2 ^ p % 2 ^ word_width < 2 ^ word_width
-  moved_fits = omega (arith, moved, mul-le-mul_right (2 ^ p) l)

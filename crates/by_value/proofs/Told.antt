@@ -1,6 +1,6 @@
 -- What the words tell of a section: which of its patterns allow the value that tables drive there, and the lowest that does not.
 use Prim.Native.Nat.{ℕ, zero, suc, ◌+◌, ◌*◌, ◌/◌, ◌%◌, ◌<◌, ◌≤◌}
-use mathlib.Core.Path.{◌≡◌, refl, sym, ap, ap₂, subst, ◌∙◌}
+use mathlib.Core.Path.{◌≡◌, refl, ap, ap₂, subst, ◌∙◌}
 use mathlib.Core.Logic.{⊎_elim}
 use mathlib.Core.Bool.{Bool, true, false, cond, not}
 use mathlib.Core.List.{List, [], ◌∷◌}
@@ -8,9 +8,10 @@ use native.Mathlib.Omega.{arith}
 use lib.Dec.{T, T_not, eqb, ltb, ltb→lt, nltb→le}
 use lib.ListN.{get_or}
 use borrow.Author.Tests.{lt-ltb, le-ltb}
+use Rattle.std.specs.Prelude.{Some, None}
 use Rattle.base.specs.Lowest.{lowest}
 use Rattle.base.proofs.Tests.{decide, eq_test}
-use Rattle.base.proofs.Lowest.{lowest_is, lowest_below, lowest_cong}
+use Rattle.base.proofs.Lowest.{lowest_is, lowest_below, lowest_cong, some_lowest, none_lowest}
 use Rattle.sheet.specs.Limits.{max_wires, max_patterns, max_values}
 use Rattle.table.specs.Bits.{bit, is_one}
 use Rattle.table.specs.Cells.{wires}
@@ -74,21 +75,35 @@ module _ (sets : List ℕ) (q a b c d tables r : ℕ) (words : SectionWords sets
     none_test true = refl
     none_test false = refl
 
-    -- so the first that is refused is the lowest pattern that does not allow its value
-    pub refused_lowest : first_refused r ≡ lowest narrow_patterns (λ p. not (allows_at sets ts (narrow_patterns * q + p)))
+    -- the lowest pattern that does not allow its value
+    abbrev denied : ℕ
+    denied = lowest narrow_patterns (λ p. not (allows p))
+
+    -- so the first that is refused is that pattern
+    refused_lowest : lowest narrow_patterns (λ p. eqb (bit r p) 0) ≡ denied
     refused_lowest =
         lowest_cong narrow_patterns (λ p. eqb (bit r p) 0) (λ p. not (allows p)) (λ p l. ap (λ x. eqb x 0) (told_value p l) ∙ none_test (allows p))
 
-    -- the patterns below it allow theirs: so do all, where none is refused
-    pub allowed_below : (p : ℕ) → p < narrow_patterns → p < first_refused r → T (allows_at sets ts (narrow_patterns * q + p))
-    allowed_below p l h =
-        ⊎_elim (λ t. t) (λ t. absurd (omega (arith, refused_lowest, lowest_below narrow_patterns (λ p. not (allows p)) p l t))) (decide (allows p))
+    below_denied : (p : ℕ) → p < narrow_patterns → p < denied → T (allows p)
+    below_denied p l h = ⊎_elim (λ t. t) (λ t. absurd (omega (arith, lowest_below narrow_patterns (λ p. not (allows p)) p l t))) (decide (allows p))
 
-    -- and it does not allow its own, where it is a pattern of the section
-    pub refused_is : first_refused r < narrow_patterns → T (not (allows_at sets ts (narrow_patterns * q + first_refused r)))
-    refused_is h =
-        let e = refused_lowest in
-        subst (λ p. T (not (allows p))) (sym e) (lowest_is narrow_patterns (λ p. not (allows p)) (subst (λ p. p < narrow_patterns) e h))
+    -- where none is refused all patterns allow theirs
+    pub all_allow : first_refused r ≡ None → (p : ℕ) → p < narrow_patterns → T (allows_at sets ts (narrow_patterns * q + p))
+    all_allow e p l = below_denied p l (omega (arith, refused_lowest, none_lowest narrow_patterns (λ p. eqb (bit r p) 0) e))
+
+    -- where one is, the patterns below it allow theirs, and it does not allow its own
+    module _ (i : ℕ) (e : first_refused r ≡ Some i) where
+      at_denied : (denied ≡ i) × (denied < narrow_patterns)
+      at_denied = let f = some_lowest narrow_patterns (λ p. eqb (bit r p) 0) i e in rw refused_lowest at f
+
+      pub refused_lt : i < narrow_patterns
+      refused_lt = omega (arith, at_denied)
+
+      pub allowed_below : (p : ℕ) → p < i → T (allows_at sets ts (narrow_patterns * q + p))
+      allowed_below p l = below_denied p (omega (arith, at_denied)) (omega (arith, at_denied))
+
+      pub refused_is : T (not (allows_at sets ts (narrow_patterns * q + i)))
+      refused_is = subst (λ p. T (not (allows p))) at_denied.0 (lowest_is narrow_patterns (λ p. not (allows p)) at_denied.1)
 
 -- the words that are put together for the sections below a pattern serve as those of each of these sections
 pub below_words : (seen : ℕ) (sets words : List ℕ) (q : ℕ) → WordsBelow seen sets words → narrow_patterns * q < seen
@@ -118,10 +133,11 @@ driven_lt ts p = of_bits_lt (λ j. bit (wires ts j) p) max_wires (λ j _. bit_lt
 
 -- so what is refused of filled sets is a pattern that there is
 pub refused_there : (count : ℕ) (sets : List ℕ) (q a b c d tables r : ℕ) → SectionWords (filled count sets) q a b c d → Allowing a b c d tables r
-    → (ts : List ℕ) → tables ≡ side_by_side ts q → q < sections → first_refused r < narrow_patterns → narrow_patterns * q + first_refused r < count
-refused_there count sets q a b c d tables r words allowing ts side lq h =
-    let p = narrow_patterns * q + first_refused r in
-    let refused = refused_is (filled count sets) q a b c d tables r words allowing ts side h in
+    → (ts : List ℕ) → tables ≡ side_by_side ts q → q < sections → (i : ℕ) → first_refused r ≡ Some i → narrow_patterns * q + i < count
+refused_there count sets q a b c d tables r words allowing ts side lq i e =
+    let p = narrow_patterns * q + i in
+    let h = refused_lt (filled count sets) q a b c d tables r words allowing ts side i e in
+    let refused = refused_is (filled count sets) q a b c d tables r words allowing ts side i e in
     let v = value max_wires (wires ts) p in
     ⊎_elim (λ t. ltb→lt p count t)
     (λ t. absurd (T_not (member (get_or (filled count sets) p 0) v) refused (past_allows count sets p (omega arith) (nltb→le p count t) v (driven_lt ts p))))

@@ -7,14 +7,14 @@ use mathlib.Core.List.{List}
 use native.Mathlib.Omega.{arith}
 use native.Mathlib.Nat.{add-mul, mul_assoc, mul-le-mul_right}
 use lib.Dec.{T, T_not, eqb, eqb→eq, ltb, ltb→lt}
-use lib.ListN.{get_or, length}
+use lib.ListN.{get_or}
 use lib.Pow.{pow-add}
 use Rattle.base.proofs.Tests.{decide, eq_test, eqb_yes, eqb_not}
 use Rattle.sheet.specs.Limits.{max_patterns}
 use Rattle.table.specs.Bits.{bit, sum, of_bits, is_one}
 use Rattle.table.specs.Inner.Pairs.{narrow_patterns}
 use Rattle.table.specs.Inner.Wide.{sections}
-use Rattle.table.proofs.Bits.{sum_cong, bit_lt, bit_mod, bit_div, bit_cases, tabulate_length, tabulate_cong}
+use Rattle.table.proofs.Bits.{sum_cong, bit_lt, bit_mod, bit_div, bit_cases, tabulate_cong}
 use Rattle.table.proofs.Sums.{sum_append, sum_add}
 use Rattle.relation.specs.Inner.Members.{member}
 use Rattle.lanes.specs.Inner.Lanes.{each_lane, lanes_of}
@@ -113,9 +113,6 @@ most_fits = tt
 -- all words, with the patterns below p
 abbrev pub value_words_to : ℕ → List ℕ → List ℕ
 value_words_to p sets = words_to added all_words section_words sets (λ _. p)
-
-pub to_length : (p : ℕ) (sets : List ℕ) {words : List ℕ} → words ≡ value_words_to p sets → length words ≡ all_words
-to_length p sets e = ap length e ∙ tabulate_length all_words (λ i. word_below added p sets (i / section_words) (i % section_words))
 
 module _ (p : ℕ) (sets words : List ℕ) (e : words ≡ value_words_to p sets) where
   value_word_at_lem : (i : ℕ) → i < all_words → get_or words i 0 ≡ word_below added p sets (i / section_words) (i % section_words)

@@ -13,7 +13,7 @@ ghost use Rattle.table.specs.Inner.Wide.{sections};
 ghost use Rattle.lanes.specs.Inner.Lanes.{each_lane, lanes_of};
 ghost use Rattle.by_value.specs.Inner.ByValue.{word_values, word_width, section_words, all_words, value_word_place, Allowing, values_in, added, value_word_at, HasRoom, with_word, with_set, filled, WordsBelow, first_refused};
 
-use lanes::{LANE, LANES, lane};
+use lanes::{LANE, LANES, choose, lane};
 use sheet::Sheet;
 use table::wide::{SECTION, SECTION_SPACE, SECTIONS};
 
@@ -38,13 +38,6 @@ const COPIES: u64 = 1 + (1 << (LANE - 1)) + (1 << (2 * (LANE - 1))) + (1 << (3 *
 const EVERY_PATTERN: u64 = SECTION_SPACE - 1;
 
 const EVERY_VALUE: u16 = ((1u64 << Sheet::MAX_VALUES) - 1) as u16;
-
-// Bit by bit one of two numbers: `one` where t has a 1.
-fn choose(t: u64, zero: u64, one: u64) -> u64
-    ensures { (i : ℕ) → bit result i ≡ cond (eqb (bit t i) 1) (bit one i) (bit zero i) }
-{
-    zero ^ ((zero ^ one) & t)
-}
 
 // A lane's number in each of the four lanes.
 fn in_lanes(x: u64) -> u64
@@ -75,15 +68,15 @@ pub fn allowing(a: u64, b: u64, c: u64, d: u64, tables: u64) -> u64
     choose(tables, two, two >> LANE) % SECTION_SPACE
 }
 
-// The lowest pattern that is not fine, or one past the last.
-pub fn first_refused(fine: u64) -> u8
+// The lowest pattern that is not fine.
+pub fn first_refused(fine: u64) -> Option<u8>
     requires { fine < narrow_space }
-    ensures { (result ≡ first_refused fine) × (result ≤ narrow_patterns) }
+    ensures { result ≡ first_refused fine }
 {
     if fine == EVERY_PATTERN {
-        SECTION
+        None
     } else {
-        u64::trailing_zeros(fine ^ EVERY_PATTERN) as u8
+        Some(u64::trailing_zeros(fine ^ EVERY_PATTERN) as u8)
     }
 }
 
@@ -130,13 +123,12 @@ fn put_word(words: &mut [u64; VALUE_WORDS], p: u8, set: u16, k: u8)
 
 // The words with pattern p, which they lack, put into all words of its section.
 fn put_set(words: &mut [u64; VALUE_WORDS], p: u8, set: u16)
-    requires { (p < max_patterns) × (length words.old ≡ all_words) × ((k : ℕ) → k < section_words → HasRoom (value_word_at words.old p k) p) }
+    requires { (p < max_patterns) × ((k : ℕ) → k < section_words → HasRoom (value_word_at words.old p k) p) }
     ensures { words.new ≡ with_set words.old p set }
 {
-    put_word(words, p, set, 0);
-    put_word(words, p, set, 1);
-    put_word(words, p, set, 2);
-    put_word(words, p, set, 3);
+    for k in 0..SECTION_WORDS as u8 {
+        put_word(words, p, set, k);
+    }
 }
 
 // The set of pattern p, where those from `count` on have every value.

@@ -7,7 +7,7 @@ use native.Mathlib.Omega.{arith}
 use lib.Dec.{T, ltb}
 use lib.ListN.{length, take, drop}
 use Rattle.base.specs.declared.Refusal.{Refusal}
-use Rattle.std.specs.Prelude.{Result, Ok, Err}
+use Rattle.std.specs.Prelude.{Err}
 use Rattle.base.specs.Cases.{Case, accepting, accepted_outcome, is_refused, written_case}
 use Rattle.base.specs.Refusals.{empty, short_buffer}
 use Rattle.base.specs.Buffers.{fitted, buffer_with}

@@ -7,7 +7,8 @@ use Rattle.base.proofs.Tests.{cond_has}
 use Rattle.sheet.specs.declared.Command.{Command}
 use Rattle.sheet.specs.declared.Command.TheVariants.{Sizes, Row, DontCare, Limit}
 use Rattle.sheet.specs.declared.Sheet.{Sheet}
-use Rattle.sheet.specs.Commands.{collect, about, row_in, dont_care_in, limit_in, gate_in, output_in, rows_on, dont_cares_on, limits_on, gates_of, outputs_of, LogicGate}
+use Rattle.sheet.specs.declared.LogicGate.{LogicGate}
+use Rattle.sheet.specs.Commands.{collect, about, row_in, dont_care_in, limit_in, gate_in, output_in, rows_on, dont_cares_on, limits_on, gates_of, outputs_of}
 use Rattle.sheet.proofs.Lists.{about_other}
 use Rattle.reader.proofs.Placed.{gate_of}
 use Rattle.clean.specs.Copy.{listed, marks_dont_care, permits_all, copy_mark, copy_limit, copy_gate, copy_output}

@@ -5,6 +5,7 @@ use Rattle.sheet.specs.declared.Command.{Command}
 use Rattle.sheet.specs.declared.Command.TheVariants.{End, Sizes, Row, DontCare, Gate, Output, Limit}
 use Rattle.sheet.specs.declared.Sheet.{Sheet}
 use Rattle.sheet.specs.Bytes.{bytes_of}
+use Rattle.sheet.specs.Commands.{no_gate}
 use Rattle.sheet.specs.Gathered.{dont_care_mark}
 use Rattle.sheet.specs.Limits.{max_patterns, max_gates, max_outputs, all_ones}
 
@@ -31,7 +32,7 @@ copy_limit h p = cond (permits_all h.m (get_or h.limits p 0)) [] (Limit p (get_o
 
 -- what it has for gate i, and for output i
 abbrev pub copy_gate : Sheet → ℕ → List Command
-copy_gate h i = Gate (get_or h.kinds i 0) (get_or h.lefts i 0) (get_or h.rights i 0) ∷ []
+copy_gate h i = let g = get_or h.gates i no_gate in Gate g.kind g.left g.right ∷ []
 
 abbrev pub copy_output : Sheet → ℕ → List Command
 copy_output h i = Output (get_or h.signals i 0) ∷ []

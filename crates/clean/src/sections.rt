@@ -1,6 +1,6 @@
 // The commands of a copy, put to the front of a lent buffer section by section, each call with the place after what it put.
 // Inner functions: `write_copy` hands on the sheet that it is given; the bounds on places are there for the sums alone.
-ghost use Rattle.std.specs.Prelude.{◌≡◌, ◌+◌, ◌*◌, ◌≤◌, get_or};
+ghost use Rattle.std.specs.Prelude.{◌≡◌, ◌+◌, ◌*◌, ◌≤◌};
 ghost use Rattle.std.proofs.lemmas.List.Edits.{sets};
 ghost use Rattle.base.specs.Inner.Put.{PutWithin, last_place};
 ghost use Rattle.sheet.specs.Bytes.{bytes_of};
@@ -9,9 +9,9 @@ ghost use Rattle.writer.specs.Inner.Widths.{longest_command};
 ghost use Rattle.clean.specs.Copy.{listed, permits_all, copy_mark, copy_limit, copy_gate, copy_output, copy_bytes};
 ghost use Rattle.clean.specs.Inner.Sections.{piece_of};
 
-use base::byte_at;
+use base::{byte_at, entry_or};
 use sheet::limits::{all_ones, patterns_of};
-use sheet::{Command, Sheet};
+use sheet::{Command, LogicGate, Sheet};
 use writer::put_command;
 
 // The sections between the sizes and the end.
@@ -28,24 +28,11 @@ fn put_mark(out: &mut [u8], at: usize, sheet: Sheet, p: u8) -> usize
     requires { at + longest_command ≤ last_place }
     ensures { PutWithin longest_command out.old at (bytes_of (copy_mark sheet p)) out.new result }
 {
-    let marks = sheet.marks;
-    if byte_at(&marks, p as usize) == Sheet::DONT_CARE {
+    if byte_at(&sheet.marks, p as usize) == Sheet::DONT_CARE {
         return put_command(out, at, Command::DontCare { p });
     }
-    let values = sheet.values;
-    let v = byte_at(&values, p as usize);
+    let v = byte_at(&sheet.values, p as usize);
     put_command(out, at, Command::Row { p, v })
-}
-
-// The set at a place, or 0 past the end.
-fn set_at(limits: [u16; Sheet::MAX_PATTERNS], i: usize) -> u16
-    ensures { result ≡ get_or limits i 0 }
-{
-    if i < Sheet::MAX_PATTERNS {
-        limits[i]
-    } else {
-        0
-    }
 }
 
 // Whether a set has every value of m wires, so that it limits nothing.
@@ -61,8 +48,7 @@ fn put_limit(out: &mut [u8], at: usize, sheet: Sheet, p: u8) -> usize
     requires { at + longest_command ≤ last_place }
     ensures { PutWithin longest_command out.old at (bytes_of (copy_limit sheet p)) out.new result }
 {
-    let limits = sheet.limits;
-    let set = set_at(limits, p as usize);
+    let set = entry_or(&sheet.limits, p as usize, 0);
     if permits_all(sheet.m, set) {
         return at;
     }
@@ -74,13 +60,13 @@ fn put_gate(out: &mut [u8], at: usize, sheet: Sheet, i: u8) -> usize
     requires { at + longest_command ≤ last_place }
     ensures { PutWithin longest_command out.old at (bytes_of (copy_gate sheet i)) out.new result }
 {
-    let kinds = sheet.kinds;
-    let lefts = sheet.lefts;
-    let rights = sheet.rights;
-    let kind = byte_at(&kinds, i as usize);
-    let a = byte_at(&lefts, i as usize);
-    let b = byte_at(&rights, i as usize);
-    put_command(out, at, Command::Gate { kind, a, b })
+    let gate = entry_or(&sheet.gates, i as usize, LogicGate::NONE);
+    let command = Command::Gate {
+        kind: gate.kind,
+        a: gate.left,
+        b: gate.right,
+    };
+    put_command(out, at, command)
 }
 
 // Puts an output.
@@ -88,8 +74,7 @@ fn put_output(out: &mut [u8], at: usize, sheet: Sheet, i: u8) -> usize
     requires { at + longest_command ≤ last_place }
     ensures { PutWithin longest_command out.old at (bytes_of (copy_output sheet i)) out.new result }
 {
-    let signals = sheet.signals;
-    let s = byte_at(&signals, i as usize);
+    let s = byte_at(&sheet.signals, i as usize);
     put_command(out, at, Command::Output { s })
 }
 

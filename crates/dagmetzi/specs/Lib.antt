@@ -1,2 +1,2 @@
 -- What the program's inner functions are told by.
-pub mod Counts
+pub mod Lengths

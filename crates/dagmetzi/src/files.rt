@@ -1,5 +1,6 @@
-// Reading: an argument, an open input, or a file by its name, put at the start of a lent buffer.
-ghost use Rattle.dagmetzi.specs.Counts.{IsPrefixLen};
+// Reading: an argument, an open input, or a file by its name, put at the start of a lent buffer. What was read is handed back; where not all of it was, or the
+// buffer does not take it, the reason has been said on standard error.
+ghost use Rattle.std.specs.Prelude.{◌≤◌, length, IfOk, IfSome};
 
 use crate::messages;
 use std::env::{Env, FillError};
@@ -17,61 +18,36 @@ const NO_TEXT: i32 = 84;
 // The longest argument that is taken, in bytes: longer than any name that the system opens.
 pub const LONGEST_ARGUMENT: usize = 4096;
 
-// How many bytes were read; and whether that is all there was, or as much as the buffer takes. Where it is not, the reason has been said on standard error.
-#[derive(Clone, Copy)]
-pub struct Input {
-    pub length: usize,
-    pub is_read: bool,
-}
-
-// How many bytes were read, and the fault that cut them short, if one did.
-#[derive(Clone, Copy)]
-struct Reading {
-    length: usize,
-    fault: Option<io::Error>,
-}
-
-// Reads until the buffer is full or the input ends. A read that fails is told from the end: bytes that are cut short by a fault
-// must not pass for a sheet that ends there. Each turn reads a byte at least, so that there are no more turns than the buffer has bytes.
-fn read_all(input: &mut impl Read, buffer: &mut [u8]) -> Reading
-    ensures { IsPrefixLen result.length buffer.new }
+// Reads until the buffer is full or the input ends, and hands back how many bytes that gave. A read that fails is told from the end: bytes that are cut short by
+// a fault must not pass for a sheet that ends there. Each turn reads a byte at least, so that there are no more turns than the buffer has bytes.
+fn read_all(input: &mut impl Read, buffer: &mut [u8]) -> io::Result<usize>
+    ensures { IfOk result (λ n. n ≤ length buffer.new) }
 {
-    let mut length: usize = 0;
+    let mut done: usize = 0;
     for _ in 0..buffer.len() {
-        match input.read(&mut buffer[length..]) {
-            Ok(0) => break,
-            Ok(more) => length += more,
-            Err(fault) => {
-                return Reading {
-                    length,
-                    fault: Some(fault),
-                };
-            }
+        let more = input.read(&mut buffer[done..])?;
+        if more == 0 {
+            break;
         }
+        done += more;
     }
-    Reading {
-        length,
-        fault: None,
-    }
+    Ok(done)
 }
 
 // Reads from an open input, which messages call by a name.
-pub fn read_open(rt: &HostRuntime, input: &mut impl Read, name: &[u8], buffer: &mut [u8]) -> Input
-    ensures { IsPrefixLen result.length buffer.new }
+pub fn read_open<'b>(
+    rt: &HostRuntime,
+    input: &mut impl Read,
+    name: &[u8],
+    buffer: &'b mut [u8],
+) -> Option<&'b [u8]>
+    ensures { IfSome result (λ read. length read.now ≤ length buffer.old) }
 {
-    let reading = read_all(input, buffer);
-    let length = reading.length;
-    match reading.fault {
-        None => Input {
-            length,
-            is_read: true,
-        },
-        Some(fault) => {
+    match read_all(input, buffer) {
+        Ok(length) => Some(&buffer[..length]),
+        Err(fault) => {
             messages::fail(rt, b"cannot read ", name, fault);
-            Input {
-                length,
-                is_read: false,
-            }
+            None
         }
     }
 }
@@ -85,30 +61,24 @@ fn open(rt: &HostRuntime, name: &[u8]) -> io::Result<File> {
 }
 
 // Reads a file by its name. A folder opens, and cannot be read.
-fn read_file(rt: &HostRuntime, name: &[u8], buffer: &mut [u8]) -> Input
-    ensures { IsPrefixLen result.length buffer.new }
+fn read_file<'b>(rt: &HostRuntime, name: &[u8], buffer: &'b mut [u8]) -> Option<&'b [u8]>
+    ensures { IfSome result (λ read. length read.now ≤ length buffer.old) }
 {
     match open(rt, name) {
         Ok(mut file) => read_open(rt, &mut file, name, buffer),
         Err(fault) => {
             messages::fail(rt, b"cannot open ", name, fault);
-            Input {
-                length: 0,
-                is_read: false,
-            }
+            None
         }
     }
 }
 
 // Reads an argument itself, an empty one too. One that the buffer cannot hold is not cut, since its start is another word or name.
-pub fn read_argument(rt: &HostRuntime, i: usize, buffer: &mut [u8]) -> Input
-    ensures { IsPrefixLen result.length buffer.new }
+pub fn read_argument<'b>(rt: &HostRuntime, i: usize, buffer: &'b mut [u8]) -> Option<&'b [u8]>
+    ensures { IfSome result (λ read. length read.now ≤ length buffer.old) }
 {
     match rt.arg(i, buffer) {
-        Ok(length) => Input {
-            length,
-            is_read: true,
-        },
+        Ok(length) => Some(&buffer[..length]),
         Err(why) => {
             let code = match why {
                 FillError::TooLong => NAME_TOO_LONG,
@@ -120,26 +90,16 @@ pub fn read_argument(rt: &HostRuntime, i: usize, buffer: &mut [u8]) -> Input
                 b"an argument that long",
                 io::Error::from_raw_os_error(code),
             );
-            Input {
-                length: 0,
-                is_read: false,
-            }
+            None
         }
     }
 }
 
 // Reads the file that an argument names.
-pub fn read_named(rt: &HostRuntime, i: usize, buffer: &mut [u8]) -> Input
-    ensures { IsPrefixLen result.length buffer.new }
+pub fn read_named<'b>(rt: &HostRuntime, i: usize, buffer: &'b mut [u8]) -> Option<&'b [u8]>
+    ensures { IfSome result (λ read. length read.now ≤ length buffer.old) }
 {
     let mut name = [0u8; LONGEST_ARGUMENT];
-    let argument = read_argument(rt, i, &mut name);
-    if !argument.is_read {
-        return Input {
-            length: 0,
-            is_read: false,
-        };
-    }
-    let length = argument.length;
-    read_file(rt, &name[..length], buffer)
+    let name = read_argument(rt, i, &mut name)?;
+    read_file(rt, name, buffer)
 }

@@ -5,23 +5,20 @@
 
 use files::{LONGEST_ARGUMENT, read_argument};
 use std::env::{Env, FillError};
+use words::Word;
 
 mod files; // reading arguments and files
 mod messages; // what is said on standard error
 mod words; // what each word does
 
 // Does what a word says, with so many arguments after it.
-fn do_word(rt: &HostRuntime, word: &[u8], count: usize) {
-    match word {
-        b"shared" => words::shared(rt, count),
-        b"audit" => words::audit(rt, count),
-        b"audit-shared" => words::audit_shared(rt, count),
-        b"clean" => words::clean(rt, count),
-        b"joined" => words::joined(rt, count),
-        _ => messages::advise(
+fn do_word(rt: &HostRuntime, name: &[u8], count: usize) {
+    match Word::named(name) {
+        Some(word) => word.run(rt, name, count),
+        None => messages::advise(
             rt,
             b"unknown word ",
-            word,
+            name,
             b": try shared SHEET, audit SHEET STAGE, audit-shared SHEET STAGE or clean SHEET",
         ),
     }
@@ -29,20 +26,14 @@ fn do_word(rt: &HostRuntime, word: &[u8], count: usize) {
 
 // Whether there is such an argument. One that no buffer holds is there.
 fn is_given(rt: &HostRuntime, i: usize) -> bool {
-    match rt.arg(i, &mut []) {
-        Err(FillError::NotPresent) => false,
-        _ => true,
-    }
+    !matches!(rt.arg(i, &mut []), Err(FillError::NotPresent))
 }
 
 // How many arguments there are, the program's own name among them.
 fn arg_count(rt: &HostRuntime) -> usize {
-    for i in 0..usize::MAX {
-        if !is_given(rt, i) {
-            return i;
-        }
-    }
-    usize::MAX
+    (0..usize::MAX)
+        .find(|i| !is_given(rt, *i))
+        .unwrap_or(usize::MAX)
 }
 
 fn main(rt: HostRuntime) {
@@ -51,11 +42,8 @@ fn main(rt: HostRuntime) {
         words::quote(&rt);
         return;
     }
-    let mut buffer = [0u8; LONGEST_ARGUMENT];
-    let word = read_argument(&rt, 1, &mut buffer);
-    if !word.is_read {
-        return;
+    let mut space = [0u8; LONGEST_ARGUMENT];
+    if let Some(word) = read_argument(&rt, 1, &mut space) {
+        do_word(&rt, word, count - 2);
     }
-    let length = word.length;
-    do_word(&rt, &buffer[..length], count - 2);
 }

@@ -1,4 +1,4 @@
-// The words of the program: a function for each, which takes the number of arguments after the word, reads the files that they name, and prints the reply.
+// The words of the program: what each takes, reads and prints.
 // A word hands nothing back and changes nothing that is lent to it, so that it has no equation of its own: those of what it prints
 // stand in the crate `printed`.
 use crate::files::{read_named, read_open};
@@ -17,14 +17,75 @@ const SHEET_ROOM: usize = LONGEST_SHEET + 1;
 // out change nothing of the reply (printed/proofs/Printing, `stage_front`).
 const STAGE_ROOM: usize = LONGEST_DIAGRAMS + 1;
 
-// The words whose first name is a sheet's.
+// The words. The first name of each is a sheet's.
 #[derive(Clone, Copy)]
-enum Word {
+pub enum Word {
+    // the quote on the board that shares selectors (document 02, E2)
     Shared,
+    // whether a stage keeps to the sheet, and its cells
     Audit,
+    // the same of a stage for the board that shares selectors
     AuditShared,
+    // the sheet's clean copy (document 02, E1)
     Clean,
+    // the quote of one stage for two units (document 02, E6)
     Joined,
+}
+
+impl Word {
+    // The word that an argument is, if it is one.
+    pub fn named(name: &[u8]) -> Option<Word> {
+        match name {
+            b"shared" => Some(Word::Shared),
+            b"audit" => Some(Word::Audit),
+            b"audit-shared" => Some(Word::AuditShared),
+            b"clean" => Some(Word::Clean),
+            b"joined" => Some(Word::Joined),
+            _ => None,
+        }
+    }
+
+    // How many names it takes.
+    fn taken(self) -> usize {
+        match self {
+            Word::Shared | Word::Clean => 1,
+            Word::Audit | Word::AuditShared | Word::Joined => 2,
+        }
+    }
+
+    // What to write.
+    fn advice(self) -> &'static [u8] {
+        match self {
+            Word::Shared => b": try shared SHEET",
+            Word::Audit => b": try audit SHEET STAGE",
+            Word::AuditShared => b": try audit-shared SHEET STAGE",
+            Word::Clean => b": try clean SHEET",
+            Word::Joined => b": try joined FIRST SECOND",
+        }
+    }
+
+    // Prints what it says of a sheet that is read already.
+    fn print(self, rt: &HostRuntime, sheet: &[u8]) {
+        match self {
+            Word::Shared => print_quote(rt, BoardKind::Sharing, sheet),
+            Word::Audit => print_audit(rt, BoardKind::Tree, sheet),
+            Word::AuditShared => print_audit(rt, BoardKind::Sharing, sheet),
+            Word::Clean => print_copy(rt, sheet),
+            Word::Joined => print_joined(rt, sheet),
+        }
+    }
+
+    // Does what it says, where there are as many names as it takes. Where there are not, that is said, with what to write.
+    pub fn run(self, rt: &HostRuntime, name: &[u8], count: usize) {
+        if count != self.taken() {
+            messages::advise(rt, b"wrong number of names for ", name, self.advice());
+            return;
+        }
+        let mut space = [0u8; SHEET_ROOM];
+        if let Some(sheet) = read_named(rt, 2, &mut space) {
+            self.print(rt, sheet);
+        }
+    }
 }
 
 // Prints a reply.
@@ -43,25 +104,20 @@ fn print_quote(rt: &HostRuntime, kind: BoardKind, sheet: &[u8]) {
 
 // No word: the quote of the sheet on standard input.
 pub fn quote(rt: &HostRuntime) {
-    let mut sheet = [0u8; SHEET_ROOM];
-    let input = read_open(rt, &mut rt.stdin(), b"standard input", &mut sheet);
-    if !input.is_read {
-        return;
+    let mut space = [0u8; SHEET_ROOM];
+    if let Some(sheet) = read_open(rt, &mut rt.stdin(), b"standard input", &mut space) {
+        print_quote(rt, BoardKind::Tree, sheet);
     }
-    let length = input.length;
-    print_quote(rt, BoardKind::Tree, &sheet[..length]);
 }
 
 // Reads the stage that the third argument names, and prints how it fares against a sheet that is read already.
 fn print_audit(rt: &HostRuntime, kind: BoardKind, sheet: &[u8]) {
-    let mut stage = [0u8; STAGE_ROOM];
-    let input = read_named(rt, 3, &mut stage);
-    if !input.is_read {
+    let mut space = [0u8; STAGE_ROOM];
+    let Some(stage) = read_named(rt, 3, &mut space) else {
         return;
-    }
-    let length = input.length;
+    };
     let mut out = [0u8; LONGEST_REPORT];
-    let printed = audit_reply(kind, sheet, &stage[..length], &mut out);
+    let printed = audit_reply(kind, sheet, stage, &mut out);
     print(rt, &out[..printed]);
 }
 
@@ -74,84 +130,11 @@ fn print_copy(rt: &HostRuntime, sheet: &[u8]) {
 
 // Reads the second sheet, which the third argument names, and prints the quote of one stage for it and the first, which is read already.
 fn print_joined(rt: &HostRuntime, first: &[u8]) {
-    let mut second = [0u8; SHEET_ROOM];
-    let input = read_named(rt, 3, &mut second);
-    if !input.is_read {
+    let mut space = [0u8; SHEET_ROOM];
+    let Some(second) = read_named(rt, 3, &mut space) else {
         return;
-    }
-    let length = input.length;
+    };
     let mut out = [0u8; LONGEST_REPORT];
-    let printed = joined_reply(first, &second[..length], &mut out);
+    let printed = joined_reply(first, second, &mut out);
     print(rt, &out[..printed]);
-}
-
-// Prints what a word says of a sheet that is read already.
-fn print_word(rt: &HostRuntime, word: Word, sheet: &[u8]) {
-    match word {
-        Word::Shared => print_quote(rt, BoardKind::Sharing, sheet),
-        Word::Audit => print_audit(rt, BoardKind::Tree, sheet),
-        Word::AuditShared => print_audit(rt, BoardKind::Sharing, sheet),
-        Word::Clean => print_copy(rt, sheet),
-        Word::Joined => print_joined(rt, sheet),
-    }
-}
-
-// Reads the sheet that the second argument names, and prints what a word says of it.
-fn print_of_sheet(rt: &HostRuntime, word: Word) {
-    let mut sheet = [0u8; SHEET_ROOM];
-    let input = read_named(rt, 2, &mut sheet);
-    if input.is_read {
-        let length = input.length;
-        print_word(rt, word, &sheet[..length]);
-    }
-}
-
-// Whether there are as many names as a word takes. Where there are not, that is said, with what to write.
-fn has_names(rt: &HostRuntime, count: usize, taken: usize, word: &[u8], advice: &[u8]) -> bool {
-    if count == taken {
-        return true;
-    }
-    messages::advise(rt, b"wrong number of names for ", word, advice);
-    false
-}
-
-// shared SHEET: the quote on the board that shares selectors (document 02, E2).
-pub fn shared(rt: &HostRuntime, count: usize) {
-    if has_names(rt, count, 1, b"shared", b": try shared SHEET") {
-        print_of_sheet(rt, Word::Shared);
-    }
-}
-
-// audit SHEET STAGE: whether the stage keeps to the sheet, and its cells.
-pub fn audit(rt: &HostRuntime, count: usize) {
-    if has_names(rt, count, 2, b"audit", b": try audit SHEET STAGE") {
-        print_of_sheet(rt, Word::Audit);
-    }
-}
-
-// audit-shared SHEET STAGE: the same of a stage for the board that shares selectors.
-pub fn audit_shared(rt: &HostRuntime, count: usize) {
-    if has_names(
-        rt,
-        count,
-        2,
-        b"audit-shared",
-        b": try audit-shared SHEET STAGE",
-    ) {
-        print_of_sheet(rt, Word::AuditShared);
-    }
-}
-
-// clean SHEET: the sheet's clean copy (document 02, E1).
-pub fn clean(rt: &HostRuntime, count: usize) {
-    if has_names(rt, count, 1, b"clean", b": try clean SHEET") {
-        print_of_sheet(rt, Word::Clean);
-    }
-}
-
-// joined FIRST SECOND: the quote of one stage for two units (document 02, E6).
-pub fn joined(rt: &HostRuntime, count: usize) {
-    if has_names(rt, count, 2, b"joined", b": try joined FIRST SECOND") {
-        print_of_sheet(rt, Word::Joined);
-    }
 }

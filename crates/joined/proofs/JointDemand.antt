@@ -28,7 +28,8 @@ use Rattle.relation.specs.Joined.{join_of}
 use Rattle.unit.specs.Formed.{relation_in}
 use Rattle.unit.proofs.Rivals.{commands_only}
 use Rattle.quote.specs.Cases.{QuoteReply}
-use Rattle.quote.specs.Quote.{no_quote, searched}
+use Rattle.quote.specs.Cases.{no_quote}
+use Rattle.quote.specs.Quote.{searched}
 use Rattle.quote.specs.AnyQuote.{inputs_in, wires_in}
 use Rattle.quote.proofs.OneSheet.{read_is}
 use Rattle.quote.proofs.AnySearched.{any_refused_promise, Tells, any_searched_promise}

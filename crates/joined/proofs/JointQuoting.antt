@@ -1,6 +1,16 @@
 -- The cases of a joint quote: each return of the code is the written reply, with the buffer as it is to be.
 use Prim.Native.Nat.{ℕ, ◌^◌, ◌<◌, ◌≤◌}
-use mathlib.Core.Path.{◌≡◌, sym, ap₂, ◌∙◌}
+use mathlib.Core.Path.{◌≡◌, refl, sym, ap, ap₂, ◌∙◌}
+use Rattle.std.specs.Prelude.{Result, Ok, Err, MatchResult}
+use Rattle.std.specs.Result.{IsErrAnd}
+use Rattle.base.proofs.Passing.{passed_on}
+use Rattle.search.specs.declared.Mark.{Mark}
+use Rattle.search.specs.declared.Mark.TheVariants.{Best, Stopped}
+use Rattle.search.specs.Cases.{mark_case}
+use Rattle.quote.specs.declared.Quoted.{Quoted}
+use Rattle.joined.specs.declared.JointRefusal.{JointRefusal}
+use Rattle.joined.specs.declared.JointRefusal.TheVariants.{Second}
+use Rattle.joined.specs.Cases.{joint_reply}
 use mathlib.Core.Logic.{⊎_elim}
 use mathlib.Core.Bool.{not}
 use mathlib.Core.List.{List}
@@ -21,7 +31,7 @@ use Rattle.reader.specs.Reading.{reading_of}
 use Rattle.reader.proofs.Sound.{sound}
 use Rattle.unit.specs.Formed.{relation_in}
 use Rattle.quote.specs.Audit.{sizes_apart}
-use Rattle.quote.specs.Cases.{QuoteReply, no_quote}
+use Rattle.quote.specs.Cases.{QuoteReply, no_quote, quote_reply}
 use Rattle.quote.specs.Quote.{searched, buffer_searched}
 use Rattle.quote.proofs.Quoting.{searched_refused}
 use Rattle.joined.specs.Inner.Both.{both_quoted, both_buffer}
@@ -30,6 +40,19 @@ use Rattle.joined.specs.Promised.{JointPromised}
 use Rattle.joined.proofs.Joining.{first_refused_lem, second_refused, sizes_apart_lem, joined_empty, joined_whole}
 use Rattle.joined.proofs.JointDemand.{joint_promised}
 use Rattle.joined.proofs.JointRivals.{empty_in_both, joined_in, joined_refused}
+
+-- a mark is no refusal, and what both are refused for counts as the second's
+kept_mark : (m : Mark) → mark_case m ≡ as_second (mark_case m)
+unfolding as_second
+kept_mark Best = refl
+kept_mark Stopped = refl
+
+pub second_named : (r : Result Quoted Refusal) (q : Result Quoted JointRefusal) → MatchResult r (λ x. q ≡ Ok x) (λ e. IsErrAnd q (λ d. d ≡ Second e))
+    → joint_reply q ≡ quoted_as_second (quote_reply r)
+unfolding as_second
+second_named (Ok x) q h =
+    ap joint_reply h ∙ ap (λ k. record { cells = x.cells; floor = x.floor; visits = x.visits; length = x.length; mark = k }) (kept_mark x.mark)
+second_named (Err e) q h = ap joint_reply (passed_on q (Second e) h)
 
 -- two relations: sizes that differ, or the search of the two joined
 module _ (r q : Relation) (budget : ℕ) (buffer : List ℕ) where

@@ -11,8 +11,8 @@ use Rattle.sheet.specs.declared.Command.{Command}
 use Rattle.sheet.specs.Commands.{inputs_of, wires_of}
 use Rattle.sheet.specs.Judged.{Reading, holds, refused}
 use Rattle.reader.specs.Reading.{reading_of}
-use Rattle.unit.specs.Cases.{FormedReply}
-use Rattle.unit.specs.Formed.{relation_in, no_relation, turned_away}
+use Rattle.unit.specs.Cases.{FormedReply, no_relation}
+use Rattle.unit.specs.Formed.{relation_in, turned_away}
 use Rattle.unit.specs.Relation.{unit_relation}
 use Rattle.quote.specs.Cases.{QuoteReply, no_quote}
 use Rattle.quote.specs.Quote.{searched, buffer_searched}

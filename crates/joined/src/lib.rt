@@ -42,10 +42,7 @@ fn quote_both(
     ensures { (quoted_as_second (quote_reply result) ≡ both_quoted first second budget (length buffer.old))
         × (buffer.new ≡ both_buffer first second budget buffer.old) }
 {
-    if first.n != second.n {
-        return Err(Refusal::at(Refusal::SIZES_DIFFER, 0));
-    }
-    if first.m != second.m {
+    if first.n != second.n || first.m != second.m {
         return Err(Refusal::at(Refusal::SIZES_DIFFER, 0));
     }
     let both = first.join(second);

@@ -8,7 +8,7 @@ ghost use Rattle.sheet.specs.Limits.{max_wires};
 ghost use Rattle.table.specs.Bits.{is_one};
 ghost use Rattle.relation.specs.Tests.{occurs};
 ghost use Rattle.relation.specs.Inner.Members.{member};
-ghost use Rattle.lanes.specs.Inner.Lanes.{lane_space, half_lane, lanes_space, lane_of, lanes_of, put_lane, first_wire, LanesBelow};
+ghost use Rattle.lanes.specs.Inner.Lanes.{lane_space, half_lane, lanes_space, lane_of, lanes_of, put_lane, first_wire, LanesBelow, Chosen};
 
 use sheet::Sheet;
 
@@ -76,12 +76,19 @@ pub fn no_ones(set: u16) -> u64
     vacant(((set as u64 * LANES) >> 1) & ONES_LOWERED)
 }
 
+// Bit by bit one of two numbers: `one` where t has a 1.
+pub fn choose(t: u64, zero: u64, one: u64) -> u64
+    ensures { Chosen t zero one result }
+{
+    zero ^ ((zero ^ one) & t)
+}
+
 // The wires whose bit no value has any more: of a wire that drives 1 whether none has it at 1, of one that drives 0 whether none has it at 0.
 pub fn broken(driven: u64, zeroless: u64, oneless: u64) -> u64
     requires { LanesBelow 2 driven × LanesBelow 2 zeroless × LanesBelow 2 oneless }
     ensures { ((j : ℕ) → j < max_wires → lane_of result j ≡ cond (eqb (lane_of driven j) 1) (lane_of oneless j) (lane_of zeroless j)) × LanesBelow 2 result × (result < lanes_space) }
 {
-    zeroless ^ ((zeroless ^ oneless) & driven)
+    choose(driven, zeroless, oneless)
 }
 
 // The first wire whose bit is 1: the lowest bit of the number stands in its lane.

@@ -16,7 +16,7 @@ ghost use Rattle.nodes.specs.Inner.Ways.{quarter_entry_at, class_at, line_at, mo
 
 use table::picks::{
     BLOCK_SPACE, FOURTH_BYTE, LENT, NARROW_SPACE, NO_TABLE, ONE_SPACE, PLACES, THIRD_BYTE,
-    THREE_SPACE, lesser,
+    THREE_SPACE,
 };
 
 // The best quarter of each pair of masks, at zeros * BLOCK_SPACE + ones: NODE where it needs a selector that counts, and the quarter four times side by side.
@@ -139,10 +139,9 @@ fn half(e: &[u32; LENT], x: u32, y: u32, i: u32, j: u32) -> u32
     requires { Tops e.now × (i + j ≤ all_places) }
     ensures { (result ≡ half_at x y i j) × (result ≤ most_class) }
 {
-    lesser(
-        lesser(class(e, x & y, i + j), line_rank(x, y, j)),
-        NODE + apart(e, x, y, i, j),
-    )
+    class(e, x & y, i + j)
+        .min(line_rank(x, y, j))
+        .min(NODE + apart(e, x, y, i, j))
 }
 
 // Equal halves: one class, a line, or two classes and a selector for both halves.
@@ -150,13 +149,9 @@ fn halves_alike(e: &[u32; LENT], a: u32, b: u32, c: u32, d: u32) -> u32
     requires { Tops e.now }
     ensures { (result ≡ halves_alike (class_in (four a b c d)) (line_in (four a b c d))) × (result ≤ most_class) }
 {
-    lesser(
-        lesser(
-            class(e, a & b & c & d, A + B + C + D),
-            line_rank(a & c, b & d, B + D),
-        ),
-        NODE + apart(e, a & c, b & d, A + C, B + D),
-    )
+    class(e, a & b & c & d, A + B + C + D)
+        .min(line_rank(a & c, b & d, B + D))
+        .min(NODE + apart(e, a & c, b & d, A + C, B + D))
 }
 
 // Halves that share no quarter.
@@ -172,15 +167,9 @@ fn three_alike(e: &[u32; LENT], a: u32, b: u32, c: u32, d: u32) -> u32
     requires { Tops e.now }
     ensures { result ≡ three_alike (class_in (four a b c d)) }
 {
-    let x = lesser(
-        apart(e, a & b & c, d, A + B + C, D),
-        apart(e, a & b & d, c, A + B + D, C),
-    );
-    let y = lesser(
-        apart(e, a & c & d, b, A + C + D, B),
-        apart(e, b & c & d, a, B + C + D, A),
-    );
-    2 * NODE + lesser(x, y)
+    let x = apart(e, a & b & c, d, A + B + C, D).min(apart(e, a & b & d, c, A + B + D, C));
+    let y = apart(e, a & c & d, b, A + C + D, B).min(apart(e, b & c & d, a, B + C + D, A));
+    2 * NODE + x.min(y)
 }
 
 // The first quarter of one half is the second of the other.
@@ -190,10 +179,8 @@ fn crossed(e: &[u32; LENT], a: u32, b: u32, c: u32, d: u32) -> u32
 {
     let ad = class(e, a & d, A + D);
     let bc = class(e, b & c, B + C);
-    lesser(
-        ad + lesser(bc, apart(e, b, c, B, C)),
-        bc + apart(e, a, d, A, D),
-    )
+    let first = ad + bc.min(apart(e, b, c, B, C));
+    first.min(bc + apart(e, a, d, A, D))
 }
 
 // The halves have their first quarter in common, or their second.
@@ -201,10 +188,8 @@ fn beside(e: &[u32; LENT], a: u32, b: u32, c: u32, d: u32) -> u32
     requires { Tops e.now }
     ensures { (result ≡ beside_alike (class_in (four a b c d))) × (result ≤ 3 * most_class) }
 {
-    lesser(
-        class(e, a & c, A + C) + apart(e, b, d, B, D),
-        class(e, b & d, B + D) + apart(e, a, c, A, C),
-    )
+    let first = class(e, a & c, A + C) + apart(e, b, d, B, D);
+    first.min(class(e, b & d, B + D) + apart(e, a, c, A, C))
 }
 
 // A quarter of one half is a quarter of the other, and both halves need a selector.
@@ -212,7 +197,7 @@ fn across_alike(e: &[u32; LENT], a: u32, b: u32, c: u32, d: u32) -> u32
     requires { Tops e.now }
     ensures { result ≡ across_alike (class_in (four a b c d)) }
 {
-    3 * NODE + lesser(crossed(e, a, b, c, d), beside(e, a, b, c, d))
+    3 * NODE + crossed(e, a, b, c, d).min(beside(e, a, b, c, d))
 }
 
 // The least over the fifteen ways in which the quarters of a pair coincide and over the lines, with no selectors on input 4 counted. Where both halves have
@@ -233,7 +218,7 @@ fn way(e: &[u32; LENT], pair: u32) -> u32
     let three = three_alike(e, a, b, c, d);
     let across = across_alike(e, a, b, c, d);
     let tree = tree_like(e, a, b, c, d);
-    lesser(lesser(lesser(halves, first), tree), lesser(three, across))
+    halves.min(first).min(tree).min(three.min(across))
 }
 
 // The masks under which no best quarter has the inverse of input 4 as a half. That is 1 on the even pattern and 0 on the odd one: 0 on an odd pattern now asks
@@ -254,7 +239,7 @@ fn pick4(e: &[u32; LENT], pair: u32) -> u32
     let mut best = NO_PICK;
     for inverses in 0..CHOICES {
         let x = way(e, masks);
-        best = lesser(best, x + inverses * NODE);
+        best = best.min(x + inverses * NODE);
         if best < NODE {
             return best;
         }

@@ -8,11 +8,10 @@ use native.Mathlib.Omega.{arith}
 use native.Mathlib.Nat.{mul-le-mul_right, mul_assoc}
 use lib.Bits.{bit_and, and_block, and_le_l, and_zero_r}
 use lib.Dec.{T_not, eqb, eqb→eq, ltb, ltb→lt, nltb→le}
-use lib.ListN.{length, get_or, set, length-set}
-use lib.Seq.{get_or-set_same, get_or-set_other}
+use lib.ListN.{length, get_or, set}
 use lib.Pow.{pow_mono, pow-add}
 use borrow.Author.Tests.{lt-ltb, le-ltb}
-use Rattle.base.proofs.Tests.{cond_has, cond_has₂, decide, below_suc, eq_test, eqb_yes, eqb_not}
+use Rattle.base.proofs.Tests.{cond_has, cond_has₂, decide, eq_test, eqb_yes, eqb_not}
 use Rattle.base.proofs.Tabulate.{tabulate_set, tabulate_length, tabulate_entry, filled_tabulate}
 use Rattle.sheet.specs.Limits.{max_wires, max_patterns}
 use Rattle.table.specs.Bits.{sum, tabulate}
@@ -57,35 +56,6 @@ low_place k = k / max_wires * (2 * max_wires) + k % max_wires
 
 abbrev pub HalvesTo : (words masks : List ℕ) → ℕ → Type 0
 HalvesTo words masks i = (k : ℕ) → k < i → (get_or masks (low_place k) 0 ≡ get_or words k 0 % lane_space) × (get_or masks (low_place k + max_wires) 0 ≡ get_or words k 0 / lane_space)
-
-low_apart : (k i : ℕ) → (k ≡ i → ⊥) → low_place k ≡ low_place i → ⊥
-low_apart k i ne e = ne (omega arith)
-
-high_apart : (k i : ℕ) → low_place k ≡ low_place i + max_wires → ⊥
-high_apart k i e = omega arith
-
-pub halves_next : (words masks : List ℕ) (i : ℕ) → i < word_count → length masks ≡ mask_count → HalvesTo words masks i
-    → {x y : ℕ} → x ≡ get_or words i 0 % lane_space → y ≡ get_or words i 0 / lane_space → HalvesTo words (set (set masks (low_place i) x) (low_place i + max_wires) y) (i + 1)
-halves_next words masks i li long h {x} {y} ex ey k lk =
-    ⊎_elim
-    (λ (e : k ≡ i).
-    rw (
-      e,
-      get_or-set_other first (low_place i + max_wires) (low_place i) y 0 (high_apart i i),
-      get_or-set_same masks (low_place i) x 0 (omega arith),
-      get_or-set_same first (low_place i + max_wires) y 0 (simp length-set (omega arith)),
-    )
-    (ex, ey))
-    (λ l.
-    let ne : k ≡ i → ⊥ = λ e. absurd (omega arith) in (
-      get_or-set_other first (low_place i + max_wires) (low_place k) y 0 (high_apart k i) ∙ get_or-set_other masks (low_place i) (low_place k) x 0 (low_apart k i ne) ∙ (h k l).0,
-      get_or-set_other first (low_place i + max_wires) (low_place k + max_wires) y 0 (λ e. low_apart k i ne (omega arith))
-          ∙ get_or-set_other masks (low_place i) (low_place k + max_wires) x 0 (λ e. high_apart i k (sym e)) ∙ (h k l).1,
-    ))
-    (below_suc {i = k} {k = i} (omega arith))
-  where
-    first : List ℕ
-    first = set masks (low_place i) x
 
 pub halves_all : (words masks : List ℕ) → length words ≡ word_count → HalvesTo words masks word_count → words_of masks ≡ words
 unfolding word_from

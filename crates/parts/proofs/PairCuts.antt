@@ -66,14 +66,6 @@ seat_shifted x s lx ls =
     let b : 2 ^ s ≤ 2 ^ (pair_bits - suc block_patterns) = pow_mono {i = s} {j = pair_bits - suc block_patterns} (omega arith) in
     mod-eq_of_lt (omega arith)
 
--- so does a number that has room for both sides there
-pub put_fits : (x k : ℕ) {s t : ℕ} → k ≤ both_sides → s ≡ t → s + block_patterns < pair_bits → x + both_sides * 2 ^ t < 2 ^ pair_bits
-    → x + k * 2 ^ s % 2 ^ pair_bits < 2 ^ pair_bits
-put_fits x k {s} {t} lk e ls room =
-    let l : k * 2 ^ s ≤ both_sides * 2 ^ s = mul-le-mul_right (2 ^ s) lk in
-    let d : both_sides * 2 ^ s ≡ both_sides * 2 ^ t = ap (λ i. both_sides * 2 ^ i) e in
-    omega (arith, seat_shifted k s lk ls)
-
 -- the bits at a seat that are lost
 and_bit_lem : (x : ℕ) (t : Bool) → bit_and x (is_one t) ≡ x % 2 * is_one t
 unfolding is_one

@@ -188,22 +188,14 @@ firsts p k i = cond (ltb i k) (p + 1) p
 pub firsts_at : (p k : ℕ) → firsts p k k ≡ p
 firsts_at p k = rw (le-ltb k k (le_refl k))
 
-pub firsts_next : (p k : ℕ) → firsts p (suc k) k ≡ p + 1
-firsts_next p k = rw (lt-ltb k (suc k) (omega arith))
+pub firsts_next : (p k : ℕ) → firsts p (k + 1) k ≡ p + 1
+firsts_next p k = rw (lt-ltb k (k + 1) (omega arith))
 
-pub firsts_other : (p k i : ℕ) → (i ≡ k → ⊥) → firsts p k i ≡ firsts p (suc k) i
-firsts_other p k i ne = others_same (p + 1) p i k ne
+pub firsts_other : (p k i : ℕ) → (i ≡ k → ⊥) → firsts p k i ≡ firsts p (k + 1) i
+firsts_other p k i ne = let e : suc k ≡ k + 1 = omega arith in others_same (p + 1) p i k ne ∙ ap (λ b. firsts p b i) e
 
 pub firsts_none : (p i : ℕ) → firsts p 0 i ≡ p
 firsts_none p i = rw (le-ltb i 0 (omega arith))
-
-pub firsts_end : (p : ℕ) (sets : List ℕ) → pairs_to sets (firsts p max_wires) ≡ pairs_to sets (firsts (p + 1) 0)
-firsts_end p sets =
-    tabulate_cong word_count (λ i. word_below put_sides (firsts p max_wires (i % max_wires)) sets (i / max_wires) (i % max_wires))
-    (λ i. word_below put_sides (firsts (p + 1) 0 (i % max_wires)) sets (i / max_wires) (i % max_wires))
-    (λ i _.
-    let a : firsts p max_wires (i % max_wires) ≡ p + 1 = rw (lt-ltb (i % max_wires) max_wires (omega arith)) in
-    ap (λ k. word_below put_sides k sets (i / max_wires) (i % max_wires)) (a ∙ sym (firsts_none (p + 1) (i % max_wires))))
 
 pub firsts_all : (n p : ℕ) (sets : List ℕ) → NonePast n sets → p ≡ 2 ^ n → pairs_to sets (firsts p 0) ≡ pairs_of sets
 unfolding pairs_of

@@ -36,9 +36,9 @@ fn high_half(word: u32) -> u16
     (word / HALF_SPACE) as u16
 }
 
-// The words in their halves. They are taken by value, since a list that is lent does not tell its length.
-fn halved(words: [u32; WORDS]) -> [u16; MASKS]
-    ensures { (words_of result ≡ words) × (length result ≡ mask_count) }
+// The words in their halves.
+pub fn masks_of(words: &[u32; WORDS]) -> [u16; MASKS]
+    ensures { (words_of result ≡ words.now) × (length result ≡ mask_count) }
 {
     let mut masks = [0u16; MASKS];
     for i in 0..WORDS {
@@ -49,26 +49,12 @@ fn halved(words: [u32; WORDS]) -> [u16; MASKS]
     masks
 }
 
-pub fn masks_of(words: &[u32; WORDS]) -> [u16; MASKS]
-    ensures { (words_of result ≡ words.now) × (length result ≡ mask_count) }
-{
-    let whole = *words;
-    halved(whole)
-}
-
-// A half in a number with room for a row.
-fn widened(half: u16) -> u64
-    ensures { (result ≡ half) × (result < lane_space) }
-{
-    half as u64
-}
-
-// A number of the masks.
+// A number of the masks, in a number with room for a row.
 fn half_at(masks: &[u16; MASKS], at: usize) -> u64
     requires { at < mask_count }
     ensures { (result ≡ get_or masks.now at 0) × (result < lane_space) }
 {
-    widened(masks[at])
+    u64::from(masks[at])
 }
 
 // Wire j's word on section q, from its halves.
@@ -108,9 +94,9 @@ fn half_of(row: u64, j: u8) -> u16
     lane(row, j) as u16
 }
 
-// The masks with the row of pattern p replaced.
+// The masks with the row of pattern p replaced. The wires are written out, as `row_of` reads them: a loop over them is no plainer.
 pub fn put_row(masks: &mut [u16; MASKS], p: u8, row: u64)
-    requires { (p < max_patterns) × (length masks.old ≡ mask_count) }
+    requires { p < max_patterns }
     ensures { masks.new ≡ with_lanes masks.old (p / row_patterns) row }
 {
     let at = row_place(p);

@@ -5,7 +5,6 @@
 ghost use Rattle.std.specs.Prelude.{◌≡◌, ◌+◌, ◌*◌, ◌/◌, ◌%◌, ◌<◌, ◌≤◌, ◌^◌, set as put};
 ghost use Rattle.sheet.specs.Limits.{max_inputs, max_wires, max_patterns};
 ghost use Rattle.table.specs.Inner.Pairs.{narrow_patterns, block_patterns, pair_bits, seat};
-ghost use Rattle.table.specs.Bits.{is_one};
 ghost use Rattle.relation.specs.Inner.Narrowed.{NonePast};
 ghost use Rattle.parts.specs.Inner.Pairs.{both_sides, bits_of, sides_of};
 ghost use Rattle.table.specs.Inner.Wide.{sections};
@@ -28,17 +27,11 @@ const BYTE: u8 = 2 * BLOCK;
 // What the lowest bit of the upper half counts for.
 const UPPER: u32 = 1 << BLOCK;
 
-fn one(there: bool) -> u32
-    ensures { result ≡ is_one there }
-{
-    if there { 1 } else { 0 }
-}
-
 // A pattern's two bits: the first in the lower half of its byte, which is for a wire at 1, the second in the upper half, for a wire at 0.
 fn bits_of(ones: bool, zeros: bool) -> u32
     ensures { (result ≡ bits_of ones zeros) × (result ≤ both_sides) }
 {
-    one(ones) + UPPER * one(zeros)
+    u32::from(ones) + UPPER * u32::from(zeros)
 }
 
 // What occurs of wire j in a set.
@@ -104,10 +97,9 @@ pub fn pairs_of(n: u8, sets: &[u16; Sheet::MAX_PATTERNS]) -> [u32; WORDS]
     let mut words = [0u32; WORDS];
     for p in 0..count {
         let set = sets[p as usize];
-        put_in(&mut words, p, set, 0);
-        put_in(&mut words, p, set, 1);
-        put_in(&mut words, p, set, 2);
-        put_in(&mut words, p, set, 3);
+        for j in 0..Sheet::MAX_WIRES {
+            put_in(&mut words, p, set, j);
+        }
     }
     words
 }

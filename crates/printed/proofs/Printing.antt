@@ -19,7 +19,8 @@ use Rattle.quote.specs.Cases.{QuoteReply}
 use Rattle.quote.specs.Inner.Refused.{refused_quote}
 use Rattle.sheet.specs.Judged.{Reading, holds, refused}
 use Rattle.reader.specs.Reading.{reading_of}
-use Rattle.quote.specs.Quote.{no_quote, buffer_quoted}
+use Rattle.quote.specs.Cases.{no_quote}
+use Rattle.quote.specs.Quote.{buffer_quoted}
 use Rattle.joined.specs.Joint.{joint_quoted, joint_buffer}
 use Rattle.quote.specs.Audit.{audited_from, audited_of}
 use Rattle.clean.specs.Cleaned.{cleaned_of, buffer_cleaned}

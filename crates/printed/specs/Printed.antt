@@ -7,7 +7,8 @@ use Rattle.sheet.specs.Judged.{Reading, holds, refused}
 use Rattle.reader.specs.Reading.{reading_of}
 use Rattle.nodes.specs.declared.BoardKind.{BoardKind}
 use Rattle.quote.specs.Cases.{QuoteReply}
-use Rattle.quote.specs.Quote.{no_quote, quoted_of, buffer_quoted}
+use Rattle.quote.specs.Cases.{no_quote}
+use Rattle.quote.specs.Quote.{quoted_of, buffer_quoted}
 use Rattle.joined.specs.Joint.{joint_quoted, joint_buffer}
 use Rattle.quote.specs.Audit.{audited_of}
 use Rattle.diagram.specs.Bytes.{longest_written}

@@ -27,7 +27,8 @@ use Rattle.stage.specs.Read.{read_sheet}
 use Rattle.diagram.specs.Forms.{form_of, drawing_of}
 use Rattle.base.specs.Buffers.{buffer_with}
 use Rattle.stage.specs.Written.{stage_of, buffer_after}
-use Rattle.quote.specs.Quote.{no_quote, with_stage, searched, buffer_searched}
+use Rattle.quote.specs.Cases.{no_quote}
+use Rattle.quote.specs.Quote.{with_stage, searched, buffer_searched}
 use Rattle.quote.specs.Cases.{QuoteReply}
 use Rattle.quote.specs.AnyQuote.{WantedStage, PromisedOf}
 use Rattle.quote.proofs.Told.{not_wide}

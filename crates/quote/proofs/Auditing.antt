@@ -35,7 +35,7 @@ use Rattle.table.specs.Drawing.{got, drawn_table, drawn_value}
 use Rattle.stage.specs.Reply.{stage_tables, reply_to_stage}
 use Rattle.stage_reader.proofs.Replies.{told_refused, Got, told_got}
 use Rattle.stage.proofs.Sheets.{accepted}
-use Rattle.std.specs.Prelude.{Result, Ok, Err}
+use Rattle.std.specs.Prelude.{Ok, Err}
 use Rattle.unit.specs.Cases.{formed_reply}
 use Rattle.unit.specs.Formed.{formed_of}
 use Rattle.quote.specs.Cases.{fits_outcome, differs_outcome}
@@ -113,8 +113,8 @@ module _ (kind : BoardKind) (r : Relation) (bytes : List ℕ) where
 module _ (kind : BoardKind) (sheet stage : List ℕ) where
   pub formed_audit : (r : Relation) → formed_reply (Ok r) ≡ formed_of sheet → audited_stage (drawing_of kind) r (read_sheet (form_of kind) stage) ≡ audited_of kind sheet stage
   unfolding audited_of audited_from
-  formed_audit r ef = rw ← ef
+  formed_audit r ef = rw (← ef)
 
   pub turned_audit : (x : Refusal) → formed_reply (Err x) ≡ formed_of sheet → refusing refused_outcome x ≡ audited_of kind sheet stage
   unfolding audited_of audited_from
-  turned_audit x ef = rw ← ef
+  turned_audit x ef = rw (← ef)

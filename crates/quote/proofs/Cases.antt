@@ -6,8 +6,8 @@ use Rattle.base.specs.Cases.{Case, is_refused, refused_outcome}
 use Rattle.base.specs.Refusals.{refusal_at}
 use Rattle.base.proofs.Cases.{case_one}
 use Rattle.std.specs.Prelude.{Result, Ok, Err}
-use Rattle.quote.specs.declared.Audit.{Audit as Audited}
-use Rattle.quote.specs.declared.Audit.TheVariants.{Fits, Differs}
+use Rattle.quote.specs.declared.Audited.{Audited}
+use Rattle.quote.specs.declared.Audited.TheVariants.{Fits, Differs}
 use Rattle.quote.specs.declared.AuditRefusal.{AuditRefusal}
 use Rattle.quote.specs.declared.AuditRefusal.TheVariants.{Sheet as SheetRefused, Stage as StageRefused}
 use Rattle.quote.specs.Cases.{fits_outcome, audited_case}

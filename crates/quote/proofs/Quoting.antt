@@ -1,6 +1,6 @@
 -- The cases of a quote: each return of the code is the written reply, with the buffer as it is to be.
 use Prim.Native.Nat.{ℕ, ◌<◌, ◌≤◌}
-use mathlib.Core.Path.{◌≡◌, refl, sym, ap, ◌∙◌}
+use mathlib.Core.Path.{◌≡◌, refl, ◌∙◌}
 use mathlib.Core.Bool.{false}
 use mathlib.Core.List.{List}
 use lib.ListN.{length}
@@ -17,7 +17,7 @@ use Rattle.search.specs.Cases.{mark_case, answer_told, search_reply}
 use Rattle.relation.specs.Handed.{check_of}
 use Rattle.branch_bound.specs.Reply.{refused_with, search_of}
 use Rattle.search.proofs.Entry.{turned_away_lem}
-use Rattle.std.specs.Prelude.{Result, Ok, Err}
+use Rattle.std.specs.Prelude.{Ok, Err}
 use Rattle.base.specs.Cases.{written_case}
 use Rattle.diagram.specs.Forms.{form_of, drawing_of}
 use Rattle.stage.specs.Written.{written_of, buffer_after}
@@ -36,11 +36,11 @@ module _ (a : Answer) {x : Case} where
       → ◌≡◌ {A = QuoteReply} (record { cells = a.cells; floor = a.floor; visits = a.visits; length = k; mark = mark_case a.mark })
       (with_stage (answer_told a) x)
   unfolding with_stage
-  with_length k e = rw ← e
+  with_length k e = rw (← e)
 
   pub with_refusal : (f : Refusal) → written_case (Err f) ≡ x → quote_reply (Err f) ≡ with_stage (answer_told a) x
   unfolding with_stage
-  with_refusal f e = rw ← e
+  with_refusal f e = rw (← e)
 
 -- the relation is too wide for the board
 pub no_search : (kind : BoardKind) (r : Relation) (budget : ℕ) (buffer : List ℕ) {q : QuoteReply} (f : Refusal) → most_inputs kind < r.n → f ≡ refusal_at too_wide 0 → q ≡ refused_quote f
@@ -86,8 +86,8 @@ module _ (kind : BoardKind) (sheet : List ℕ) (budget : ℕ) (buffer : List ℕ
   pub formed_quote : (r : Relation) → formed_reply (Ok r) ≡ formed_of sheet → {q : QuoteReply} {b : List ℕ} → q ≡ searched kind r budget (length buffer)
       → b ≡ buffer_searched kind r budget buffer → ClausesKept q b
   unfolding quoted_of buffer_quoted
-  formed_quote r ef eq eb = clauses (eq ∙ rw ← ef) (eb ∙ rw ← ef)
+  formed_quote r ef eq eb = clauses (eq ∙ rw (← ef)) (eb ∙ rw (← ef))
 
   pub turned_quote : (g : Refusal) → formed_reply (Err g) ≡ formed_of sheet → {q : QuoteReply} → q ≡ refused_quote g → ClausesKept q buffer
   unfolding quoted_of buffer_quoted
-  turned_quote g ef eq = clauses (eq ∙ rw ← ef) (rw ← ef)
+  turned_quote g ef eq = clauses (eq ∙ rw (← ef)) (rw (← ef))

@@ -3,8 +3,8 @@ use Rattle.std.specs.Prelude.{ℕ, zero, Result, Ok, Err}
 use Rattle.base.specs.declared.Refusal.{Refusal}
 use Rattle.base.specs.Cases.{Case, accepting, refusing, refused_case, refused_outcome, second_refused_outcome}
 use Rattle.search.specs.Cases.{mark_case}
-use Rattle.quote.specs.declared.Audit.{Audit as Audited}
-use Rattle.quote.specs.declared.Audit.TheVariants.{Fits, Differs}
+use Rattle.quote.specs.declared.Audited.{Audited}
+use Rattle.quote.specs.declared.Audited.TheVariants.{Fits, Differs}
 use Rattle.quote.specs.declared.AuditRefusal.{AuditRefusal}
 use Rattle.quote.specs.declared.AuditRefusal.TheVariants.{Sheet as SheetRefused, Stage as StageRefused}
 use Rattle.quote.specs.declared.Quoted.{Quoted}

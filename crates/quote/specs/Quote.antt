@@ -1,6 +1,6 @@
 -- Document 01, "Quote, audit, program": a sheet's relation is searched and the stage found is written, for either board. The refusals are the sheet's own,
 -- then 10, then 15 (document 02, E5), then 12.
-use Rattle.std.specs.Prelude.{ℕ, zero, Bool, cond, List, ltb}
+use Rattle.std.specs.Prelude.{ℕ, Bool, cond, List, ltb}
 use Rattle.base.specs.Cases.{Case, refused_case, is_refused}
 use Rattle.base.specs.Refusals.{refusal_at, too_wide}
 use Rattle.nodes.specs.declared.BoardKind.{BoardKind}

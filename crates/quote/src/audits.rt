@@ -10,7 +10,7 @@ ghost use Rattle.diagram.specs.Forms.{form_of, drawing_of};
 ghost use Rattle.quote.specs.Cases.{audited_case};
 ghost use Rattle.quote.specs.Audit.{audited_stage};
 
-use crate::{Audit, AuditRefusal};
+use crate::{AuditRefusal, Audited};
 use base::Refusal;
 use nodes::BoardKind;
 use relation::Relation;
@@ -35,7 +35,7 @@ fn allowed_everywhere(n: u8, sets: [u16; Sheet::MAX_PATTERNS], tables: [u64; She
 }
 
 // The audit of a stage sheet against a relation. Sizes and values are looked at only where the stage sheet can be read.
-pub fn audit_stage(kind: BoardKind, relation: Relation, s: &[u8]) -> Result<Audit, AuditRefusal>
+pub fn audit_stage(kind: BoardKind, relation: Relation, s: &[u8]) -> Result<Audited, AuditRefusal>
     ensures { audited_case result ≡ audited_stage (drawing_of kind) relation (read_sheet (form_of kind) s.now) }
 {
     let reply = read_on(kind, s);
@@ -49,8 +49,8 @@ pub fn audit_stage(kind: BoardKind, relation: Relation, s: &[u8]) -> Result<Audi
         return Err(AuditRefusal::Stage(Refusal::at(Refusal::SIZES_DIFFER, 0)));
     }
     if allowed_everywhere(read.n, relation.sets, read.tables) {
-        Ok(Audit::Fits(read.cells as u32))
+        Ok(Audited::Fits(read.cells as u32))
     } else {
-        Ok(Audit::Differs(read.cells as u32))
+        Ok(Audited::Differs(read.cells as u32))
     }
 }

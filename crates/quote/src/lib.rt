@@ -32,7 +32,7 @@ pub struct Quoted {
 
 // The audit of a stage: it keeps to the sheet or not, with its cells.
 #[derive(Clone, Copy)]
-pub enum Audit {
+pub enum Audited {
     Fits(u32),
     Differs(u32),
 }
@@ -45,7 +45,12 @@ pub enum AuditRefusal {
 }
 
 // The quote on either board.
-pub fn quote_on(kind: BoardKind, sheet: &[u8], budget: u32, buffer: &mut [u8]) -> Result<Quoted, Refusal>
+pub fn quote_on(
+    kind: BoardKind,
+    sheet: &[u8],
+    budget: u32,
+    buffer: &mut [u8],
+) -> Result<Quoted, Refusal>
     ensures reply { quote_reply result ≡ quoted_of kind sheet.now budget (length buffer.old) }
     ensures bytes { buffer.new ≡ buffer_quoted kind sheet.now budget buffer.old }
     ensures promise { Promised (drawing_of kind) (most_inputs kind) sheet.now budget (quote_reply result) buffer.new }
@@ -74,7 +79,7 @@ pub fn quote_shared(sheet: &[u8], budget: u32, buffer: &mut [u8]) -> Result<Quot
 }
 
 // The audit on either board.
-pub fn audit_on(kind: BoardKind, sheet: &[u8], stage: &[u8]) -> Result<Audit, AuditRefusal>
+pub fn audit_on(kind: BoardKind, sheet: &[u8], stage: &[u8]) -> Result<Audited, AuditRefusal>
     ensures { audited_case result ≡ audited_of kind sheet.now stage.now }
 {
     let relation = unit::form(sheet).map_err(AuditRefusal::Sheet)?;
@@ -82,14 +87,14 @@ pub fn audit_on(kind: BoardKind, sheet: &[u8], stage: &[u8]) -> Result<Audit, Au
 }
 
 // Whether a stage keeps to a unit sheet, and its cells. Where both sheets are at fault, the unit sheet's refusal is told.
-pub fn audit(sheet: &[u8], stage: &[u8]) -> Result<Audit, AuditRefusal>
+pub fn audit(sheet: &[u8], stage: &[u8]) -> Result<Audited, AuditRefusal>
     ensures { audited_case result ≡ audited_of Tree sheet.now stage.now }
 {
     audit_on(BoardKind::Tree, sheet, stage)
 }
 
 // The same of a stage for the board that shares selectors.
-pub fn audit_shared(sheet: &[u8], stage: &[u8]) -> Result<Audit, AuditRefusal>
+pub fn audit_shared(sheet: &[u8], stage: &[u8]) -> Result<Audited, AuditRefusal>
     ensures { audited_case result ≡ audited_of Sharing sheet.now stage.now }
 {
     audit_on(BoardKind::Sharing, sheet, stage)

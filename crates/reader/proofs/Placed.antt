@@ -8,19 +8,17 @@ use Rattle.base.proofs.Each.{each_get_d}
 use Rattle.sheet.specs.Limits.{max_inputs, max_wires, max_gates, max_outputs}
 use Rattle.sheet.specs.declared.Command.{Command}
 use Rattle.sheet.specs.declared.Sheet.{Sheet}
-use Rattle.sheet.specs.Commands.{LogicGate, gates_of, outputs_of, signals_made}
+use Rattle.sheet.specs.declared.LogicGate.{LogicGate}
+use Rattle.sheet.specs.Commands.{no_gate, gates_of, outputs_of, signals_made}
 use Rattle.sheet.specs.Gathered.{gathered, gate_at}
-use Rattle.sheet.proofs.Fields.{inputs_field, wires_field, gates_field, outputs_field, kind_field, left_field, right_field, output_field}
+use Rattle.sheet.proofs.Fields.{inputs_field, wires_field, gates_field, outputs_field, gate_field, output_field}
 use Rattle.reader.specs.Inner.WasRead.{WasRead}
 use Rattle.reader.proofs.Sound.{Sound, sound}
 use Rattle.reader.proofs.Wiring.{Wired}
 
 -- the gate in place i
-abbrev pub gate_held : List ℕ → List ℕ → List ℕ → ℕ → LogicGate
-gate_held kinds lefts rights i = record { kind = get_or kinds i 0; left = get_or lefts i 0; right = get_or rights i 0 }
-
 abbrev pub gate_of : Sheet → ℕ → LogicGate
-gate_of sheet = gate_held sheet.kinds sheet.lefts sheet.rights
+gate_of sheet i = get_or sheet.gates i no_gate
 
 pub record Placed (sheet : Sheet) : Type 0 where
   pub few_inputs : sheet.n ≤ max_inputs
@@ -30,15 +28,9 @@ pub record Placed (sheet : Sheet) : Type 0 where
   pub few_outputs : sheet.output_count ≤ max_outputs
   pub made : (i : ℕ) → i < sheet.output_count → get_or sheet.signals i 0 < sheet.m + sheet.gate_count
 
-same_gate : (k a b : ℕ) (g : LogicGate) → k ≡ g.kind → a ≡ g.left → b ≡ g.right
-    → ◌≡◌ {A = LogicGate} (record { kind = k; left = a; right = b }) g
-same_gate k a b g e l r = rw (e, l, r)
-
 module _ (cs : List Command) (s : Sound cs) where
   pub gate_held_lem : (i : ℕ) → i < length (gates_of cs) → gate_of (gathered cs) i ≡ gate_at i cs
-  gate_held_lem i h =
-      let b : i < max_gates = lt_of_lt_of_le h s.gates.few in
-      same_gate _ _ _ (gate_at i cs) (kind_field cs i b) (left_field cs i b) (right_field cs i b)
+  gate_held_lem i h = gate_field cs i (lt_of_lt_of_le h s.gates.few)
 
   pub placed_all : Placed (gathered cs)
   placed_all =

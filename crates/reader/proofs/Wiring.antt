@@ -13,7 +13,8 @@ use borrow.Author.Tests.{leb-false, ltb-false}
 use Rattle.base.proofs.Tests.{below_suc, neither}
 use Rattle.sheet.specs.declared.Command.{Command}
 use Rattle.sheet.specs.declared.Command.TheVariants.{End, Sizes, Row, DontCare, Gate, Output, Limit}
-use Rattle.sheet.specs.Commands.{collect, gate_in, output_in, LogicGate, no_gate, gates_of, signals_made, outputs_of, wires_of}
+use Rattle.sheet.specs.declared.LogicGate.{LogicGate}
+use Rattle.sheet.specs.Commands.{collect, gate_in, output_in, no_gate, gates_of, signals_made, outputs_of, wires_of}
 use Rattle.reader.specs.Reader.{last_kind}
 use Rattle.sheet.specs.Limits.{max_gates, max_outputs}
 use Rattle.sheet.proofs.Lists.{collect_snoc}

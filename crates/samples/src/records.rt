@@ -4,25 +4,33 @@
 ghost use Rattle.std.specs.Prelude.{◌≡◌, ◌+◌, ◌*◌, ◌≤◌};
 ghost use Rattle.sheet.specs.Limits.{max_patterns, max_wires};
 ghost use Rattle.base.specs.Inner.Put.{last_place};
-ghost use Rattle.samples.specs.Inner.Records.{any_record_length, call_of, eight_at, four_at, part_of, record_length, sets_at, tables_at, two_at};
+ghost use Rattle.base.specs.Tabulate.{tabulate};
+ghost use Rattle.samples.specs.Inner.Records.{any_record_length, byte_at, call_of, eight_at, four_at, part_of, record_length, sets_at, tables_at, two_at};
 ghost use Rattle.samples.specs.Inner.Lengths.{longest_any_record, longest_part, longest_record};
 
 use base::byte_at;
 use sheet::Sheet;
+use std::array;
 
 // The bytes of a record that has no part of its own length: n, m, a budget and the sets of a relation; n, m, a buffer's length and the tables of a stage.
 const SEARCH_RECORD: usize = 7 + 2 * Sheet::MAX_PATTERNS;
 
 const WRITE_RECORD: usize = 5 + 8 * Sheet::WIRES;
 
-// The number of two bytes at a place; bytes past the end count as 0.
+// The bytes from a place on; those past the end count as 0.
+fn bytes_at<const N: usize>(s: &[u8], at: usize) -> [u8; N]
+    requires { at + N ≤ last_place }
+    ensures { result ≡ tabulate N (λ i. byte_at s.now (at + i)) }
+{
+    array::from_fn(|i| byte_at(s, at + i))
+}
+
+// The number of two bytes at a place.
 pub fn u16_at(s: &[u8], at: usize) -> u16
     requires { at + 2 ≤ last_place }
     ensures { result ≡ two_at s.now at }
 {
-    let low = byte_at(s, at) as u16;
-    let high = byte_at(s, at + 1) as u16;
-    low + 256 * high
+    u16::from_le_bytes(bytes_at(s, at))
 }
 
 // The number of four bytes at a place.
@@ -30,7 +38,7 @@ pub fn u32_at(s: &[u8], at: usize) -> u32
     requires { at + 4 ≤ last_place }
     ensures { result ≡ four_at s.now at }
 {
-    (u16_at(s, at) as u32) + 65536 * (u16_at(s, at + 2) as u32)
+    u32::from_le_bytes(bytes_at(s, at))
 }
 
 // The number of eight bytes at a place.
@@ -38,7 +46,7 @@ pub fn u64_at(s: &[u8], at: usize) -> u64
     requires { at + 8 ≤ last_place }
     ensures { result ≡ eight_at s.now at }
 {
-    (u32_at(s, at) as u64) + 4294967296 * (u32_at(s, at + 4) as u64)
+    u64::from_le_bytes(bytes_at(s, at))
 }
 
 // A length of two bytes at a place.
@@ -46,7 +54,7 @@ pub fn length_at(s: &[u8], at: usize) -> usize
     requires { at + 2 ≤ last_place }
     ensures { (result ≡ two_at s.now at) × (result ≤ longest_part) }
 {
-    u16_at(s, at) as usize
+    usize::from(u16_at(s, at))
 }
 
 // The sets of a relation from a place on.
@@ -54,13 +62,7 @@ pub fn sets_at(s: &[u8], from: usize) -> [u16; Sheet::MAX_PATTERNS]
     requires { from + 2 * max_patterns ≤ last_place }
     ensures { result ≡ sets_at s.now from }
 {
-    let mut sets = [0u16; Sheet::MAX_PATTERNS];
-    let mut i: usize = 0;
-    while i < Sheet::MAX_PATTERNS {
-        sets[i] = u16_at(s, from + 2 * i);
-        i += 1;
-    }
-    sets
+    array::from_fn(|i| u16_at(s, from + 2 * i))
 }
 
 // The tables of a stage from a place on.
@@ -68,12 +70,7 @@ pub fn tables_at(s: &[u8], from: usize) -> [u64; Sheet::WIRES]
     requires { from + 8 * max_wires ≤ last_place }
     ensures { result ≡ tables_at s.now from }
 {
-    [
-        u64_at(s, from),
-        u64_at(s, from + 8),
-        u64_at(s, from + 16),
-        u64_at(s, from + 24),
-    ]
+    array::from_fn(|i| u64_at(s, from + 8 * i))
 }
 
 // `count` bytes from a place on, or none where the bytes end before.
@@ -81,11 +78,7 @@ pub fn part(s: &[u8], from: usize, count: usize) -> &[u8]
     requires { from + count ≤ last_place }
     ensures { result.now ≡ part_of s.now from count }
 {
-    let end = from + count;
-    if end <= s.len() {
-        return &s[from..end];
-    }
-    &s[..0]
+    s.get(from..from + count).unwrap_or(&[])
 }
 
 // The call that a record is for, whichever the board: the records of the board that shares selectors have the small letters.
@@ -119,7 +112,8 @@ pub fn record_length(s: &[u8], at: usize) -> usize
     }
 }
 
-// The same with the record of a joint quote, which has the letter J.
+// The same with the record of a joint quote, which has the letter J. `record_length` stays beside it, since its own bound is promised: none of its records is
+// longer than an audit's.
 pub fn any_record_length(s: &[u8], at: usize) -> usize
     requires { at + longest_any_record ≤ last_place }
     ensures { (result ≡ any_record_length s.now at) × (1 ≤ result) × (result ≤ longest_any_record) }

@@ -40,7 +40,7 @@ unfolding lent_count
 count_small {e} l = omega (arith, l.count, pow_mono {i = lent_inputs e} {j = max_inputs} (inputs_few l))
 
 -- in a state of zeros no table is at hand
-pub empty_rest : (q : ℕ) → 1 ≤ q → q < sections → get_or (tabulate state_length (λ _. 0)) (rest_place q) 0 ≡ 0
+pub empty_rest : (q : ℕ) → 1 ≤ q → q < sections → get_or (tabulate {A = ℕ} state_length (λ _. 0)) (rest_place q) 0 ≡ 0
 empty_rest q l1 lq = tabulate_at state_length (λ _. 0) (rest_place q) (omega arith)
 
 -- the sections that are put are whole

@@ -12,9 +12,9 @@ use Rattle.base.specs.declared.Refusal.{Refusal}
 use Rattle.sheet.specs.Cases.{sheet_reply}
 use Rattle.sheet.specs.declared.Command.{Command}
 use Rattle.sheet.specs.declared.Command.TheVariants.{Sizes}
-use Rattle.sheet.specs.Commands.{collect, inputs_of, wires_of, is_marked, is_dont_care, has_row, gates_of, outputs_of, rows_on, dont_cares_on}
+use Rattle.sheet.specs.Commands.{no_gate, collect, inputs_of, wires_of, is_marked, is_dont_care, has_row, gates_of, outputs_of, rows_on, dont_cares_on}
 use Rattle.sheet.specs.Gathered.{tabulate, meet, gathered, no_mark, row_mark, dont_care_mark, mark_on, present_on, limit_on, gate_at, output_at}
-use Rattle.base.proofs.Tabulate.{tabulate_at}
+use Rattle.base.proofs.Tabulate.{tabulate_at, tabulate_at_or}
 use Rattle.sheet.proofs.Sizes.{pattern_place}
 
 -- without commands nothing is gathered, as with sizes 0
@@ -56,18 +56,9 @@ module _ (cs : List Command) where
     unfolding gathered
     limit_field = tabulate_at max_patterns (λ q. limit_on q cs) p h
 
-  module _ (i : ℕ) (h : i < max_gates) where
-    pub kind_field : get_or (gathered cs).kinds i 0 ≡ (gate_at i cs).kind
-    unfolding gathered
-    kind_field = tabulate_at max_gates (λ j. (gate_at j cs).kind) i h
-
-    pub left_field : get_or (gathered cs).lefts i 0 ≡ (gate_at i cs).left
-    unfolding gathered
-    left_field = tabulate_at max_gates (λ j. (gate_at j cs).left) i h
-
-    pub right_field : get_or (gathered cs).rights i 0 ≡ (gate_at i cs).right
-    unfolding gathered
-    right_field = tabulate_at max_gates (λ j. (gate_at j cs).right) i h
+  pub gate_field : (i : ℕ) → i < max_gates → get_or (gathered cs).gates i no_gate ≡ gate_at i cs
+  unfolding gathered
+  gate_field i h = tabulate_at_or no_gate max_gates (λ j. gate_at j cs) i h
 
   pub output_field : (i : ℕ) → i < max_outputs → get_or (gathered cs).signals i 0 ≡ output_at i cs
   unfolding gathered

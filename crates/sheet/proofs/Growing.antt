@@ -1,6 +1,6 @@
 -- What one command more changes in what is gathered.
 use Prim.Native.Nat.{ℕ, ◌+◌, ◌<◌}
-use mathlib.Core.Path.{◌≡◌, refl, sym, ap}
+use mathlib.Core.Path.{◌≡◌, refl, sym}
 use mathlib.Core.Bool.{Bool, true, false, cond, not, ◌||◌}
 use mathlib.Core.List.{List, [], ◌∷◌, ◌++◌, append-nil}
 use lib.ListN.{length, get_or, set, length-append}
@@ -9,11 +9,12 @@ use lib.Bits.{bit_and}
 use Rattle.sheet.specs.declared.Command.{Command}
 use Rattle.sheet.specs.declared.Command.TheVariants.{End, Row, DontCare, Gate, Output, Limit}
 use Rattle.sheet.specs.declared.Sheet.{Sheet}
-use Rattle.sheet.specs.Commands.{is_empty, about, wires_of, is_marked, is_dont_care, has_row, rows_on, dont_cares_on, LogicGate, no_gate, gates_of, outputs_of}
+use Rattle.sheet.specs.declared.LogicGate.{LogicGate}
+use Rattle.sheet.specs.Commands.{is_empty, about, wires_of, is_marked, is_dont_care, has_row, rows_on, dont_cares_on, no_gate, gates_of, outputs_of}
 use Rattle.sheet.specs.Commands.{limits_on}
 use Rattle.sheet.specs.Limits.{max_patterns, max_gates, max_outputs, all_ones}
 use Rattle.sheet.specs.Gathered.{tabulate, meet, gathered, limit_on, gate_at, output_at, no_mark, row_mark, dont_care_mark}
-use Rattle.base.proofs.Tabulate.{tabulate_at, tabulate_set}
+use Rattle.base.proofs.Tabulate.{tabulate_at, tabulate_set, tabulate_set_or}
 use Rattle.sheet.proofs.Lists.{never, collect_snoc, is_empty_append, is_empty_nil, about_same, about_other, get_d_snoc_other}
 use Rattle.base.proofs.Tests.{and_false}
 
@@ -43,18 +44,16 @@ meet_snoc w [] x = refl
 meet_snoc w (y ∷ xs) x = meet_snoc (bit_and w y) xs x
 
 -- the sheet with other tables over the patterns, other gates and other outputs
-abbrev remade : Sheet → List ℕ → List ℕ → List ℕ → ℕ → List ℕ → List ℕ → List ℕ → ℕ → List ℕ → Sheet
-remade h marks values limits gates kinds lefts rights outputs signals =
+abbrev remade : Sheet → List ℕ → List ℕ → List ℕ → ℕ → List LogicGate → ℕ → List ℕ → Sheet
+remade h marks values limits count gates outputs signals =
     record {
       n = h.n;
       m = h.m;
       marks = marks;
       values = values;
       limits = limits;
-      gate_count = gates;
-      kinds = kinds;
-      lefts = lefts;
-      rights = rights;
+      gate_count = count;
+      gates = gates;
       output_count = outputs;
       signals = signals;
     }
@@ -62,7 +61,7 @@ remade h marks values limits gates kinds lefts rights outputs signals =
 -- with other tables alone
 abbrev tabled : Sheet → List ℕ → List ℕ → List ℕ → Sheet
 tabled h marks values limits =
-    remade h marks values limits h.gate_count h.kinds h.lefts h.rights h.output_count h.signals
+    remade h marks values limits h.gate_count h.gates h.output_count h.signals
 
 -- the sheet with a 06 more, a 02 more, a 03 more, a gate more, an output more
 abbrev pub limited : Sheet → ℕ → ℕ → Sheet
@@ -77,12 +76,12 @@ freed h p = tabled h (set h.marks p dont_care_mark) h.values h.limits
 abbrev pub gated : Sheet → ℕ → ℕ → ℕ → Sheet
 gated h k a b =
     let i = h.gate_count in
-    remade h h.marks h.values h.limits (i + 1) (set h.kinds i k) (set h.lefts i a) (set h.rights i b) h.output_count h.signals
+    remade h h.marks h.values h.limits (i + 1) (set h.gates i (record { kind = k; left = a; right = b })) h.output_count h.signals
 
 abbrev pub led : Sheet → ℕ → Sheet
 led h s =
     let i = h.output_count in
-    remade h h.marks h.values h.limits h.gate_count h.kinds h.lefts h.rights (i + 1) (set h.signals i s)
+    remade h h.marks h.values h.limits h.gate_count h.gates (i + 1) (set h.signals i s)
 
 -- one command more about the pattern p, in a table made of what is said about each pattern
 about_set {ℓ} : {A : Type ℓ} (f : ℕ → List A → ℕ) (said : ℕ → List A) (p : ℕ) (x : A) (y : ℕ) → p < max_patterns → y ≡ f p (said p ++ x ∷ [])
@@ -123,19 +122,16 @@ module _ (cs : List Command) where
       simp (collect_snoc, append-nil)
       (rw (about_set (λ q ps. cond (not (is_empty ps)) dont_care_mark (cond (has_row q cs) row_mark no_mark)) (λ q. dont_cares_on q cs) p p dont_care_mark h (rw some)))
 
-  gate_set : (f : LogicGate → ℕ) (g : LogicGate) → length (gates_of cs) < max_gates
-      → set (tabulate max_gates (λ i. f (gate_at i cs))) (length (gates_of cs)) (f g) ≡ tabulate max_gates (λ i. f (get_or (gates_of cs ++ g ∷ []) i no_gate))
-  gate_set f g h =
-      tabulate_set max_gates (λ i. f (gate_at i cs)) (λ i. f (get_or (gates_of cs ++ g ∷ []) i no_gate)) (length (gates_of cs)) (f g) h
-      (ap f (sym (get_or-append_seam (gates_of cs) g [] no_gate)))
-      (λ j e. ap f (get_d_snoc_other (gates_of cs) g no_gate j e))
+  gate_set : (g : LogicGate) → length (gates_of cs) < max_gates
+      → set (tabulate max_gates (λ i. gate_at i cs)) (length (gates_of cs)) g ≡ tabulate max_gates (λ i. get_or (gates_of cs ++ g ∷ []) i no_gate)
+  gate_set g h =
+      tabulate_set_or no_gate max_gates (λ i. gate_at i cs) (λ i. get_or (gates_of cs ++ g ∷ []) i no_gate) (length (gates_of cs)) g h
+      (sym (get_or-append_seam (gates_of cs) g [] no_gate))
+      (λ j e. get_d_snoc_other (gates_of cs) g no_gate j e)
 
   pub gate_adds : (k a b : ℕ) → length (gates_of cs) < max_gates → gated (gathered cs) k a b ≡ gathered (cs ++ Gate k a b ∷ [])
   unfolding gathered
-  gate_adds k a b h =
-      let g : LogicGate = record { kind = k; left = a; right = b } in
-      simp (collect_snoc, append-nil, length-append)
-      (rw (gate_set (λ x. x.kind) g h, gate_set (λ x. x.left) g h, gate_set (λ x. x.right) g h))
+  gate_adds k a b h = simp (collect_snoc, append-nil, length-append) (rw (gate_set (record { kind = k; left = a; right = b }) h))
 
   pub output_adds : (s : ℕ) → length (outputs_of cs) < max_outputs → led (gathered cs) s ≡ gathered (cs ++ Output s ∷ [])
   unfolding gathered

@@ -1,6 +1,7 @@
 -- Document 01, "Unit sheet": what the commands of a sheet say, told by the commands alone, in their order.
 use Rattle.std.specs.Prelude.{ℕ, ◌+◌, Bool, true, false, cond, not, ◌||◌, List, [], ◌∷◌, ◌++◌, eqb, length, get_or}
 use Rattle.sheet.specs.declared.Command.{Command}
+use Rattle.sheet.specs.declared.LogicGate.{LogicGate}
 use Rattle.sheet.specs.declared.Command.TheVariants.{End, Sizes, Row, DontCare, Gate, Output, Limit}
 
 abbrev pub is_empty {ℓ} : {A : Type ℓ} → List A → Bool
@@ -84,11 +85,6 @@ abbrev pub is_marked : ℕ → List Command → Bool
 is_marked p cs = is_dont_care p cs || has_row p cs
 
 -- 04: a gate, its kind and its two signals
-pub record LogicGate : Type 0 where
-  pub kind : ℕ
-  pub left : ℕ
-  pub right : ℕ
-
 abbrev pub no_gate : LogicGate
 no_gate = record { kind = 0; left = 0; right = 0 }
 

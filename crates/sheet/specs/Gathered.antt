@@ -5,7 +5,8 @@ unfoldable pub use Rattle.base.specs.Tabulate.{tabulate}
 use Rattle.sheet.specs.declared.Command.{Command}
 use Rattle.sheet.specs.declared.Sheet.{Sheet}
 use Rattle.sheet.specs.Limits.{max_patterns, max_gates, max_outputs, all_ones}
-use Rattle.sheet.specs.Commands.{inputs_of, wires_of, rows_on, has_row, is_dont_care, LogicGate, no_gate, gates_of, outputs_of, limits_on}
+use Rattle.sheet.specs.declared.LogicGate.{LogicGate}
+use Rattle.sheet.specs.Commands.{inputs_of, wires_of, rows_on, has_row, is_dont_care, no_gate, gates_of, outputs_of, limits_on}
 
 -- a pattern's mark: it has neither 02 nor 03, it has a 02, it has a 03
 abbrev pub no_mark : ℕ
@@ -51,9 +52,7 @@ gathered cs =
       values = tabulate max_patterns (λ p. present_on p cs);
       limits = tabulate max_patterns (λ p. limit_on p cs);
       gate_count = length (gates_of cs);
-      kinds = tabulate max_gates (λ i. (gate_at i cs).kind);
-      lefts = tabulate max_gates (λ i. (gate_at i cs).left);
-      rights = tabulate max_gates (λ i. (gate_at i cs).right);
+      gates = tabulate max_gates (λ i. gate_at i cs);
       output_count = length (outputs_of cs);
       signals = tabulate max_outputs (λ i. output_at i cs);
     }

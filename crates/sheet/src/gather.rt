@@ -8,7 +8,7 @@ ghost use Rattle.sheet.specs.Limits.{max_patterns};
 ghost use Rattle.sheet.specs.Inner.Gathering.{pattern_of, fault_of, Takes, Judges, Adds, Ends};
 
 use crate::limits::{all_ones, patterns_of};
-use crate::{Command, Sheet};
+use crate::{Command, LogicGate, Sheet};
 use base::Refusal;
 
 // The number of signals there are.
@@ -64,9 +64,7 @@ impl Sheet {
             values: [0; Sheet::MAX_PATTERNS],
             limits: [all; Sheet::MAX_PATTERNS],
             gate_count: 0,
-            kinds: [0; Sheet::MAX_GATES as usize],
-            lefts: [0; Sheet::MAX_GATES as usize],
-            rights: [0; Sheet::MAX_GATES as usize],
+            gates: [LogicGate::NONE; Sheet::MAX_GATES as usize],
             output_count: 0,
             signals: [0; Sheet::MAX_OUTPUTS as usize],
         }
@@ -110,9 +108,11 @@ impl Sheet {
             at,
         )?;
         let i = self.gate_count as usize;
-        self.kinds[i] = kind;
-        self.lefts[i] = a;
-        self.rights[i] = b;
+        self.gates[i] = LogicGate {
+            kind,
+            left: a,
+            right: b,
+        };
         self.gate_count += 1;
         Ok(self)
     }

@@ -16,6 +16,23 @@ pub enum Command {
     Limit { p: u8, set: u16 },
 }
 
+// A gate of the second stage: its kind, and the numbers of its two signals.
+#[derive(Clone, Copy)]
+pub struct LogicGate {
+    pub kind: u8,
+    pub left: u8,
+    pub right: u8,
+}
+
+impl LogicGate {
+    // What stands past the last gate.
+    pub const NONE: LogicGate = LogicGate {
+        kind: 0,
+        left: 0,
+        right: 0,
+    };
+}
+
 // What the commands of a sheet say. Entries past the last pattern, gate or output are 0.
 #[derive(Clone, Copy)]
 pub struct Sheet {
@@ -25,9 +42,7 @@ pub struct Sheet {
     pub values: [u8; Sheet::MAX_PATTERNS],
     pub limits: [u16; Sheet::MAX_PATTERNS],
     pub gate_count: u8,
-    pub kinds: [u8; Sheet::MAX_GATES as usize],
-    pub lefts: [u8; Sheet::MAX_GATES as usize],
-    pub rights: [u8; Sheet::MAX_GATES as usize],
+    pub gates: [LogicGate; Sheet::MAX_GATES as usize],
     pub output_count: u8,
     pub signals: [u8; Sheet::MAX_OUTPUTS as usize],
 }

@@ -3,8 +3,7 @@ use Prim.Native.Nat.{ℕ, ◌+◌, ◌*◌, ◌-◌, ◌/◌, ◌%◌, ◌^◌, 
 use mathlib.Core.Path.{◌≡◌, refl, sym, ap, ap₂, subst, ◌∙◌}
 use mathlib.Core.Bool.{not, cond, ◌&&◌}
 use native.Mathlib.Omega.{arith}
-use mathlib.Core.Logic.{⊎_elim}
-use native.Mathlib.Nat.{le_refl, zero-add, mul-le-mul_right, eq-or-lt_of_le, mod-add-div', add_comm}
+use native.Mathlib.Nat.{le_refl, zero-add, mod-add-div', add_comm}
 use lib.Arith.{digits_div, digits_mod}
 use lib.Bits.{bit_and, and_mod, and_shr, and_le_l, and_le_r}
 use lib.Dec.{T, eqb, eqb→eq}
@@ -84,21 +83,6 @@ module _ (low_pair high_pair : ℕ) where
       step_shown 4 (omega arith) Z O a b c (cond (line_fits low_pair high_pair) line_of_five (no_table * five_space)) (two_lt ol oh (ones_lt low_pair) (ones_lt high_pair))
       (rw (ez, eo) sa) (rw (fz, fo) sb) (rw (ez, fz, eo, fo, ← zeros_and low_pair high_pair, ← ones_and low_pair high_pair) sc)
       (ap (λ t. cond t line_of_five (no_table * five_space)) (ap₂ ◌&&◌ (zeros_full low_pair ∙ ap (λ x. eqb x (full narrow_inputs)) (sym ez)) (ones_full high_pair ∙ ap (λ x. eqb x (full narrow_inputs)) (sym fo))))
-
--- the lesser of two numbers by their digits: the first where its key is less, or the keys are equal and its table is no greater
-pub lesser_first : (key table cost other : ℕ) → table < six_space → other < six_space → key ≤ cost → (cost ≤ key → table ≤ other)
-    → key * six_space + table ≡ min (key * six_space + table) (cost * six_space + other)
-lesser_first key table cost other st so l e =
-    ⊎_elim (λ d. omega (arith, d, e (omega arith))) (λ m. omega (arith, mul-le-mul_right six_space m)) (eq-or-lt_of_le l)
-
-pub lesser_second : (key table cost other : ℕ) → table < six_space → other < six_space → cost ≤ key → (key ≤ cost → other ≤ table)
-    → cost * six_space + other ≡ min (key * six_space + table) (cost * six_space + other)
-lesser_second key table cost other st so l e =
-    ⊎_elim (λ d. omega (arith, d, e (omega arith))) (λ m. omega (arith, mul-le-mul_right six_space m)) (eq-or-lt_of_le l)
-
--- a pick by its key, whose digits are told
-pub by_key : (cells : ℕ) {key table t x : ℕ} → 1 + cells ≡ key → t ≡ table → key * six_space + table ≡ x → (1 + cells) * six_space + t ≡ x
-by_key cells e d h = ap₂ (λ k t. k * six_space + t) e d ∙ h
 
 -- five inputs, as the code finds it: the line stands for two halves where it fits
 pub five_found : (low high a b c : ℕ) → narrow_space ≤ a → narrow_space ≤ b → c ≤ no_table * narrow_space

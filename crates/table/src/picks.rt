@@ -3,7 +3,7 @@
 // A result is one number: a key, which is one more than the cells, then the table; `pick` makes it the rank, cells and table. Blocks of two inputs are looked
 // up in a table that the caller lends, since a constant is copied by every function that names it. Each byte of the pair is the place of a block in that
 // table, so no place has to be made.
-ghost use Rattle.std.specs.Prelude.{◌≡◌, ◌+◌, ◌*◌, ◌/◌, ◌%◌, ◌^◌, ◌<◌, ◌≤◌, min};
+ghost use Rattle.std.specs.Prelude.{◌≡◌, ◌+◌, ◌*◌, ◌/◌, ◌%◌, ◌^◌, ◌<◌, ◌≤◌};
 ghost use Rattle.table.specs.Cells.{cells};
 ghost use Rattle.table.specs.Inner.Ranks.{pick_of, rank, narrow_space};
 ghost use Rattle.table.specs.Inner.Blocks.{entries, three_space, no_table, no_entry, block_at, Blocks, HalvesShow, PickShown, Covered};
@@ -97,12 +97,6 @@ pub fn blocks() -> [u32; LENT]
     BLOCKS
 }
 
-pub fn lesser(a: u32, b: u32) -> u32
-    ensures { result ≡ min a b }
-{
-    if a < b { a } else { b }
-}
-
 // Two inputs: an entry of the table.
 fn block(e: &[u32; LENT], at: u32) -> u32
     requires { Blocks e.now × (at < entries) }
@@ -131,7 +125,7 @@ fn pick3(e: &[u32; LENT], pair: u32) -> u32
     let b = block(e, high);
     let c = block(e, low & high);
     let two = a / THREE_SPACE * THREE_SPACE + a % BLOCK_SPACE + b / BLOCK_SPACE * BLOCK_SPACE;
-    lesser(c, line_or(pair, NEEDS_OF_THREE, LINE_OF_THREE, two))
+    c.min(line_or(pair, NEEDS_OF_THREE, LINE_OF_THREE, two))
 }
 
 // Four inputs, and no more: key * NARROW_SPACE + table. The four bytes of the pair are the places of its blocks, and two tables of three inputs side by side
@@ -145,10 +139,8 @@ pub fn pick4(e: &[u32; LENT], pair: u32) -> u32
     let b = pick3(e, upper);
     let c = pick3(e, pair & upper);
     let two = a / THREE_SPACE * NARROW_SPACE + a % THREE_SPACE + b * THREE_SPACE;
-    lesser(
-        c * THREE_SPACE + c % THREE_SPACE,
-        line_or(pair, NEEDS_OF_FOUR, LINE_OF_FOUR, two),
-    )
+    let twice = c * THREE_SPACE + c % THREE_SPACE;
+    twice.min(line_or(pair, NEEDS_OF_FOUR, LINE_OF_FOUR, two))
 }
 
 // The rank of the pick between the two masks of a pair, among the tables of n inputs. The search calls it with the masks of a wire, which cover every

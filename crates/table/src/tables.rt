@@ -22,9 +22,5 @@ pub fn table_out(n: u8, t: u64) -> bool
     ensures { result ≡ is_beyond (2 ^ n) t }
 {
     let bits = patterns_of(n);
-    if bits < TABLE_BITS {
-        1 <= t >> bits
-    } else {
-        false
-    }
+    bits < TABLE_BITS && 1 <= t >> bits
 }

@@ -52,12 +52,6 @@ const LINE_OF_SIX: u64 = 0xffffffff00000000;
 
 const LINE_KEY: u64 = 1;
 
-fn lesser_of(a: u64, b: u64) -> u64
-    ensures { result ≡ min a b }
-{
-    if a < b { a } else { b }
-}
-
 // A pair has all of some seats.
 fn has_seats(pair: u32, seats: u32) -> bool
     ensures { result ≡ has_seats pair seats }
@@ -76,11 +70,7 @@ fn all_covered(pair: u32) -> bool
 fn line_fits(low: u32, high: u32) -> bool
     ensures { result ≡ line_fits low high }
 {
-    if has_seats(low, ZERO_SEATS) {
-        has_seats(high, ONE_SEATS)
-    } else {
-        false
-    }
+    has_seats(low, ZERO_SEATS) && has_seats(high, ONE_SEATS)
 }
 
 // Four inputs. What two halves have in common often leaves a pattern neither 0 nor 1: then nothing is looked up.
@@ -115,10 +105,8 @@ fn pick5(e: &[u32; LENT], low: u32, high: u32) -> u64
     let b = pick4(e, high) as u64;
     let c = common_four(e, low & high);
     let two = a / SECTION_SPACE * FIVE_SPACE + a % SECTION_SPACE + b * SECTION_SPACE;
-    lesser_of(
-        c * SECTION_SPACE + c % SECTION_SPACE,
-        five_line_or(low, high, two),
-    )
+    let twice = c * SECTION_SPACE + c % SECTION_SPACE;
+    twice.min(five_line_or(low, high, two))
 }
 
 // The same, where some pattern may be left neither 0 nor 1.
@@ -126,13 +114,11 @@ fn common_five(e: &[u32; LENT], low: u32, high: u32) -> u64
     requires { Blocks e.now }
     ensures { FiveShown low high result × (five_space ≤ result) × (result ≤ no_table * five_space) }
 {
-    if !all_covered(low) {
-        return NONE_OF_FIVE;
+    if all_covered(low) && all_covered(high) {
+        pick5(e, low, high)
+    } else {
+        NONE_OF_FIVE
     }
-    if !all_covered(high) {
-        return NONE_OF_FIVE;
-    }
-    pick5(e, low, high)
 }
 
 // A pick by its key, which is one more than its cells.
@@ -151,16 +137,11 @@ fn lesser_pick(key: u64, table: u64, cost: u64, other: u64) -> Pick
     requires { (1 ≤ key) × (key ≤ 2 * no_table) × (1 ≤ cost) × (cost ≤ 2 * no_table) }
     ensures { (1 + result.cells) * six_space + result.table ≡ min (key * six_space + table) (cost * six_space + other) }
 {
-    if key < cost {
-        return pick_by_key(key, table);
+    if key < cost || (key == cost && table < other) {
+        pick_by_key(key, table)
+    } else {
+        pick_by_key(cost, other)
     }
-    if cost < key {
-        return pick_by_key(cost, other);
-    }
-    if table < other {
-        return pick_by_key(key, table);
-    }
-    pick_by_key(cost, other)
 }
 
 // Two halves of five inputs under a selector, or the line in their place; beside what both have in common, twice.

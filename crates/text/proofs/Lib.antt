@@ -1,3 +1,4 @@
 pub mod Decimal
+pub mod Pages
 pub mod Pairs
 pub mod Rows

@@ -1,2 +1,3 @@
 -- Numbers and bytes as printed text.
 pub mod Text
+pub mod Inner

@@ -1,105 +1,95 @@
-// Text put into a lent buffer at a place, each call with the place after it. Bytes that find no room are dropped: the place moves on all the same, so that the
-// last place is the length that the whole text needs. What is required is there for the sums alone: no text ends past `last_place`.
-// Inner functions: the report and the drawn cases' program stay below it.
+// Text put into a lent buffer, one after another.
+// Inner functions: the report and the drawn cases' program stay below what is required, which is there for the sums alone: no text ends past `last_place`.
 #![tactic(auto)]
 
-ghost use Rattle.std.specs.Prelude.{◌≡◌, [], ◌∷◌, ◌+◌, ◌*◌, ◌≤◌, ◌<◌, length, take};
-ghost use Rattle.base.specs.Inner.Put.{Put, PutWithin, last_place};
+ghost use Rattle.std.specs.Prelude.{◌≡◌, [], ◌∷◌, ◌+◌, ◌*◌, ◌<◌, length};
 ghost use Rattle.text.specs.Text.{decimal, hex_digit, hex_pair, hex_pairs, longest_decimal, named};
 
-use base::{byte_at, put};
+use base::put;
 
 // The most digits of a number.
 pub const LONGEST_DECIMAL: usize = 20;
 
-// Puts one byte.
-pub fn put_byte(out: &mut [u8], at: usize, b: u8) -> usize
-    requires { at < last_place }
-    ensures { Put out.old at (b ∷ []) out.new result }
-{
-    put(out, at, b);
-    at + 1
+// A page: a lent buffer, and the place in it for the next byte. Bytes that find no room are dropped: the place moves on all the same, so that the last place is
+// the length that the whole text needs.
+#[derive(Drop)]
+pub struct Page<'a> {
+    pub bytes: &'a mut [u8],
+    pub place: usize,
 }
 
-// Puts a text as it stands.
-pub fn put_text(out: &mut [u8], at: usize, text: &[u8]) -> usize
-    requires { at + length text.now ≤ last_place }
-    ensures { Put out.old at text.now out.new result }
-{
-    let mut next = at;
-    let mut i: usize = 0;
-    while i < text.len() {
-        next = put_byte(out, next, text[i]);
-        i += 1;
+impl Page<'_> {
+    ghost use Rattle.text.specs.Inner.Page.{Adds, HasRoom};
+
+    // Puts one byte.
+    pub fn put_byte(&mut self, b: u8)
+        requires { HasRoom 1 self.old }
+        ensures { Adds 1 (b ∷ []) self.old self.new }
+    {
+        put(self.bytes, self.place, b);
+        self.place += 1;
     }
-    next
-}
 
-// Puts a number in decimal digits: those of a tenth of it, and the last one.
-pub fn put_decimal(out: &mut [u8], at: usize, x: u64) -> usize
-    requires { at + longest_decimal ≤ last_place }
-    ensures { PutWithin longest_decimal out.old at (decimal x) out.new result }
-{
-    if x < 10 {
-        return put_byte(out, at, 0x30 + (x as u8));
+    // Puts a text as it stands.
+    pub fn put_text(&mut self, text: &[u8])
+        requires { HasRoom (length text.now) self.old }
+        ensures { Adds (length text.now) text.now self.old self.new }
+    {
+        for b in text {
+            self.put_byte(*b);
+        }
     }
-    let next = put_decimal(out, at, x / 10);
-    put_byte(out, next, 0x30 + ((x % 10) as u8))
+
+    // Puts a number in decimal digits: those of a tenth of it, and the last one. The library's own printing may fail, and this may not.
+    pub fn put_decimal(&mut self, x: u64)
+        requires { HasRoom longest_decimal self.old }
+        ensures { Adds longest_decimal (decimal x) self.old self.new }
+    {
+        if x < 10 {
+            return self.put_byte(b'0' + x as u8);
+        }
+        self.put_decimal(x / 10);
+        self.put_byte(b'0' + (x % 10) as u8);
+    }
+
+    // Puts a number after its name.
+    pub fn put_named(&mut self, name: &[u8], x: u64)
+        requires { HasRoom (length name.now + longest_decimal) self.old }
+        ensures { Adds (length name.now + longest_decimal) (named name.now x) self.old self.new }
+    {
+        self.put_text(name);
+        self.put_decimal(x);
+    }
+
+    // Puts a byte as two hexadecimal digits.
+    fn put_hex_pair(&mut self, b: u8)
+        requires { HasRoom 2 self.old }
+        ensures { Adds 2 (hex_pair b) self.old self.new }
+    {
+        self.put_byte(hex_digit(b / 16));
+        self.put_byte(hex_digit(b % 16));
+    }
+
+    // Puts the bytes of a slice as hexadecimal pairs parted by single spaces.
+    pub fn put_hex_pairs(&mut self, bytes: &[u8])
+        requires { HasRoom (3 * length bytes.now) self.old }
+        ensures { Adds (3 * length bytes.now) (hex_pairs bytes.now) self.old self.new }
+    {
+        let Some((first, further)) = bytes.split_first() else {
+            return;
+        };
+        self.put_hex_pair(*first);
+        for b in further {
+            self.put_byte(b' ');
+            self.put_hex_pair(*b);
+        }
+    }
 }
 
-// Puts a number after its name.
-pub fn put_named(out: &mut [u8], at: usize, name: &[u8], x: u64) -> usize
-    requires { at + length name.now + longest_decimal ≤ last_place }
-    ensures { PutWithin (length name.now + longest_decimal) out.old at (named name.now x) out.new result }
-{
-    let next = put_text(out, at, name);
-    put_decimal(out, next, x)
-}
-
-// A hexadecimal digit.
+// A hexadecimal digit. Std's `char::from_digit` gives the small letters.
 fn hex_digit(d: u8) -> u8
     requires { d < 16 }
     ensures { result ≡ hex_digit d }
 {
-    if d < 10 { 0x30 + d } else { 0x41 + (d - 10) }
-}
-
-// Puts a byte as two hexadecimal digits.
-fn put_hex_pair(out: &mut [u8], at: usize, b: u8) -> usize
-    requires { at + 2 ≤ last_place }
-    ensures { Put out.old at (hex_pair b) out.new result }
-{
-    put(out, at, hex_digit(b / 16));
-    put(out, at + 1, hex_digit(b % 16));
-    at + 2
-}
-
-// The number of bytes among the first `count` of a slice.
-fn available(bytes: &[u8], count: usize) -> usize
-    ensures { (result ≡ length (take count bytes.now)) × (result ≤ count) }
-{
-    if count < bytes.len() {
-        count
-    } else {
-        bytes.len()
-    }
-}
-
-// Puts the first `count` bytes of a slice, or all where it has fewer, as hexadecimal pairs parted by single spaces.
-pub fn put_hex_pairs(out: &mut [u8], at: usize, bytes: &[u8], count: usize) -> usize
-    requires { at + 3 * count ≤ last_place }
-    ensures { PutWithin (3 * count) out.old at (hex_pairs (take count bytes.now)) out.new result }
-{
-    let n = available(bytes, count);
-    if n == 0 {
-        return at;
-    }
-    let mut next = put_hex_pair(out, at, byte_at(bytes, 0));
-    let mut i: usize = 1;
-    while i < n {
-        next = put_byte(out, next, 0x20);
-        next = put_hex_pair(out, next, byte_at(bytes, i));
-        i += 1;
-    }
-    next
+    if d < 10 { b'0' + d } else { b'A' + (d - 10) }
 }

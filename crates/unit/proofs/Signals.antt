@@ -9,7 +9,8 @@ use lib.ListN.{length, get_or, set, length-append, get_or-append}
 use lib.Seq.{get_or_at}
 use Rattle.base.proofs.Tabulate.{filled_has}
 use Rattle.table.specs.Bits.{bit}
-use Rattle.sheet.specs.Commands.{LogicGate, no_gate}
+use Rattle.sheet.specs.declared.LogicGate.{LogicGate}
+use Rattle.sheet.specs.Commands.{no_gate}
 use Rattle.unit.specs.Gates.{gate_bit, with_gate, with_gates}
 
 -- the signals s, and after them those of the first k of the gates g

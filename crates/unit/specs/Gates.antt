@@ -2,7 +2,8 @@
 use Rattle.std.specs.Prelude.{ℕ, ◌+◌, ◌*◌, ◌%◌, ◌-◌, max, cond, List, [], ◌∷◌, ◌++◌, map, eqb, get_or}
 use Rattle.table.specs.Bits.{bit, tabulate}
 use Rattle.sheet.specs.declared.Command.{Command}
-use Rattle.sheet.specs.Commands.{LogicGate, wires_of, gates_of, outputs_of}
+use Rattle.sheet.specs.declared.LogicGate.{LogicGate}
+use Rattle.sheet.specs.Commands.{wires_of, gates_of, outputs_of}
 
 -- two bits under each of the three plain kinds, and a bit inverted
 abbrev pub and_bit : ℕ → ℕ → ℕ

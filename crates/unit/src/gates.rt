@@ -53,15 +53,13 @@ fn signal_words(sheet: Sheet) -> [u16; MAX_SIGNALS]
     ensures { (h : WasRead sheet) → SignalWords h.commands result }
 {
     let m = sheet.m;
-    let kinds = sheet.kinds;
-    let lefts = sheet.lefts;
-    let rights = sheet.rights;
+    let gates = sheet.gates;
     let mut signals = wire_words();
     for i in 0..sheet.gate_count {
-        let g = i as usize;
-        let a = signals[lefts[g] as usize];
-        let b = signals[rights[g] as usize];
-        signals[(m + i) as usize] = gate_word(kinds[g], a, b);
+        let gate = gates[i as usize];
+        let a = signals[gate.left as usize];
+        let b = signals[gate.right as usize];
+        signals[(m + i) as usize] = gate_word(gate.kind, a, b);
     }
     signals
 }

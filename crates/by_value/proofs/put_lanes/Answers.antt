@@ -4,13 +4,8 @@ use mathlib.Core.Path.{ap, ◌∙◌}
 use Rattle.table.specs.Bits.{bit}
 use Rattle.lanes.specs.Inner.Lanes.{lanes_of}
 use Rattle.by_value.specs.Inner.ByValue.{added}
-use Rattle.by_value.proofs.Spreads.{moved, moved_fits}
+use Rattle.by_value.proofs.Spreads.{moved}
 use Rattle.by_value.proofs.put_lanes.Goals as goal
-
-pub overflow_add-result : goal.overflow_add-result
-overflow_add-result c =
-    let i = c in
-    record { fits = moved_fits i.args.word c.spread.result i.args.p c.spread.ensures.1 i.requires.2 }
 
 pub returns : goal.returns
 unfolding added

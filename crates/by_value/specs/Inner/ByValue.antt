@@ -1,7 +1,7 @@
 -- Sets the other way round: for each value the patterns where it can stand, so that the values which tables drive are looked up for a whole section of
 -- patterns at once. A value has a lane of a word, one bit for each pattern of the section.
-use Rattle.std.specs.Prelude.{ℕ, ◌+◌, ◌*◌, ◌-◌, ◌/◌, ◌%◌, ◌^◌, ◌<◌, ◌≤◌, ◌≡◌, Bool, cond, List, [], ◌∷◌, ltb, eqb, get_or, set}
-use Rattle.base.specs.Lowest.{lowest}
+use Rattle.std.specs.Prelude.{ℕ, ◌+◌, ◌*◌, ◌-◌, ◌/◌, ◌%◌, ◌^◌, ◌<◌, ◌≤◌, ◌≡◌, Bool, cond, Option, List, [], ◌∷◌, ltb, eqb, get_or, set}
+use Rattle.base.specs.Lowest.{first_below}
 use Rattle.sheet.specs.Limits.{max_wires, max_patterns, max_values}
 use Rattle.table.specs.Bits.{bit, tabulate, of_bits, is_one}
 use Rattle.table.specs.Cells.{wires}
@@ -91,6 +91,6 @@ WordsBelow seen sets words =
     ((q k : ℕ) → narrow_patterns * q < seen → k < section_words → get_or words (value_word_place q k) 0 ≡ value_word sets q k)
     × ((q k : ℕ) → seen ≤ narrow_patterns * q → q < sections → k < section_words → get_or words (value_word_place q k) 0 ≡ 0)
 
--- the lowest pattern of a section that is not allowed, by the bits that say which are; narrow_patterns where all are
-abbrev pub first_refused : ℕ → ℕ
-first_refused fine = lowest narrow_patterns (λ p. eqb (bit fine p) 0)
+-- the lowest pattern of a section that is not allowed, by the bits that say which are
+abbrev pub first_refused : ℕ → Option ℕ
+first_refused fine = first_below narrow_patterns (λ p. eqb (bit fine p) 0)

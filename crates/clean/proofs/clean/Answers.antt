@@ -1,5 +1,5 @@
 -- `clean` meets its contract: the reading decides, and then the length.
-use mathlib.Core.Path.{◌≡◌, refl, ap, ◌∙◌}
+use mathlib.Core.Path.{refl, ap, ◌∙◌}
 use Rattle.base.specs.Cases.{written_case}
 use Rattle.base.proofs.Passing.{passed_on}
 use Rattle.reader.proofs.Replies.{accepted_held}

@@ -1,5 +1,5 @@
 -- `quote_both` meets its contract: the sizes are compared, then the joined relation is quoted.
-use mathlib.Core.Path.{◌≡◌, ap, ◌∙◌}
+use mathlib.Core.Path.{ap, ◌∙◌}
 use lib.ListN.{length}
 use native.Mathlib.Omega.{arith}
 use Rattle.std.proofs.Common.{Err}
@@ -9,19 +9,18 @@ use Rattle.quote.specs.Quote.{searched, buffer_searched}
 use Rattle.joined.specs.Joint.{as_second, quoted_as_second}
 use Rattle.joined.proofs.JointQuoting.{inputs_apart, wires_apart, both_searched}
 use Rattle.joined.proofs.quote_both.Goals as goal
+use Rattle.joined.proofs.quote_both.Goals.{then-first-second-via-then-first-second, then-first-second-via-else-first-second+then-first-second-2}
 
 pub returns-then-first-second : goal.returns-then-first-second
 unfolding as_second
 returns-then-first-second c =
     let a = c.args in
-    inputs_apart a.first a.second a.budget a.buffer.now c.if-first-second.true (ap (λ f. quoted_as_second (quote_reply (Err f))) c.at.ensures)
-
-pub returns-then-first-second-2 : goal.returns-then-first-second-2
-unfolding as_second
-returns-then-first-second-2 c =
-    let a = c.args in
-    wires_apart a.first a.second a.budget a.buffer.now (omega (arith, c.if-first-second.false)) c.if-first-second-2.true
-    (ap (λ f. quoted_as_second (quote_reply (Err f))) c.at-then-first-second-2.ensures)
+    let told = ap (λ f. quoted_as_second (quote_reply (Err f))) c.at.ensures in
+    elim c.then-first-second.branch [
+      | then-first-second-via-then-first-second w ↦ inputs_apart a.first a.second a.budget a.buffer.now w.if-first-second.true told
+      | then-first-second-via-else-first-second+then-first-second-2 w ↦
+          wires_apart a.first a.second a.budget a.buffer.now (omega (arith, w.if-first-second.false)) w.if-first-second-2.true told
+    ]
 
 pub returns : goal.returns
 returns c =

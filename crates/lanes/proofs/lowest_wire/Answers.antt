@@ -6,12 +6,6 @@ use mir.Syntax.{w64}
 use Rattle.lanes.proofs.First.{first_found, first_lt}
 use Rattle.lanes.proofs.lowest_wire.Goals as goal
 
-pub overflow_cast-result-2 : goal.overflow_cast-result-2
-overflow_cast-result-2 c =
-    let x = c.args.x in
-    let fit : Fits w64 x = search rules in
-    omega (arith, first_found x fit.fits c.requires.0 c.requires.1, first_lt x fit.fits c.requires.0 c.requires.1)
-
 pub returns : goal.returns
 returns c =
     let x = c.args.x in

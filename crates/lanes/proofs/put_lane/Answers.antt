@@ -1,13 +1,9 @@
 -- `put_lane` meets its contract: the old lane is taken off, and the new one is put there.
 use borrow.Author.Rules.{rules}
-use lib.Bits.{and_le_l}
 use mir.Val.{Fits}
 use mir.Syntax.{w64}
 use Rattle.lanes.proofs.Replaced.{lane_put, lane_fits}
 use Rattle.lanes.proofs.put_lane.Goals as goal
-
-pub overflow_sub-result : goal.overflow_sub-result
-overflow_sub-result c = and_le_l _ _
 
 pub overflow_add-result : goal.overflow_add-result
 overflow_add-result c =

@@ -1,8 +1,8 @@
 -- What is kept for all wires side by side in one number: a lane of equal width for each wire, so that one step is made for all of them.
-use Rattle.std.specs.Prelude.{ℕ, ◌+◌, ◌*◌, ◌-◌, ◌/◌, ◌%◌, ◌^◌, ◌<◌, cond, eqb}
+use Rattle.std.specs.Prelude.{ℕ, ◌+◌, ◌*◌, ◌-◌, ◌/◌, ◌%◌, ◌^◌, ◌<◌, ◌≡◌, cond, eqb}
 use Rattle.base.specs.Lowest.{lowest}
 use Rattle.sheet.specs.Limits.{max_wires, max_values}
-use Rattle.table.specs.Bits.{sum}
+use Rattle.table.specs.Bits.{bit, sum}
 
 -- a lane has a bit for each value of a set. A section has as many patterns, so that a section of a table is a lane too
 abbrev pub lane_bits : ℕ
@@ -39,6 +39,10 @@ put_lane x j y = lanes_of (λ i. cond (eqb i j) y (lane_of x i))
 -- every lane is below k: where k is 2, a lane is a bit of its wire
 abbrev pub LanesBelow : (k x : ℕ) → Type 0
 LanesBelow k x = (j : ℕ) → j < max_wires → lane_of x j < k
+
+-- a number has the bits of one of two numbers, by a third
+abbrev pub Chosen : (t z o r : ℕ) → Type 0
+Chosen t z o r = (i : ℕ) → bit r i ≡ cond (eqb (bit t i) 1) (bit o i) (bit z i)
 
 -- the first wire whose lane is 1; max_wires where there is none
 abbrev pub first_wire : ℕ → ℕ

@@ -1,7 +1,8 @@
 -- `joined_reply` meets its contract: the first sheet is too long, or the second, or the joint quote says it.
 use mathlib.Core.Path.{ap, ◌∙◌}
 use Rattle.base.specs.Cases.{refusing, refused_outcome}
-use Rattle.quote.specs.Quote.{no_quote}
+use Rattle.quote.specs.Cases.{no_quote}
+
 use Rattle.report.proofs.Reports.{printed}
 use Rattle.printed.proofs.Printing.{joined_first_long, joined_second_long, joined_lines}
 use Rattle.printed.proofs.joined_reply.Goals as goal

@@ -1,4 +1,4 @@
-use mathlib.Core.Path.{◌≡◌, ap}
+use mathlib.Core.Path.{ap}
 use Rattle.base.proofs.Passing.{passed_on}
 use Rattle.quote.specs.Cases.{quote_reply}
 use Rattle.quote.proofs.Quoting.{formed_quote, turned_quote}

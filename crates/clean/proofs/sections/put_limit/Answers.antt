@@ -9,7 +9,7 @@ use Rattle.clean.proofs.sections.put_limit.Goals as goal
 
 pub returns-then-permits_all : goal.returns-then-permits_all
 returns-then-permits_all c =
-    let set = c.set_at-set in
+    let set = c.entry_or-set in
     let all : permits_all c.args.sheet.m set.result ≡ true =
     sym c.permits_all.ensures ∙ c.if-permits_all.true in
     simp (← set.ensures, all, no_command) (record { put = put_none; short = omega arith })
@@ -17,7 +17,7 @@ returns-then-permits_all c =
 pub returns : goal.returns
 returns c =
     let test = c in
-    let set = test.set_at-set in
+    let set = test.entry_or-set in
     let not_all : permits_all test.args.sheet.m set.result ≡ false =
     sym test.permits_all.ensures ∙ test.if-permits_all.false in
     simp (← set.ensures, not_all, one_command_lem) c.put_command.ensures

@@ -3,4 +3,4 @@ use Rattle.std.proofs.Common.{◌≤◌, length}
 use Rattle.dagmetzi.proofs.files.read_all.Given as goal
 
 abbrev pub invariant-loop : goal.invariant-loop
-invariant-loop g l = l.length ≤ length l.buffer
+invariant-loop g l = l.done ≤ length l.buffer

@@ -37,13 +37,7 @@ module _ (w : ℕ) (covered : Covered 4 (zeros_in w) (ones_in w)) where
 
 pub loop-inverses-init : goal.loop-inverses-init
 unfolding Passed
-loop-inverses-init c = (omega arith, (c.no_inverted-masks.ensures, omega arith))
-
-pub overflow_mul-inverses : goal.overflow_mul-inverses
-overflow_mul-inverses c = omega (arith, c.loop-inverses.invariant.0)
-
-pub overflow_add-x : goal.overflow_add-x
-overflow_add-x c = omega (arith, c.loop-inverses.invariant.0, c.way-x.ensures.1)
+loop-inverses-init c = (c.no_inverted-masks.ensures, omega arith)
 
 pub returns-then-best-lt-NODE : goal.returns-then-best-lt-NODE
 returns-then-best-lt-NODE c =
@@ -52,7 +46,7 @@ returns-then-best-lt-NODE c =
     let i = c in
     let w = i.args.pair in
     free w i.requires.1 w _ (l.inverses + 1)
-    (turn w l.masks l.best l.inverses x.result _ l.invariant.1 (omega arith) x.ensures.0 x.ensures.1 c.lesser-best.ensures)
+    (turn w l.masks l.best l.inverses x.result _ l.invariant (omega arith) x.ensures.0 x.ensures.1 c.min-best.ensures)
     (omega arith)
     c.if-best-lt-NODE.true
 
@@ -60,13 +54,11 @@ pub loop-inverses-preserved : goal.loop-inverses-preserved
 loop-inverses-preserved c =
     let x = c.way-x in
     let l = c.loop-inverses in
-    let w = c.args.pair in (
-      omega arith,
-      turn w l.masks l.best l.inverses x.result _ l.invariant.1 (omega arith) x.ensures.0 x.ensures.1 c.lesser-best.ensures,
-    )
+    let w = c.args.pair in
+    turn w l.masks l.best l.inverses x.result _ l.invariant (omega arith) x.ensures.0 x.ensures.1 c.min-best.ensures
 
 pub returns : goal.returns
 returns c =
     let l = c.loop-inverses in
     let i = c in
-    done i.args.pair i.requires.1 l.masks l.best l.inverses l.invariant.1 (omega (arith, l.invariant.0))
+    done i.args.pair i.requires.1 l.masks l.best l.inverses l.invariant (omega arith)

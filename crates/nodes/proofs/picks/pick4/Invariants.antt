@@ -1,5 +1,5 @@
 -- `pick4` meets its contract: the least without the inverse of input 4 and with it.
-use Prim.Native.Nat.{ℕ, zero, suc, ◌+◌, ◌-◌, ◌≤◌, min}
+use Prim.Native.Nat.{ℕ, zero, suc, ◌+◌, ◌≤◌, min}
 use mathlib.Core.Path.{◌≡◌}
 use Rattle.nodes.specs.Inner.Ways.{one_node, no_inverted, way_of}
 use Rattle.nodes.proofs.picks.pick4.Given as goal
@@ -19,7 +19,4 @@ Passed w masks best (suc zero) = (masks ≡ w) × (best ≡ way_of (no_inverted 
 Passed w masks best (suc (suc u)) = best ≡ min (way_of (no_inverted w)) (one_node + way_of w)
 
 abbrev pub invariant-loop-inverses : goal.invariant-loop-inverses
-invariant-loop-inverses l = (l.inverses ≤ turns) × Passed l.pair l.masks l.best l.inverses
-
-abbrev pub decreases-loop-inverses : goal.decreases-loop-inverses
-decreases-loop-inverses l = turns - l.inverses
+invariant-loop-inverses l = Passed l.pair l.masks l.best l.inverses

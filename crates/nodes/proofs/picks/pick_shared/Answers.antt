@@ -1,5 +1,4 @@
 -- `pick_shared` meets its contract: an arm for each number of inputs.
-use mathlib.Core.Path.{◌≡◌}
 use native.Mathlib.Omega.{arith}
 use Rattle.table.proofs.Widths.{fit}
 use Rattle.nodes.proofs.Narrow.{from_one, from_two, from_three}
@@ -23,9 +22,6 @@ overflow_mul-pair-in-3 c = let i = c in omega (arith, (from_three i.args.pair (o
 pub pick4-x-requires-in-3 : goal.pick4-x-requires-in-3
 pick4-x-requires-in-3 c = let i = c in (i.requires.0, (from_three i.args.pair (omega arith) (fit _ c.in-3.is i.requires)).covered)
 
-pub pick4-requires : goal.pick4-requires
-pick4-requires c = let i = c in let e : i.args.n ≡ 4 = omega arith in (i.requires.0, (fit _ e i.requires).2)
-
 pub returns-in-1 : goal.returns-in-1
 returns-in-1 c =
     let i = c in
@@ -43,6 +39,3 @@ returns-in-3 c =
     let i = c in
     let e = c.in-3.is in
     rw e ((from_three i.args.pair (omega arith) (fit _ e i.requires)).ranks c.pick4-x-in-3.result c.pick4-x-in-3.ensures)
-
-pub returns-in_default : goal.returns-in_default
-returns-in_default c = let e : c.args.n ≡ 4 = omega arith in rw e c.pick4.ensures

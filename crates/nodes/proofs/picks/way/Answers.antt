@@ -24,11 +24,11 @@ returns c =
     let halves = first in
     let w = halves.args.pair in
     let straight : first.line_rank-first.result ≡ first_line (class_in (quarter_bytes w)) (line_in (quarter_bytes w)) = first.line_rank-first.ensures.0 in
-    let least : x.lesser.result ≡ min halves.halves_alike-halves.result first.line_rank-first.result = x.lesser.ensures in
-    let apart : y.lesser-2.result ≡ min x.lesser.result tree.tree_like-tree.result = y.lesser-2.ensures in
-    let shared : z.lesser-3.result ≡ min three.three_alike-three.result across.across_alike-across.result = z.lesser-3.ensures in (
-      c.lesser-4.ensures
+    let least : x.min.result ≡ min halves.halves_alike-halves.result first.line_rank-first.result = x.min.ensures in
+    let apart : y.min-2.result ≡ min x.min.result tree.tree_like-tree.result = y.min-2.ensures in
+    let shared : z.min-3.result ≡ min three.three_alike-three.result across.across_alike-across.result = z.min-3.ensures in (
+      c.min-4.ensures
           ∙ ap₂ min (apart ∙ ap₂ min (least ∙ ap₂ min halves.halves_alike-halves.ensures.0 straight) tree.tree_like-tree.ensures)
           (shared ∙ ap₂ min three.three_alike-three.ensures across.across_alike-across.ensures),
-      omega (arith, c.lesser-4.ensures, apart, least, halves.halves_alike-halves.ensures.1),
+      omega (arith, c.min-4.ensures, apart, least, halves.halves_alike-halves.ensures.1),
     )

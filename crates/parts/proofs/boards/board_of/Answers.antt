@@ -1,9 +1,7 @@
 -- `board_of` meets its contract: the number of each kind.
 use Prim.Native.Nat.{ℕ}
 use mathlib.Core.Path.{◌≡◌, sym, ap, ◌∙◌}
-use native.Mathlib.Omega.{arith}
 use Rattle.nodes.specs.declared.BoardKind.{BoardKind}
-use Rattle.nodes.proofs.Counts.{most_inputs_lem}
 use Rattle.parts.specs.Inner.Boards.{board_number}
 use Rattle.parts.proofs.BoardNumbers.{narrow_number, wide_number}
 use Rattle.parts.proofs.boards.board_of.Goals as goal
@@ -11,12 +9,6 @@ use Rattle.parts.proofs.boards.board_of.Goals as goal
 -- `board_of` meets its contract: the number of each kind.
 number_of : (n : ℕ) {kind other : BoardKind} {r : ℕ} → kind ≡ other → board_number other n ≡ r → r ≡ board_number kind n
 number_of n e h = sym (ap (λ k. board_number k n) e ∙ h)
-
-pub overflow_add-result : goal.overflow_add-result
-overflow_add-result c = let i = c in omega (arith, i.requires, most_inputs_lem i.args.kind)
-
-pub overflow_add-result-in-Sharing : goal.overflow_add-result-in-Sharing
-overflow_add-result-in-Sharing c = let i = c in omega (arith, i.requires, most_inputs_lem i.args.kind)
 
 pub returns-then-n-le-NARROW_INPUTS : goal.returns-then-n-le-NARROW_INPUTS
 returns-then-n-le-NARROW_INPUTS c = number_of c.args.n c.in-Tree.is (narrow_number c.args.n c.if-n-le-NARROW_INPUTS.true)

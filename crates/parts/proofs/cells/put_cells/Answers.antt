@@ -1,13 +1,9 @@
 -- `put_cells` meets its contract: the wire's byte is taken off, and its cells are put there.
 use borrow.Author.Rules.{rules}
-use lib.Bits.{and_le_l}
 use mir.Val.{Fits}
 use mir.Syntax.{w64}
 use Rattle.parts.proofs.CellBytes.{cells_put, cells_fit}
 use Rattle.parts.proofs.cells.put_cells.Goals as goal
-
-pub overflow_sub-result : goal.overflow_sub-result
-overflow_sub-result c = and_le_l _ _
 
 pub overflow_add-result : goal.overflow_add-result
 overflow_add-result c =

@@ -1,13 +1,9 @@
 -- `cut_row` meets its contract: what is lost of each wire stands in its own lane, so that no lane borrows from the next.
 use borrow.Author.Rules.{rules}
-use lib.Bits.{and_le_l}
 use mir.Val.{Fits}
 use mir.Syntax.{w64}
 use Rattle.parts.proofs.RowCuts.{row_less}
 use Rattle.parts.proofs.masks.cut_row.Goals as goal
-
-pub overflow_sub-result : goal.overflow_sub-result
-overflow_sub-result c = and_le_l _ _
 
 pub returns : goal.returns
 returns c =

@@ -8,5 +8,5 @@ use Rattle.parts.proofs.masks.put_row.Goals as goal
 pub returns : goal.returns
 returns c =
     let i = c in
-    row_put i.args.masks.now (i.args.p / row_patterns) i.args.row (omega (arith, i.requires.0)) i.requires.1 _ (first_place (i.args.p / row_patterns) c.row_place-at.ensures.0)
+    row_put i.args.masks.now (i.args.p / row_patterns) i.args.row (omega (arith, i.requires)) i.told-masks _ (first_place (i.args.p / row_patterns) c.row_place-at.ensures.0)
     c.half_of.ensures c.half_of-2.ensures c.half_of-3.ensures c.half_of-4.ensures

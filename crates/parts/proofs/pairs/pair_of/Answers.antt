@@ -11,34 +11,25 @@ pub loop-p-init : goal.loop-p-init
 unfolding tabulate
 loop-p-init c =
     let e : tabulate word_count (λ _. 0) ≡ pairs_to c.args.sets.now (alone 0 c.args.j) = pairs_none c.args.sets.now (alone 0 c.args.j) (alone_none c.args.j) in
-    (omega arith, e)
-
-pub offset_bounds-sets-p : goal.offset_bounds-sets-p
-offset_bounds-sets-p c = omega (arith, c.patterns_of-count.ensures.1)
-
-pub bounds-sets-p : goal.bounds-sets-p
-bounds-sets-p c = omega (arith, c.patterns_of-count.ensures.1)
+    e
 
 pub put_in-requires : goal.put_in-requires
 put_in-requires c =
     let i = c in
     let l = c.loop-p in
     let b : l.p < max_patterns = omega (arith, c.patterns_of-count.ensures.1) in
-    (b, i.requires.1, pairs_room i.args.sets.now (alone l.p i.args.j) l.p i.args.j b i.requires.1 l.invariant.1 (alone_at l.p i.args.j))
+    (b, i.requires.1, pairs_room i.args.sets.now (alone l.p i.args.j) l.p i.args.j b i.requires.1 l.invariant (alone_at l.p i.args.j))
 
 pub loop-p-preserved : goal.loop-p-preserved
 loop-p-preserved c =
     let i = c in
     let l = c.loop-p in
     let j = i.args.j in
-    let b : l.p < max_patterns = omega (arith, c.patterns_of-count.ensures.1) in (
-      omega arith,
-      pairs_more i.args.sets.now (alone l.p j) l.p j b i.requires.1 l.invariant.1 (alone_at l.p j) (alone (l.p + 1) j) (alone_at (l.p + 1) j)
-          (alone_other l.p j) c.put_in.ensures,
-    )
+    let b : l.p < max_patterns = omega (arith, c.patterns_of-count.ensures.1) in
+    pairs_more i.args.sets.now (alone l.p j) l.p j b i.requires.1 l.invariant (alone_at l.p j) (alone (l.p + 1) j) (alone_at (l.p + 1) j) (alone_other l.p j) c.put_in.ensures
 
 pub returns : goal.returns
 returns c =
     let i = c in
     let l = c.loop-p in
-    l.invariant.1 ∙ alone_all i.args.n l.p i.args.sets.now i.args.j i.requires.2 (omega (arith, c.patterns_of-count.ensures.2 i.requires.0))
+    l.invariant ∙ alone_all i.args.n l.p i.args.sets.now i.args.j i.requires.2 (omega (arith, c.patterns_of-count.ensures.2 i.requires.0))

@@ -1,13 +1,16 @@
 use mathlib.Core.Bool.{true, false}
-use mathlib.Core.Path.{◌≡◌, sym, ap, ◌∙◌}
+use mathlib.Core.Path.{sym, ap, ◌∙◌}
 use Rattle.std.specs.Prelude.{Err}
+use Rattle.stage_reader.specs.Cases.{stage_reply}
 use Rattle.quote.specs.Cases.{audited_case}
 use Rattle.quote.specs.declared.AuditRefusal.TheVariants.{Stage as StageRefused}
 use Rattle.quote.proofs.Auditing.{stage_refused, inputs_differ, wires_differ, few_inputs, tested}
 use Rattle.quote.proofs.audits.audit_stage.Goals as goal
 
 pub returns-in_default : goal.returns-in_default
-returns-in_default c = ?
+returns-in_default c =
+    let a = c.args in
+    stage_refused a.kind a.relation a.s.now c.unwrap_err.result (sym (ap stage_reply c.unwrap_err.ensures) ∙ c.read_on-reply.ensures)
 
 pub returns-then-read-relation : goal.returns-then-read-relation
 returns-then-read-relation c =

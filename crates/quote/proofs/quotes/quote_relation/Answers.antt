@@ -1,8 +1,8 @@
-use mathlib.Core.Path.{◌≡◌, ap}
+use mathlib.Core.Path.{ap}
 use native.Mathlib.Omega.{arith}
 use Rattle.base.proofs.Passing.{passed_on}
 use Rattle.quote.specs.Cases.{quote_reply}
-use Rattle.std.proofs.Common.{Err, refl}
+use Rattle.std.proofs.Common.{refl}
 use Rattle.quote.proofs.Quoting.{no_search, with_stage_lem, no_stage_lem}
 use Rattle.quote.proofs.quotes.quote_relation.Goals as goal
 

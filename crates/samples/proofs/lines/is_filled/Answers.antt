@@ -1,29 +1,31 @@
-use Prim.Native.Nat.{ℕ, suc, ◌+◌, ◌<◌}
-use mathlib.Core.Bool.{false}
-use mathlib.Core.Path.{◌≡◌, sym, ap, ◌∙◌}
-use mathlib.Core.List.{List}
-use native.Mathlib.Omega.{arith}
-use lib.ListN.{length, get_or, drop, drop_of_length-le}
-use lib.Seq.{drop-cons}
-use borrow.Author.Tests.{eq-eqb, ne_eqb}
+-- `is_filled` meets its contract: each byte is as it was filled just where `all_filled` says so.
+use Rattle.std.proofs.Common.{ℕ, zero, suc, ◌≡◌, ◌↔◌, List, [], ◌∷◌, get_or, rules, refl, eqb, true, false, Bool, arith, IsTrue, EachIndex}
+use borrow.Author.Tests.{eq-eqb}
+use lib.Dec.{eqb→eq}
+use Rattle.base.proofs.Tests.{cond_has}
 use Rattle.samples.specs.Inner.Lines.{fill, all_filled}
 use Rattle.samples.proofs.lines.is_filled.Goals as goal
 
--- a byte that is not as it was filled, and one that is
-stops : (b : List ℕ) (i : ℕ) → i < length b → (get_or b i 0 ≡ fill → ⊥) → all_filled (drop i b) ≡ false
-unfolding all_filled
-stops b i h n = simp (drop-cons b i 0 h, ne_eqb _ _ n)
+Filled : List ℕ → Type 0
+Filled xs = EachIndex xs (λ k. get_or xs k 0 ≡ fill)
 
-goes_on : (b : List ℕ) (i : ℕ) → i < length b → get_or b i 0 ≡ fill → all_filled (drop (i + 1) b) ≡ all_filled (drop i b)
-unfolding all_filled
-goes_on b i h e = let s : i + 1 ≡ suc i = omega arith in simp (s, drop-cons b i 0 h, eq-eqb _ _ e)
+one_more : (x : ℕ) (xs : List ℕ) → x ≡ fill → Filled xs → Filled (x ∷ xs)
+unfolding Filled
+one_more x xs e a zero h = e
+one_more x xs e a (suc k) h = a k (omega arith)
 
-pub returns-then-buffer-i : goal.returns-then-buffer-i
-returns-then-buffer-i c = sym (stops _ _ c.loop-i-test.true c.if-buffer-i.true) ∙ c.loop-i.invariant
+untrue : (b : Bool) → (IsTrue b → ⊥) → b ≡ false
+untrue true h = absurd (h refl)
+untrue false h = refl
 
-pub loop-i-preserved : goal.loop-i-preserved
-loop-i-preserved c = goes_on _ _ c.loop-i-test.true c.if-buffer-i.false ∙ c.loop-i.invariant
+tells : (xs : List ℕ) (b : Bool) → (IsTrue b ↔ Filled xs) → b ≡ all_filled xs
+unfolding all_filled Filled
+tells [] b t = t.1 (λ k h. absurd (omega arith))
+tells (x ∷ xs) b t =
+    cond_has (λ f. b ≡ f) (eqb x fill)
+    (λ e. tells xs b (λ p k h. t.0 p (suc k) (omega arith), λ a. t.1 (one_more x xs (eqb→eq x fill e) a)))
+    (λ n. untrue b (λ p. rw (eq-eqb x fill (t.0 p 0 (omega arith))) at n))
 
 pub returns : goal.returns
-unfolding all_filled
-returns c = sym (ap all_filled (drop_of_length-le _ c.loop-i-test.false)) ∙ c.loop-i.invariant
+unfolding Filled
+returns c = tells c.args.bytes.now c.all.result (search rules)

@@ -1,10 +1,8 @@
 -- `put_spaced` meets its contract: the number, then the space.
-use native.Mathlib.Omega.{arith}
 use Rattle.samples.specs.Inner.Lines.{spaced_text}
-use Rattle.base.proofs.Stores.{puts, at_most}
+use Rattle.text.proofs.Pages.{adds_then}
 use Rattle.samples.proofs.lines.put_spaced.Goals as goal
 
 pub returns : goal.returns
 unfolding spaced_text
-returns c =
-    puts c.put_decimal-next.ensures (at_most 1 c.put_byte.ensures (omega arith))
+returns c = adds_then c.put_decimal.ensures c.put_byte.ensures

@@ -1,19 +1,19 @@
--- `part` meets its contract: the test of the end says which case of `part_of` holds.
-use Prim.Native.Nat.{ℕ}
-use mathlib.Core.Path.{ap}
-use native.Mathlib.Nat.{add-sub_cancel_left}
+-- `part` meets its contract: the library's part where the bytes do not end before it, and none where they do.
+use Rattle.std.proofs.Common.{ℕ, ◌+◌, ◌<◌, ◌≤◌, ◌≡◌, List, [], length, refl, ap, ◌∙◌, arith}
+use Rattle.std.specs.Prelude.{Option, None, Some}
+use Rattle.std.specs.Option.{unwrap_or}
+use Rattle.std.specs.Slice.{IsGetRangeResult}
 use borrow.Author.Tests.{le-leb, lt-leb}
-use lib.ListN.{take, drop}
+use denote.Ref.{Bor}
+use native.Mathlib.Nat.{add-sub_cancel_left}
 use Rattle.samples.specs.Inner.Records.{part_of}
 use Rattle.samples.proofs.records.part.Goals as goal
 
-pub returns-then-end-s : goal.returns-then-end-s
+got : (s : List ℕ) (from count : ℕ) (o : Option (Bor (List ℕ))) (none : Bor (List ℕ)) → none.now ≡ [] → IsGetRangeResult s from (from + count) o
+    → (unwrap_or o none).now ≡ part_of s from count
 unfolding part_of
-returns-then-end-s c =
-    let a = c.args in
-    let e = ap (λ (k : ℕ). take k (drop a.from a.s.now)) (add-sub_cancel_left a.from a.count) in
-    simp (le-leb _ _ c.if-end-s.true) e
+got s from count None none e g = let short : length s < from + count = omega (arith, g) in e ∙ simp (lt-leb _ _ short)
+got s from count (Some x) none e g = let long : from + count ≤ length s = g.0.1 in g.0.2 ∙ simp (le-leb _ _ long, add-sub_cancel_left from count)
 
 pub returns : goal.returns
-unfolding part_of
-returns c = simp (lt-leb _ _ c.if-end-s.false)
+returns c = ap (λ (b : Bor (List ℕ)). b.now) c.unwrap_or.ensures ∙ got c.args.s.now c.args.from c.args.count c.get.result _ refl c.get.ensures.lookup

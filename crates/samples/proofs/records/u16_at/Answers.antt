@@ -1,7 +1,7 @@
--- `u16_at` meets its contract: the lower byte comes first.
-use Prim.Native.Nat.{ℕ, ◌+◌, ◌*◌}
-use mathlib.Core.Path.{ap₂}
+-- `u16_at` meets its contract: the number of the bytes, the lowest first.
+use Rattle.std.proofs.Common.{◌∙◌}
+use Rattle.samples.proofs.Numbers.{two_read}
 use Rattle.samples.proofs.records.u16_at.Goals as goal
 
 pub returns : goal.returns
-returns c = ap₂ (λ (low high : ℕ). low + 256 * high) c.byte_at-low.ensures c.byte_at-high.ensures
+returns c = rw c.bytes_at.ensures at c.from_le_bytes.ensures ∙ two_read c.args.s.now c.args.at

@@ -1,29 +1,18 @@
 -- `count` meets its contract: a table is repeated to three inputs, or taken by its halves.
 use mathlib.Core.Path.{◌≡◌, ◌∙◌}
 use native.Mathlib.Omega.{arith}
-use Rattle.table.proofs.Count.{fits_at, cells_at, entry_small, of_one, of_two, of_three, of_four_alike, of_input_one, of_four}
+use Rattle.table.proofs.Count.{cells_at, entry_small, of_one, of_two, of_four_alike, of_input_one, of_four}
 use Rattle.table.proofs.cell_counts.count.Goals as goal
-
-pub overflow_mul-t : goal.overflow_mul-t
-overflow_mul-t c = omega (arith, fits_at _ c.if-n-eq1.true c.requires.2)
 
 pub returns-then-n-eq1 : goal.returns-then-n-eq1
 returns-then-n-eq1 c =
     let i = c in
     cells_at i.args.t c.if-n-eq1.true i.requires.2 (λ h. c.count8.ensures ∙ of_one i.args.t h)
 
-pub overflow_mul-t-then-n-eq2 : goal.overflow_mul-t-then-n-eq2
-overflow_mul-t-then-n-eq2 c = omega (arith, fits_at _ c.if-n-eq2.true c.requires.2)
-
 pub returns-then-n-eq2 : goal.returns-then-n-eq2
 returns-then-n-eq2 c =
     let i = c in
     cells_at i.args.t c.if-n-eq2.true i.requires.2 (λ h. c.count8-then-n-eq2.ensures ∙ of_two i.args.t h)
-
-pub returns-then-n-eq3 : goal.returns-then-n-eq3
-returns-then-n-eq3 c =
-    let i = c in
-    cells_at i.args.t c.if-n-eq3.true i.requires.2 (λ h. c.count8-then-n-eq3.ensures ∙ of_three i.args.t h)
 
 pub returns-then-low-high : goal.returns-then-low-high
 returns-then-low-high c =

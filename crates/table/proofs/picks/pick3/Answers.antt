@@ -2,7 +2,7 @@
 use Prim.Native.Nat.{◌+◌, ◌/◌, ◌%◌, min}
 use mathlib.Core.Path.{◌≡◌}
 use native.Mathlib.Omega.{arith}
-use lib.Bits.{bit_and, and_le_l}
+use lib.Bits.{bit_and}
 use lib.Dec.{eqb}
 use Rattle.table.specs.Cells.{full}
 use Rattle.table.specs.Pick.{least_of}
@@ -12,12 +12,6 @@ use Rattle.table.specs.Inner.Lines.{line, needs_of_three, line_by}
 use Rattle.table.proofs.Entries.{shown_some, two_blocks, line_choice}
 use Rattle.table.proofs.Places.{three_places}
 use Rattle.table.proofs.picks.pick3.Goals as goal
-
-pub block-c-requires : goal.block-c-requires
-block-c-requires c =
-    let i = c in
-    let w = i.args.pair in
-    (i.requires, omega (arith, and_le_l (w % entries) (w / entries % entries)))
 
 pub returns : goal.returns
 unfolding line full
@@ -29,11 +23,11 @@ returns c =
     let w = c.args.pair in
     let two = two_blocks a.result b.result in
     let told : l.result ≡ line_by w needs_of_three (three_space + line 2) two = l.ensures in
-    let least : c.lesser.result ≡ min d.result l.result = c.lesser.ensures in
+    let least : c.min.result ≡ min d.result l.result = c.min.ensures in
     let s = three_places w a.result b.result d.result a.ensures.0 b.ensures.0 d.ensures.0 in
     let e = line_choice (eqb (bit_and w needs_of_three) needs_of_three) (three_space + line 2) no_entry d.result two d.ensures.2
     (omega (arith, a.ensures.1, b.ensures.1)) in
     let low = w % entries in
     let high = w / entries % entries in
-    let r : HalvesShow low high c.lesser.result = rw (least, told, e) s in
-    (r, shown_some 3 three_space (least_of (pick_key 3) 3 (masked (zeros_at low high) (ones_at low high))) c.lesser.result r, omega (arith, least, d.ensures.2))
+    let r : HalvesShow low high c.min.result = rw (least, told, e) s in
+    (r, shown_some 3 three_space (least_of (pick_key 3) 3 (masked (zeros_at low high) (ones_at low high))) c.min.result r, omega (arith, least, d.ensures.2))

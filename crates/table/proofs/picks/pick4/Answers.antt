@@ -25,12 +25,12 @@ returns c =
     let w = c.args.pair in
     let two = pair_shown three_space a.result b.result in
     let told : l.result ≡ line_by w needs_of_four (narrow_space + line 3) two = l.ensures in
-    let least : c.lesser.result ≡ min (twice_shown three_space d.result) l.result = c.lesser.ensures in
+    let least : c.min.result ≡ min (twice_shown three_space d.result) l.result = c.min.ensures in
     let s = four_places w a.result b.result d.result (omega arith) a.ensures.0 b.ensures.0 d.ensures.0 in
     let e = line_choice (eqb (bit_and w needs_of_four) needs_of_four) (narrow_space + line 3) (no_table * narrow_space) (twice_shown three_space d.result) two
     (omega (arith, d.ensures.2)) (omega (arith, a.ensures.1, b.ensures.1)) in
-    let r : PickShown 4 narrow_space (zeros_in w) (ones_in w) c.lesser.result = rw (least, told, e) s in (
+    let r : PickShown 4 narrow_space (zeros_in w) (ones_in w) c.min.result = rw (least, told, e) s in (
       r,
-      shown_some 4 narrow_space (least_of (pick_key 4) 4 (masked (zeros_in w) (ones_in w))) c.lesser.result r,
+      shown_some 4 narrow_space (least_of (pick_key 4) 4 (masked (zeros_in w) (ones_in w))) c.min.result r,
       omega (arith, least, twice_most three_space no_table d.result (omega arith) d.ensures.2),
     )

@@ -1,16 +1,11 @@
 use Prim.Native.Nat.{◌-◌, ◌^◌}
 use mathlib.Core.Path.{ap, ◌∙◌}
-use native.Mathlib.Omega.{arith}
-use lib.Pow.{pow_pos}
 use Rattle.sheet.specs.Limits.{max_patterns}
 use Rattle.table.specs.Cells.{full}
 use Rattle.table.proofs.Wired.{ones_shifted}
 use Rattle.table.proofs.tables.full_table.Goals as goal
 
 -- n inputs have a pattern at least, so that not every bit is shifted out
-pub overflow_shr-result : goal.overflow_shr-result
-overflow_shr-result c = omega (arith, c.patterns_of.ensures.2 c.requires, pow_pos c.args.n)
-
 pub returns : goal.returns
 unfolding full
 returns c =

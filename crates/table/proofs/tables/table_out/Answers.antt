@@ -1,5 +1,6 @@
 use Prim.Native.Nat.{ℕ, ◌^◌, ◌<◌, min}
 use mathlib.Core.Path.{◌≡◌, sym, ap, ◌∙◌}
+use borrow.Author.Tests.{le-ltb}
 use lib.Dec.{leb}
 use Rattle.sheet.specs.Limits.{max_inputs, max_patterns, is_beyond}
 use Rattle.sheet.proofs.Powers.{shifted, below_power, beyond_capped}
@@ -19,5 +20,6 @@ pub returns-else-bits-lt-TABLE_BITS : goal.returns-else-bits-lt-TABLE_BITS
 returns-else-bits-lt-TABLE_BITS c =
     let s = c in
     let r = c.patterns_of-bits.result in
-    sym (below_power s.args.t max_patterns r s.ranges.t.fits c.if-bits-lt-TABLE_BITS.false)
+    le-ltb r max_patterns c.if-bits-lt-TABLE_BITS.false
+    ∙ sym (below_power s.args.t max_patterns r s.ranges.t.fits c.if-bits-lt-TABLE_BITS.false)
     ∙ by_patterns s.args.n s.args.t r c.patterns_of-bits.ensures.0 s.ranges.t.fits

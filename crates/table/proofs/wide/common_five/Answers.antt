@@ -3,13 +3,15 @@ use native.Mathlib.Omega.{arith}
 use Rattle.base.proofs.Tests.{told_no}
 use Rattle.table.proofs.SideBySide.{none_low, none_high}
 use Rattle.table.proofs.wide.common_five.Goals as goal
+use Rattle.table.proofs.wide.common_five.Goals.{else-all_covered-via-then-all_covered+else-all_covered-2, else-all_covered-via-else-all_covered}
 
-pub returns-then-not-all_covered : goal.returns-then-not-all_covered
-returns-then-not-all_covered c =
-    let i = c.args in
-    (none_low i.low i.high (told_no c.all_covered.ensures c.if-not-all_covered.true), omega arith, omega arith)
-
-pub returns-then-not-all_covered-2 : goal.returns-then-not-all_covered-2
-returns-then-not-all_covered-2 c =
-    let i = c.args in
-    (none_high i.low i.high (told_no c.all_covered-2.ensures c.if-not-all_covered-2.true), omega arith, omega arith)
+pub returns-else-all_covered : goal.returns-else-all_covered
+returns-else-all_covered c =
+    let i = c.args in (
+      elim c.else-all_covered.branch [
+        | else-all_covered-via-then-all_covered+else-all_covered-2 w ↦ none_high i.low i.high (told_no w.all_covered-then-all_covered.ensures w.if-all_covered-2.false)
+        | else-all_covered-via-else-all_covered w ↦ none_low i.low i.high (told_no c.all_covered.ensures w.if-all_covered.false)
+      ],
+      omega arith,
+      omega arith,
+    )

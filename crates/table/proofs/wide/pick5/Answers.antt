@@ -20,11 +20,11 @@ returns c =
     let a = c.pick4-a in
     let i = c.args in
     let told : l.result ≡ cond (line_fits i.low i.high) line_of_five (pair_shown narrow_space a.result b.result) = l.ensures in
-    let least : c.lesser_of.result ≡ min (twice_shown narrow_space d.result) l.result = c.lesser_of.ensures in
+    let least : c.min.result ≡ min (twice_shown narrow_space d.result) l.result = c.min.ensures in
     let s = five_found i.low i.high a.result b.result d.result a.ensures.1 b.ensures.1 d.ensures.2 a.ensures.0 b.ensures.0 d.ensures.0 in
-    let r : FiveShown i.low i.high c.lesser_of.result = rw (least, told) s in (
+    let r : FiveShown i.low i.high c.min.result = rw (least, told) s in (
       r,
       shown_some 5 five_space
-          (least_of (pick_key 5) 5 (masked (two_masks (zeros_in i.low) (zeros_in i.high)) (two_masks (ones_in i.low) (ones_in i.high)))) c.lesser_of.result r,
+          (least_of (pick_key 5) 5 (masked (two_masks (zeros_in i.low) (zeros_in i.high)) (two_masks (ones_in i.low) (ones_in i.high)))) c.min.result r,
       omega (arith, least, twice_most narrow_space no_table d.result (omega arith) d.ensures.2),
     )

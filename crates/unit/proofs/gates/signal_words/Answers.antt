@@ -19,26 +19,14 @@ loop-i-init c =
       λ v b q l. c.wire_words-signals.ensures q v (omega (arith, h.few_wires)) b ∙ sym (tabulate_at a.sheet.m (bit v) q (omega arith)),
     )
 
-pub bounds-lefts-g : goal.bounds-lefts-g
-bounds-lefts-g c = gate_room c.requires c.loop-i.i (omega arith)
+pub bounds-gates-i : goal.bounds-gates-i
+bounds-gates-i c = gate_room c.requires c.loop-i.i (omega arith)
 
-pub offset_bounds-signals-lefts : goal.offset_bounds-signals-lefts
-offset_bounds-signals-lefts c = let b = sources_room c.requires c.loop-i.i (omega arith) in omega arith
+pub bounds-signals-gate : goal.bounds-signals-gate
+bounds-signals-gate c = let b = sources_room c.requires c.loop-i.i (omega arith) in omega arith
 
-pub bounds-signals-lefts : goal.bounds-signals-lefts
-bounds-signals-lefts c = let b = sources_room c.requires c.loop-i.i (omega arith) in omega arith
-
-pub bounds-rights-g : goal.bounds-rights-g
-bounds-rights-g c = gate_room c.requires c.loop-i.i (omega arith)
-
-pub offset_bounds-signals-rights : goal.offset_bounds-signals-rights
-offset_bounds-signals-rights c = let b = sources_room c.requires c.loop-i.i (omega arith) in omega arith
-
-pub bounds-signals-rights : goal.bounds-signals-rights
-bounds-signals-rights c = let b = sources_room c.requires c.loop-i.i (omega arith) in omega arith
-
-pub bounds-kinds-g : goal.bounds-kinds-g
-bounds-kinds-g c = gate_room c.requires c.loop-i.i (omega arith)
+pub bounds-signals-gate-in-loop-i : goal.bounds-signals-gate-in-loop-i
+bounds-signals-gate-in-loop-i c = let b = sources_room c.requires c.loop-i.i (omega arith) in omega arith
 
 pub overflow_add-signals : goal.overflow_add-signals
 overflow_add-signals c =

@@ -1,0 +1,6 @@
+-- Lengths that the program's inner functions are told by.
+use Rattle.std.specs.Prelude.{ℕ}
+
+-- room for a line on standard error: as many bytes as `LONGEST_LINE` of src/messages.rt says
+abbrev pub longest_line : ℕ
+longest_line = 4200

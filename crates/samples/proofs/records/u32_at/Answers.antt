@@ -1,0 +1,7 @@
+-- `u32_at` meets its contract: the number of the bytes, the lowest first.
+use Rattle.std.proofs.Common.{◌∙◌}
+use Rattle.samples.proofs.Numbers.{four_read}
+use Rattle.samples.proofs.records.u32_at.Goals as goal
+
+pub returns : goal.returns
+returns c = rw c.bytes_at.ensures at c.from_le_bytes.ensures ∙ four_read c.args.s.now c.args.at
