@@ -141,7 +141,8 @@ impl Numbers {
         let own = FIRST_NUMBER + self.count;
         self.all[own as usize] = Number { table, entry };
         self.count += 1;
-        self.cells += entry.price();
+        let price = entry.price();
+        self.cells += price;
     }
 
     // The top at a place: a number that an entry or a constant has. It ends the wire.

@@ -15,7 +15,7 @@ use Rattle.table.proofs.Halves.{low_lt, high_lt}
 use Rattle.nodes.specs.Nodes.{Node, node, has, listing}
 use Rattle.stage.specs.TreeBytes.{tree_bytes}
 use Rattle.diagram.specs.Written.{node_number, number_of}
-use Rattle.stage_writer.proofs.Keys.{has_number}
+use Rattle.stage_writer.proofs.Nodes.{has_number}
 
 -- what is told of a table by its halves, at every width but 0
 halved : {A : Type 0} (f : ℕ → ℕ → A) (by : ℕ → ℕ → ℕ → ℕ → A) → ((v t : ℕ) → f (suc v) t ≡ by v t (low v t) (high v t))
@@ -32,6 +32,11 @@ low_fits r t half e = rw e (low_lt r t)
 pub high_fits : (r t half : ℕ) → half ≡ 2 ^ (2 ^ r) → t < 2 ^ (2 ^ suc r) → t / half < 2 ^ (2 ^ r)
 unfolding high
 high_fits r t half e l = rw e (high_lt r t l)
+
+-- a table has the patterns of both its halves
+pub halves : (w : ℕ) → (w ≡ 0 → ⊥) → 2 ^ w ≡ 2 ^ (w - 1) + 2 ^ (w - 1)
+halves zero h = absurd (h refl)
+halves (suc v) h = let d : suc v - 1 ≡ v = omega arith in rw d (omega arith)
 
 module _ (w t half : ℕ) (h : w ≡ 0 → ⊥) (e : half ≡ 2 ^ (2 ^ (w - 1))) where
   module _ (k : ℕ) where

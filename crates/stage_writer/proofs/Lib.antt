@@ -1,8 +1,9 @@
 pub mod Firsts
-pub mod Keys
+pub mod Lasts
+pub mod Finding
+pub mod Nodes
 pub mod Narrow
 pub mod Halves
-pub mod Listing
 pub mod Storing
 pub mod Entries
 pub mod Forms

@@ -1,11 +1,11 @@
 -- Laws of writing a stage: what the stores of each part leave.
-use Prim.Native.Nat.{ℕ, suc, ◌+◌, ◌<◌, ◌≤◌}
-use mathlib.Core.Path.{◌≡◌, refl, ap, ◌∙◌}
+use Prim.Native.Nat.{ℕ, ◌+◌, ◌<◌, ◌≤◌}
+use mathlib.Core.Path.{◌≡◌, refl, ap}
 use mathlib.Core.List.{List, [], ◌∷◌, ◌++◌, map}
 use native.Mathlib.Omega.{arith}
 use native.Mathlib.Numerals.{add-one}
 use lib.ListN.{length, get_or, set, take, drop, length-append, drop_of_length-le}
-use lib.Seq.{sets, length-sets, drop-cons, get_or-take, length-take-le}
+use lib.Seq.{sets, drop-cons, get_or-take, length-take-le}
 use Rattle.base.proofs.Tabulate.{sets_append}
 use Rattle.table.specs.Tree.{Tree, sel}
 use Rattle.stage.specs.Form.{StageForm}
@@ -18,14 +18,6 @@ use Rattle.stage.specs.Written.{stage_drawn, stage_of}
 -- one store
 pub one_stored : {l b : List ℕ} {at x : ℕ} → b ≡ set l at x → Put l at (x ∷ []) b (at + 1)
 one_stored e = record { stored = e; past = refl }
-
--- two stores, one after the other
-pub two_stored : (l b1 b2 : List ℕ) (at x y : ℕ) → b1 ≡ set l at x → b2 ≡ set b1 (at + 1) y → Put l at (x ∷ y ∷ []) b2 (at + 2)
-two_stored l b1 b2 at x y e1 e2 = record { stored = let s : suc at ≡ at + 1 = omega arith in cc; past = refl }
-
--- no store changes a length
-pub put_length : {l x b : List ℕ} {at next : ℕ} → Put l at x b next → length b ≡ length l
-put_length {l} {x} {b} {at} {next} p = ap length p.stored ∙ length-sets l at x
 
 -- a run of stores done, and what remains of it
 pub stored_on : (l b x y g : List ℕ) (at next : ℕ) → Put l at x b next → sets l at (x ++ y) ≡ g → sets b next y ≡ g
@@ -63,9 +55,17 @@ module _ (F : StageForm) (n m j : ℕ) (tables : List ℕ) (fits : m ≤ length 
       let all = length-append (wires_bytes F 0 (stage_drawn F n m tables)) (0x2F ∷ []) in
       omega (arith, e, ap length (wires_step h), length-append x y, all, short)
 
--- what the calls that write a stage leave
-pub stage_stored : (F : StageForm) (l b1 b2 b3 b4 b5 tables : List ℕ) (n m at : ℕ) → b1 ≡ set l 0 0x20 → b2 ≡ set b1 1 n → b3 ≡ set b2 2 m
-    → Put b3 3 (wires_bytes F 0 (stage_drawn F n m tables)) b4 at → b5 ≡ set b4 at 0x2F → b5 ≡ sets l 0 (stage_of F n m tables)
-unfolding stage_of stage_bytes
-stage_stored F l b1 b2 b3 b4 b5 tables n m at e1 e2 e3 e4 e5 =
-    cc (sets_append (set (set (set l 0 0x20) 1 n) 2 m) 3 (wires_bytes F 0 (stage_drawn F n m tables)) (0x2F ∷ []), e4.stored, e4.past)
+module _ (F : StageForm) (n m : ℕ) (tables : List ℕ) where
+  -- the end stands after the wires
+  pub stage_ends : 3 + length (wires_bytes F 0 (stage_drawn F n m tables)) + 1 ≡ length (stage_of F n m tables)
+  unfolding stage_of stage_bytes
+  stage_ends = omega (arith, length-append (wires_bytes F 0 (stage_drawn F n m tables)) (0x2F ∷ []))
+
+  -- what the calls that write a stage leave
+  pub stage_stored : {l b1 b2 b3 : List ℕ} {wires_at at past : ℕ} → Put l 0 (0x20 ∷ n ∷ m ∷ []) b1 wires_at
+      → Put b1 3 (wires_bytes F 0 (stage_drawn F n m tables)) b2 at → Put b2 at (0x2F ∷ []) b3 past → b3 ≡ sets l 0 (stage_of F n m tables)
+  unfolding stage_of stage_bytes
+  stage_stored {l} {b1} {b2} {b3} {wires_at} {at} {past} p q r =
+      let three : wires_at ≡ 3 = p.past in
+      let wires : Put b1 wires_at (wires_bytes F 0 (stage_drawn F n m tables)) b2 at = rw three q in
+      (put_then p (put_then wires r)).stored

@@ -1,3 +1,3 @@
 -- What only inner functions use.
 pub mod Wires
-pub mod Keys
+pub mod Listed

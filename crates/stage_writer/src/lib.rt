@@ -9,16 +9,16 @@ ghost use Rattle.diagram.specs.Forms.{form_of};
 ghost use Rattle.base.specs.Cases.{written_case};
 
 use base::Refusal;
-use nodes::{BoardKind, most_inputs};
+use nodes::BoardKind;
 use sheet::Sheet;
-use sheet::limits::sizes_out;
 use stores::put_sheet;
-use tables::{first_out, stage_length, stage_selectors};
+use tables::Stage;
 
 mod stores; // the bytes of a stage
-mod tables; // the tables that are handed in
+mod tables; // what is handed in
 mod wires; // a wire by the board
 mod trees; // the selectors of a tree, and its bytes
+mod listed; // the nodes of a table
 mod diagrams; // the nodes of a diagram, and its bytes
 mod common; // what trees and diagrams have in common
 
@@ -33,17 +33,12 @@ pub fn write_on(
     ensures { (written_case result ≡ written_of (form_of kind) n m tables (length buffer.old))
         × (buffer.new ≡ buffer_after (form_of kind) n m tables buffer.old) }
 {
-    if sizes_out(most_inputs(kind), n, m) {
-        return Err(Refusal::at(Refusal::OUT_OF_RANGE, 0));
-    }
-    if let Some(wire) = first_out(n, m, tables) {
-        return Err(Refusal::at(Refusal::OUT_OF_RANGE, wire));
-    }
-    let length = stage_length(kind, m, stage_selectors(kind, n, m, tables));
+    let stage = Stage::new(kind, n, m, tables)?;
+    let length = stage.length();
     if buffer.len() < length {
         return Err(Refusal::at(Refusal::SHORT_BUFFER, length));
     }
-    put_sheet(kind, buffer, n, m, tables);
+    put_sheet(buffer, &stage);
     Ok(length)
 }
 

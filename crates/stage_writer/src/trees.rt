@@ -7,8 +7,7 @@ ghost use Rattle.stage.specs.TreeBytes.{constant_byte, tree_bytes, tree_wire_byt
 ghost use Rattle.diagram.specs.Bytes.{longest_written};
 ghost use Rattle.base.specs.Inner.Put.{Put};
 
-use crate::common::{half_of, put_with_operand};
-use base::put;
+use crate::common::{half_of, put_bytes};
 
 // How many selectors the reduced tree of a table of w inputs has, whatever number k of inputs stand before these.
 pub fn selector_count(w: u8, t: u64) -> u8
@@ -41,8 +40,7 @@ fn put_tree(buffer: &mut [u8], at: usize, w: u8, k: u8, t: u64) -> usize
     ensures { Put buffer.old at (tree_bytes (reduced w k t)) buffer.new result }
 {
     if w == 0 {
-        put(buffer, at, constant(t));
-        return at + 1;
+        return put_bytes(buffer, at, &[constant(t)]);
     }
     let v = w - 1;
     let half = half_of(v);
@@ -52,7 +50,7 @@ fn put_tree(buffer: &mut [u8], at: usize, w: u8, k: u8, t: u64) -> usize
     if low == high {
         put_tree(buffer, at, v, input, low)
     } else {
-        let for_zero = put_with_operand(buffer, at, 0x22, input);
+        let for_zero = put_bytes(buffer, at, &[0x22, input]);
         let for_one = put_tree(buffer, for_zero, v, input, low);
         put_tree(buffer, for_one, v, input, high)
     }
@@ -63,6 +61,6 @@ pub fn put_tree_wire(buffer: &mut [u8], at: usize, n: u8, j: u8, t: u64) -> usiz
     requires { (n ≤ max_inputs) × (at + length (tree_wire_bytes j (reduced n 0 t)) ≤ longest_written) }
     ensures { Put buffer.old at (tree_wire_bytes j (reduced n 0 t)) buffer.new result }
 {
-    let tree_at = put_with_operand(buffer, at, 0x21, j);
+    let tree_at = put_bytes(buffer, at, &[0x21, j]);
     put_tree(buffer, tree_at, n, 0, t)
 }

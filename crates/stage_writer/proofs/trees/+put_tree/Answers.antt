@@ -8,7 +8,12 @@ use Rattle.stage_writer.proofs.trees.+put_tree.Goals as goal
 
 pub returns-then-w-eq0 : goal.returns-then-w-eq0
 unfolding tree_bytes reduced
-returns-then-w-eq0 t c = record { stored = simp (c.if-w-eq0.true, ← c.constant.ensures) c.put.ensures; past = simp c.if-w-eq0.true }
+returns-then-w-eq0 t c = rw (c.if-w-eq0.true, ← c.constant.ensures) c.put_bytes.ensures
+
+-- a constant is one byte
+pub put_bytes-requires : goal.put_bytes-requires
+unfolding tree_bytes reduced
+put_bytes-requires t c = rw c.if-w-eq0.true at c.requires.1
 
 -- where the halves are equal there is room for the tree of one, else for a selector and both
 pub put_tree-requires : goal.put_tree-requires
@@ -18,8 +23,8 @@ put_tree-requires t c =
     let same = same_length c.args.w c.args.t half c.if-w-eq0.false c.half_of-half.ensures c.args.k equal in
     (omega arith, (omega arith, omega (arith, same)))
 
-pub put_with_operand-for_zero-requires : goal.put_with_operand-for_zero-requires
-put_with_operand-for_zero-requires t c =
+pub put_bytes-for_zero-requires : goal.put_bytes-for_zero-requires
+put_bytes-for_zero-requires t c =
     let half = c.half_of-half.result in
     let differ : c.args.t % half ≡ c.args.t / half → ⊥ = omega arith in
     omega (arith, two_length c.args.w c.args.t half c.if-w-eq0.false c.half_of-half.ensures c.args.k differ)
@@ -29,12 +34,12 @@ put_tree-for_one-requires t c =
     let half = c.half_of-half.result in
     let differ : c.args.t % half ≡ c.args.t / half → ⊥ = omega arith in
     let two = two_length c.args.w c.args.t half c.if-w-eq0.false c.half_of-half.ensures c.args.k differ in
-    (omega arith, (omega arith, omega (arith, c.put_with_operand-for_zero.ensures.past, two)))
+    (omega arith, (omega arith, omega (arith, c.put_bytes-for_zero.ensures.past, two)))
 
 pub put_tree-requires-else-low-high : goal.put_tree-requires-else-low-high
 put_tree-requires-else-low-high t c =
     let two = two_length c.args.w c.args.t _ c.if-w-eq0.false c.half_of-half.ensures c.args.k c.if-low-high.false in
-    (omega arith, (omega arith, omega (arith, c.put_tree-for_one.ensures.past, c.put_with_operand-for_zero.ensures.past, two)))
+    (omega arith, (omega arith, omega (arith, c.put_tree-for_one.ensures.past, c.put_bytes-for_zero.ensures.past, two)))
 
 pub returns-then-low-high : goal.returns-then-low-high
 returns-then-low-high t c =
@@ -49,4 +54,4 @@ returns-else-low-high t c =
     let for_zero = reduced (a.w - 1) (a.k + 1) (a.t % half) in
     let for_one = reduced (a.w - 1) (a.k + 1) (a.t / half) in
     rw (reduced_two a.w a.t _ c.if-w-eq0.false c.half_of-half.ensures a.k c.if-low-high.false)
-    (selector_stored for_zero for_one (a.k + 1) c.put_with_operand-for_zero.ensures c.put_tree-for_one.ensures c.put_tree-else-low-high.ensures)
+    (selector_stored for_zero for_one (a.k + 1) c.put_bytes-for_zero.ensures c.put_tree-for_one.ensures c.put_tree-else-low-high.ensures)

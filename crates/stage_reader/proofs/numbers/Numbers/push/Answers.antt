@@ -24,7 +24,7 @@ unfolding entry_price
 overflow_add-self-2 c =
     let x = c.self.inside in
     let t = c.self.invariant in
-    let one : c.price.result ≤ 1 = rw c.price.ensures (selector_most (wired_entry (as_entry c.args.entry))) in
+    let one : c.price-price.result ≤ 1 = rw c.price-price.ensures (selector_most (wired_entry (as_entry c.args.entry))) in
     omega (arith, t.few, cells_most x t)
 
 pub invariant_of-self : goal.invariant_of-self
@@ -33,7 +33,7 @@ invariant_of-self c =
     let fits : FitsAfter x.n (entries_so_far x) (as_entry c.args.entry) = rw (← c.self.view_is) at c.requires.1 in
     let room : x.count < most_entries = omega (arith, c.requires.0, entries_length x.all x.count, ap (λ (l : Listed). length l.entries) c.self.view_is) in
     let long : length x.all ≡ most_numbers = search rules in
-    told_more x c.self.invariant c.args.entry _ fits room long c.select-table.ensures _ c.price.ensures
+    told_more x c.self.invariant c.args.entry _ fits room long c.select-table.ensures _ c.price-price.ensures
 
 pub returns : goal.returns
 returns c =

@@ -1,0 +1,39 @@
+use Rattle.std.proofs.Common.{◌≡◌, ◌<◌, refl, sym, ◌∙◌, arith}
+use Rattle.diagram.specs.Written.{number_of}
+use Rattle.stage_writer.specs.Inner.Listed.{nodes_of}
+use Rattle.stage_writer.proofs.Finding.{number_or_zero}
+use Rattle.stage_writer.proofs.Halves.{low_fits, number_same, number_node}
+use Rattle.stage_writer.proofs.listed.number_of.Goals as goal
+
+pub loop-after-init : goal.loop-after-init
+loop-after-init c = (c.requires.2, refl)
+
+pub returns-then-low-part : goal.returns-then-low-part
+returns-then-low-part c =
+    let l = c.loop-after in
+    let ks = nodes_of c.args.listed.now in
+    c.unwrap_or.ensures ∙ number_or_zero _ _ c.node_number.ensures
+    ∙ sym (number_node l.after l.part _ (λ z. absurd (omega arith)) c.narrow_half-half.ensures ks c.if-low-part.true)
+    ∙ l.invariant.1
+
+pub loop-after-preserved : goal.loop-after-preserved
+loop-after-preserved c =
+    let l = c.loop-after in
+    let ks = nodes_of c.args.listed.now in (
+      low_fits _ l.part _ c.narrow_half-half.ensures,
+      sym (number_same l.after l.part _ (λ z. absurd (omega arith)) c.narrow_half-half.ensures ks c.if-low-part.false) ∙ l.invariant.1,
+    )
+
+pub overflow_cast-result : goal.overflow_cast-result
+overflow_cast-result c =
+    let l = c.loop-after in
+    let z : l.after ≡ 0 = omega arith in
+    let b : l.part < 2 = rw z at l.invariant.0 in
+    omega arith
+
+pub returns : goal.returns
+unfolding number_of
+returns c =
+    let l = c.loop-after in
+    let z : l.after ≡ 0 = omega arith in
+    rw z at l.invariant.1
