@@ -42,10 +42,7 @@ pub const LONGEST_COPY_LINE: usize = PAIR * LONGEST_COPY + 1;
 pub fn report(q: Result<Quoted, Refusal>, stage: &[u8], out: &mut [u8]) -> usize
     ensures { Printed longest_report (lines_of (quote_reply q) stage.now) out.old out.new result }
 {
-    let mut page = Page {
-        bytes: out,
-        place: 0,
-    };
+    let mut page = Page::new(out);
     match q {
         Ok(quoted) => put_result(&mut page, quoted, stage),
         Err(refusal) => put_refusal_line(&mut page, b"", refusal),
@@ -57,10 +54,7 @@ pub fn report(q: Result<Quoted, Refusal>, stage: &[u8], out: &mut [u8]) -> usize
 pub fn report_joint(q: Result<Quoted, JointRefusal>, stage: &[u8], out: &mut [u8]) -> usize
     ensures { Printed longest_report (joint_lines (joint_reply q) stage.now) out.old out.new result }
 {
-    let mut page = Page {
-        bytes: out,
-        place: 0,
-    };
+    let mut page = Page::new(out);
     match q {
         Ok(quoted) => put_result(&mut page, quoted, stage),
         Err(JointRefusal::First(refusal)) => put_refusal_line(&mut page, b"first ", refusal),
@@ -73,10 +67,7 @@ pub fn report_joint(q: Result<Quoted, JointRefusal>, stage: &[u8], out: &mut [u8
 pub fn report_audit(audited: Result<Audited, AuditRefusal>, out: &mut [u8]) -> usize
     ensures { Printed longest_report (audit_line (audited_case audited)) out.old out.new result }
 {
-    let mut page = Page {
-        bytes: out,
-        place: 0,
-    };
+    let mut page = Page::new(out);
     match audited {
         Ok(Audited::Fits(cells)) => put_judged(&mut page, b"fits ", cells),
         Ok(Audited::Differs(cells)) => put_judged(&mut page, b"differs ", cells),
@@ -90,10 +81,7 @@ pub fn report_audit(audited: Result<Audited, AuditRefusal>, out: &mut [u8]) -> u
 pub fn report_copy(written: Result<usize, Refusal>, copy: &[u8], out: &mut [u8]) -> usize
     ensures { Printed longest_copy_line (copy_line (written_case written) copy.now) out.old out.new result }
 {
-    let mut page = Page {
-        bytes: out,
-        place: 0,
-    };
+    let mut page = Page::new(out);
     match written {
         Ok(k) => put_shown_line(&mut page, copy, k, LONGEST_COPY),
         Err(refused) => put_refusal_line(&mut page, b"", refused),
