@@ -2,7 +2,7 @@
 use Prim.Native.Nat.{ℕ, ◌+◌, ◌*◌, ◌/◌, ◌%◌, ◌-◌, ◌^◌, ◌<◌, ◌≤◌}
 use mathlib.Core.Path.{◌≡◌, refl, sym, ap, ap₂, subst, ◌∙◌}
 use mathlib.Core.Logic.{⊎_elim}
-use mathlib.Core.Bool.{not, cond}
+use mathlib.Core.Bool.{cond}
 use mathlib.Core.List.{List}
 use native.Mathlib.Omega.{arith}
 use native.Mathlib.Nat.{le_refl, le_trans, lt_of_lt_of_le, div-eq_of_lt, div-div-eq-div-mul, mod-eq_of_lt, mod-lt}
@@ -31,8 +31,8 @@ use Rattle.parts.proofs.CellBytes.{packed_lt, packed_byte, packed_put}
 use Rattle.parts.proofs.Keeping.{count_few, count_byte}
 use Rattle.parts.proofs.LentPicks.{lent_few}
 use Rattle.visits.proofs.StateChanges.{but_trans}
-use Rattle.halves.specs.declared.Picks.{Picks}
-use Rattle.halves.specs.Inner.Remade.{marked, FewCells, cells_again, side_again, Remade}
+use Rattle.std.specs.Prelude.{Some, None}
+use Rattle.halves.specs.Inner.Remade.{marked, FewCells, cells_again, side_again, Kept, Remade}
 
 -- cells are what their bytes make: digit by digit
 digit : (x : ℕ) → x % cell_space + x / cell_space * cell_space ≡ x
@@ -239,17 +239,20 @@ module _ (e words : List ℕ) (wires tables cells : ℕ) (before : List ℕ) whe
           none : T (eqb (lane_of next j) 1) → ⊥
           none t = let z : ◌≡◌ {A = ℕ} (lane_of next j) 1 = eqb→eq (lane_of next j) 1 t in absurd (omega (arith, z, now_made))
 
+      -- the same by the numbers that the code has, of the wire that it found
+      pub wire_made : {i : ℕ} → i ≡ j → {after : List ℕ} {r side few low' all' next' : ℕ} → r ≡ side_rank e words i → PutRest (lent_wide e) i (pick_on e words i) state after
+          → side ≡ r % narrow_space → low' ≡ put_lane low i side → few ≡ r / narrow_space → all' ≡ put_cells all i few → next' ≡ next → Partly after next' low' all'
+      wire_made ei {after} er put es el ef ea en =
+          one_more (er ∙ ap (side_rank e words) ei) (subst (λ k. PutRest (lent_wide e) k (pick_on e words k) state after) ei put) (el ∙ ap₂ (put_lane low) ei es)
+          (ea ∙ ap₂ (put_cells all) ei ef) en
+
     -- a part whose cells are no longer below the best is not kept: with more wires made again it would have no fewer
-    pub not_kept : {state : List ℕ} {left low all : ℕ} → Partly state left low all → get_or before cells_place 0 ≤ cells_sum all → {r : Picks} → T (not r.kept)
-        → Remade e words wires tables cells before state r
-    not_kept {state} {left} h over {r} dropped =
+    pub not_kept : {state : List ℕ} {left low all : ℕ} → Partly state left low all → get_or before cells_place 0 ≤ cells_sum all → Remade e words wires tables cells before state None
+    not_kept {state} {left} h over =
         record {
           same = h.but;
-          low = λ k. absurd (T_not r.kept dropped k);
-          rest = λ k. absurd (T_not r.kept dropped k);
-          counts = λ k. absurd (T_not r.kept dropped k);
           narrow = λ t q l1 lq. h.rest q l1 lq ∙ ap (λ y. cond y (lanes_of (side_now left (get_or before (rest_place q) 0) q)) (get_or before (rest_place q) 0)) (test_no (lent_wide e) t);
-          over = λ _ more.
+          told = λ more.
               le_trans over
               (rw (h.counts, now_sum left)
               (sum_le max_wires (cells_now left) (cells_again e words wires cells)
@@ -258,26 +261,30 @@ module _ (e words : List ℕ) (wires tables cells : ℕ) (before : List ℕ) whe
         }
 
     -- once none is left all are made
-    pub all_made : {state : List ℕ} {left low all : ℕ} → Partly state left low all → left ≡ 0 → cells_sum all < get_or before cells_place 0 → {r : Picks} → T r.kept → r.low ≡ low → r.cells ≡ all
-        → Remade e words wires tables cells before state r
+    kept : {state : List ℕ} {left low all : ℕ} → Partly state left low all → left ≡ 0 → cells_sum all < get_or before cells_place 0
+        → Kept e words wires tables cells before state record { low = low; cells = all }
     unfolding packed
-    all_made {state} {left} {low} {all} h el under {r} held er ec =
+    kept {state} {left} {low} {all} h el under =
         record {
-          same = h.but;
-          low = λ _. er ∙ h.sides ∙ lanes_cong (side_now left tables 0) (side_again e words wires tables 0) (λ j _. none_left (lane_of tables j) (side_again e words wires tables 0 j) j);
-          rest = λ _ q l1 lq.
+          low = h.sides ∙ lanes_cong (side_now left tables 0) (side_again e words wires tables 0) (λ j _. none_left (lane_of tables j) (side_again e words wires tables 0 j) j);
+          rest = λ q l1 lq.
               let x = get_or before (rest_place q) 0 in
               h.rest q l1 lq
               ∙ ap (λ y. cond (lent_wide e) y x) (lanes_cong (side_now left x q) (side_again e words wires x q) (λ j _. none_left (lane_of x j) (side_again e words wires x q j) j));
-          counts = λ _. (
-            ec ∙ h.counts
-                ∙ sum_cong max_wires (λ j. cells_now left j * cell_space ^ j) (λ j. cells_again e words wires cells j * cell_space ^ j)
-                (λ j _. ap (λ y. y * cell_space ^ j) (none_left (byte_in cells j) (cells_again e words wires cells j) j)),
-            rw ec under,
-          );
-          narrow = λ t q l1 lq. h.rest q l1 lq ∙ ap (λ y. cond y (lanes_of (side_now left (get_or before (rest_place q) 0) q)) (get_or before (rest_place q) 0)) (test_no (lent_wide e) t);
-          over = λ t. absurd (T_not r.kept t held);
+          counts = h.counts
+              ∙ sum_cong max_wires (λ j. cells_now left j * cell_space ^ j) (λ j. cells_again e words wires cells j * cell_space ^ j)
+              (λ j _. ap (λ y. y * cell_space ^ j) (none_left (byte_in cells j) (cells_again e words wires cells j) j));
+          under = under;
         }
       where
         none_left : (x y j : ℕ) → cond (marked left j) x y ≡ y
         none_left x y j = ap (λ z. cond (eqb (lane_of z j) 1) x y) el ∙ ap (λ z. cond (eqb z 1) x y) (lane_zero j)
+
+    pub all_made : {state : List ℕ} {left low all : ℕ} → Partly state left low all → left ≡ 0 → cells_sum all < get_or before cells_place 0
+        → Remade e words wires tables cells before state (Some record { low = low; cells = all })
+    all_made {state} {left} {low} {all} h el under =
+        record {
+          same = h.but;
+          narrow = λ t q l1 lq. h.rest q l1 lq ∙ ap (λ y. cond y (lanes_of (side_now left (get_or before (rest_place q) 0) q)) (get_or before (rest_place q) 0)) (test_no (lent_wide e) t);
+          told = kept h el under;
+        }

@@ -41,7 +41,7 @@ use Rattle.parts.proofs.Keeping.{few, table_at, table_lt, table_few, cells_byte,
 use Rattle.parts.proofs.LentPicks.{narrow_inputs_lem}
 use Rattle.parts.proofs.Narrowing.{with_sets, with_pairs, with_more_lem, still_pick}
 use Rattle.halves.specs.declared.Picks.{Picks}
-use Rattle.halves.specs.Inner.Remade.{marked, FewCells, cells_again, side_again, Remade}
+use Rattle.halves.specs.Inner.Remade.{marked, FewCells, cells_again, side_again, Kept, Over}
 
 pub past_zero : (q : ℕ) → T (not (eqb q 0)) → 1 ≤ q
 past_zero zero z = absurd z
@@ -184,12 +184,12 @@ module _ {e : List ℕ} {m : ℕ} {S ws l : List ℕ} {low c p j b w : ℕ} (h :
         (λ i li. ap (λ t. section t q) (table_at kind n N i li) ∙ none_past narrow (table_of kind n N i) q (table_lt kind whole.sized ok i) lq ls)
 
     -- so what is made again and kept is the part's
-    module _ {after : List ℕ} {r : Picks} (made : Remade e (words_of part_masks) wires low c l after r) where
-      rest_side : T r.kept → (q : ℕ) → 1 ≤ q → q < sections → get_or after (rest_place q) 0 ≡ side_by_side (tables_of kind n part_sets) q
+    module _ {after : List ℕ} {r : Picks} (made : Kept e (words_of part_masks) wires low c l after r) where
+      rest_side : (q : ℕ) → 1 ≤ q → q < sections → get_or after (rest_place q) 0 ≡ side_by_side (tables_of kind n part_sets) q
       unfolding side_at
-      rest_side k q l1 lq =
+      rest_side q l1 lq =
           let before : side_at low l q ≡ get_or l (rest_place q) 0 = ap (λ y. cond y low (get_or l (rest_place q) 0)) (ne_eqb q 0 (λ d. omega arith)) in
-          made.rest k q l1 lq
+          made.rest q l1 lq
           ∙ ⊎_elim
           (λ t.
           ap (λ y. cond y (lanes_of (side_again e (words_of part_masks) wires (get_or l (rest_place q) 0) q)) (get_or l (rest_place q) 0)) (test_yes (lent_wide e) t)
@@ -199,18 +199,18 @@ module _ {e : List ℕ} {m : ℕ} {S ws l : List ℕ} {low c p j b w : ℕ} (h :
           ∙ sym before ∙ whole.tables q lq ∙ narrow_side t whole.sets q l1 lq ∙ sym (narrow_side t half_sets q l1 lq))
           (decide (lent_wide e))
 
-      made_tables : T r.kept → (q : ℕ) → q < sections → side_at r.low after q ≡ side_by_side (tables_of kind n part_sets) q
+      made_tables : (q : ℕ) → q < sections → side_at r.low after q ≡ side_by_side (tables_of kind n part_sets) q
       unfolding side_at
-      made_tables k q lq =
+      made_tables q lq =
           ⊎_elim
           (λ z.
           let d = eqb→eq q 0 z in
-          ap (λ y. cond y r.low (get_or after (rest_place q) 0)) (test_yes (eqb q 0) z) ∙ made.low k ∙ again_side 0 (omega arith) ∙ ap (side_by_side (tables_of kind n part_sets)) (sym d))
-          (λ z. ap (λ y. cond y r.low (get_or after (rest_place q) 0)) (test_no (eqb q 0) z) ∙ rest_side k q (past_zero q z) lq)
+          ap (λ y. cond y r.low (get_or after (rest_place q) 0)) (test_yes (eqb q 0) z) ∙ made.low ∙ again_side 0 (omega arith) ∙ ap (side_by_side (tables_of kind n part_sets)) (sym d))
+          (λ z. ap (λ y. cond y r.low (get_or after (rest_place q) 0)) (test_no (eqb q 0) z) ∙ rest_side q (past_zero q z) lq)
           (decide (eqb q 0))
 
-      pub made_carried : T r.kept → {N M : List ℕ} → N ≡ part_sets → M ≡ part_masks → Carried kind n m N M after r.low r.cells
-      made_carried k eN eM =
+      pub made_carried : {N M : List ℕ} → N ≡ part_sets → M ≡ part_masks → Carried kind n m N M after r.low r.cells
+      made_carried eN eM =
           rw (eN, eM)
           record {
             sized = whole.sized;
@@ -218,10 +218,10 @@ module _ {e : List ℕ} {m : ℕ} {S ws l : List ℕ} {low c p j b w : ℕ} (h :
             long = with_long ws (p / row_patterns) (cut_row (mask_row ws (p / row_patterns)) p w);
             halved = with_small ws (p / row_patterns) (cut_row (mask_row ws (p / row_patterns)) p w) whole.halved;
             masks = half_words;
-            tables = made_tables k;
-            cells = (made.counts k).0 ∙ all_cells;
+            tables = made_tables;
+            cells = made.counts ∙ all_cells;
           }
 
-      -- and where it is not kept, the part would be discarded
-      pub made_over : T (not r.kept) → get_or l cells_place 0 ≤ cells_sum (cells_of kind n part_sets)
-      made_over k = rw (← all_sum) (made.over k half_more)
+    -- and where it is not kept, the part would be discarded
+    pub made_over : Over e (words_of part_masks) wires c l → get_or l cells_place 0 ≤ cells_sum (cells_of kind n part_sets)
+    made_over over = rw (← all_sum) (over half_more)

@@ -32,13 +32,14 @@ pub fn lost_wires(driven: u64, set: u16) -> u64
 
 // The masks once pattern p has a set, where `row` is the pattern's row as it was.
 pub fn cut_at(masks: &mut [u16; MASKS], p: u8, row: u64, set: u16)
-    requires { (p < max_patterns) × (length masks.old ≡ mask_count) }
+    requires { p < max_patterns }
     ensures { masks.new ≡ with_lanes masks.old (p / row_patterns) (cut_row row p set) }
 {
     put_row(masks, p, cut_row(row, p, set));
 }
 
-// The picks of these wires made again, from the first on, as long as the cells of all wires are fewer than the best.
+// The picks of these wires made again, from the first on, as long as the cells of all wires are fewer than the best. None where the part has as many cells as the
+// best at least.
 pub fn again(
     e: &[u32; LENT],
     masks: &[u16; MASKS],
@@ -46,7 +47,7 @@ pub fn again(
     wires: u64,
     tables: u64,
     cells: u64,
-) -> Picks
+) -> Option<Picks>
     requires { Lent e.now × ((j : ℕ) → j < max_wires → Covers (lent_inputs e.now) (words_of masks.now) j) × (length state.old ≡ state_length)
         × ((q : ℕ) → 1 ≤ q → q < sections → get_or state.old (rest_place q) 0 < lanes_space) × LanesBelow 2 wires × (wires < lanes_space)
         × FewCells cells × (cells_sum cells < get_or state.old cells_place 0) }
@@ -61,17 +62,9 @@ pub fn again(
         low = put_lane(low, j, side_in(found));
         all = put_cells(all, j, cells_in(found));
         if state[CELLS] <= sum_of(all) as u64 {
-            return Picks {
-                low,
-                cells: all,
-                kept: false,
-            };
+            return None;
         }
         left = without_lowest(left);
     }
-    Picks {
-        low,
-        cells: all,
-        kept: true,
-    }
+    Some(Picks { low, cells: all })
 }

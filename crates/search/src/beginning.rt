@@ -56,7 +56,7 @@ pub fn whole_part(
     state[CELLS] = NO_BEST;
     let words = pairs_of(inputs_of(e[BOARD_PLACE] as u8), sets);
     let masks = masks_of(&words);
-    let found = again(e, &masks, state, LANES, 0, 0);
+    let found = again(e, &masks, state, LANES, 0, 0).unwrap();
     WholePart {
         masks,
         low: found.low,

@@ -1,6 +1,6 @@
 // The pattern and wire to split at.
 // Inner functions: the cycle and the entry of the search meet what they require.
-ghost use Rattle.std.specs.Prelude.{◌≡◌, ◌<◌, ◌≤◌, ◌^◌};
+ghost use Rattle.std.specs.Prelude.{◌≡◌, ◌<◌, ◌≤◌, ◌^◌, IfSome};
 ghost use Rattle.sheet.specs.Limits.{max_patterns};
 ghost use Rattle.table.specs.Cells.{wires};
 ghost use Rattle.table.specs.Inner.Wide.{sections};
@@ -14,7 +14,6 @@ ghost use Rattle.parts.specs.Inner.Picks.{tables_of};
 ghost use Rattle.parts.specs.Inner.States.{side_at, AtHand};
 ghost use Rattle.visits.specs.Inner.Conflicts.{Settled, split_place, ClearedBy, AllowedLater, AllowedBelow};
 
-use crate::SplitPlace;
 use by_value::{SECTION_WORDS, allowing, first_refused};
 use parts::boards::{BOARD_PLACE, COUNT_PLACE, WIRES_PLACE, is_wide};
 use parts::states::{REST, STATE, WHOLE};
@@ -36,11 +35,12 @@ pub fn word_of(state: &[u64; STATE], low: u64, q: u8) -> u64
     }
 }
 
-// A pattern of section q below which the tables' value is allowed by the whole relation: the lowest on which it is not, or SECTION. Whoever calls needs no more
-// than that it is allowed below, and `first_open` goes on from there.
-fn refused_on(state: &[u64; STATE], q: u8, tables: u64) -> u8
+// The lowest pattern of section q on which the tables' value is not allowed by the whole relation. Whoever calls needs no more than that it is allowed below,
+// and `first_open` goes on from there.
+fn refused_on(state: &[u64; STATE], q: u8, tables: u64) -> Option<u8>
     requires { q < sections }
-    ensures { (result ≤ narrow_patterns) × ClearedBy state.now q tables result }
+    ensures inside { IfSome result (λ p. p < narrow_patterns) }
+    ensures cleared { ClearedBy state.now q tables result }
 {
     let at = WHOLE + SECTION_WORDS * q as usize;
     first_refused(allowing(
@@ -57,13 +57,10 @@ fn later_conflict(state: &[u64; STATE], count: u8) -> u8
     requires { count ≤ max_patterns }
     ensures { AllowedLater state.now count result }
 {
-    let mut q: u8 = 1;
-    while q < SECTIONS {
-        let p = refused_on(state, q, state[REST + q as usize]);
-        if p < SECTION {
+    for q in 1..SECTIONS {
+        if let Some(p) = refused_on(state, q, state[REST + q as usize]) {
             return SECTION * q + p;
         }
-        q += 1;
     }
     count
 }
@@ -74,8 +71,7 @@ pub fn first_conflict(e: &[u32; LENT], state: &[u64; STATE], low: u64) -> u8
     requires { Lent e.now }
     ensures { AllowedBelow (lent_wide e.now) (lent_inputs e.now) low state.now result }
 {
-    let p = refused_on(state, 0, low);
-    if p < SECTION {
+    if let Some(p) = refused_on(state, 0, low) {
         return p;
     }
     let count = e[COUNT_PLACE] as u8;
@@ -85,7 +81,7 @@ pub fn first_conflict(e: &[u32; LENT], state: &[u64; STATE], low: u64) -> u8
     count
 }
 
-// The lowest pattern on which the picks' value is not allowed, and the lowest wire open there. A pattern in conflict has an open wire, since every pick
+// Where to split: the lowest pattern on which the picks' value is not allowed, and the lowest wire open there. None without a conflict. A pattern in conflict has an open wire, since every pick
 // fits its projection. Patterns below `from` are known to be without conflict. The two nested loops, left by a label, are the form that document 01 names for this.
 pub fn first_open(
     e: &[u32; LENT],
@@ -93,7 +89,7 @@ pub fn first_open(
     sets: &[u16; Sheet::MAX_PATTERNS],
     state: &[u64; STATE],
     low: u64,
-) -> SplitPlace
+) -> Option<(u8, u8)>
     requires { Lent e.now × Sized (most_inputs (lent_kind e.now)) (lent_inputs e.now) (lent_wires e.now) × PartSets (lent_inputs e.now) (lent_wires e.now) sets.now
         × AtHand low state.now (tables_of (lent_kind e.now) (lent_inputs e.now) sets.now) × (from ≤ 2 ^ lent_inputs e.now)
         × Settled (lent_wires e.now) sets.now (tables_of (lent_kind e.now) (lent_inputs e.now) sets.now) from }
@@ -102,24 +98,17 @@ pub fn first_open(
 {
     let count = e[COUNT_PLACE] as u8;
     let m = e[WIRES_PLACE] as u8;
-    let mut p: u8 = from;
-    let mut j: u8 = 0;
-    'patterns: while p < count {
+    let mut found = None;
+    'patterns: for p in from..count {
         let set = sets[p as usize];
         if !contains(set, value_in(word_of(state, low, p / SECTION), p % SECTION)) {
-            j = 0;
-            while j < m {
+            for j in 0..m {
                 if is_open(set, j) {
+                    found = Some((p, j));
                     break 'patterns;
                 }
-                j += 1;
             }
         }
-        p += 1;
     }
-    if p < count {
-        SplitPlace::Pair(p, j)
-    } else {
-        SplitPlace::Nowhere
-    }
+    found
 }

@@ -1,0 +1,80 @@
+-- What a split keeps of its pattern tells its parts: the sets and the masks of each are those that the code makes of what it keeps.
+use Prim.Native.Nat.{ℕ, ◌/◌, ◌<◌}
+use mathlib.Core.Path.{◌≡◌, sym, ap, ◌∙◌}
+use mathlib.Core.Bool.{not}
+use mathlib.Core.List.{List}
+use native.Mathlib.Omega.{arith}
+use lib.ListN.{length, get_or, set}
+use lib.Seq.{set-set, get_or-set_same}
+use Rattle.sheet.specs.Limits.{max_wires, max_patterns}
+use Rattle.table.specs.Bits.{bit, is_one}
+use Rattle.relation.specs.Tests.{occurs}
+use Rattle.relation.specs.Inner.Members.{member, with_bit}
+use Rattle.relation.specs.Inner.Narrowed.{narrowed}
+use Rattle.branch_bound.specs.declared.State.{State}
+use Rattle.lanes.specs.Inner.Lanes.{lanes_space, lane_of}
+use Rattle.parts.specs.Inner.Boards.{lent_kind, lent_inputs, lent_wires}
+use Rattle.parts.specs.Inner.Cells.{cells_sum}
+use Rattle.parts.specs.Inner.Masks.{row_patterns, with_lanes, cut_row}
+use Rattle.parts.specs.Inner.Picks.{table_of}
+use Rattle.parts.specs.Inner.States.{cells_place}
+use Rattle.parts.proofs.MaskRows.{row_there, row_again}
+use Rattle.visits.specs.Inner.States.{SameRest, Ran}
+use Rattle.visits.proofs.StateChanges.{held_after}
+use Rattle.halves.proofs.Making.{Half, part_sets, part_masks}
+use Rattle.branches.specs.declared.Pattern.{Pattern}
+use Rattle.branches.specs.Inner.Parts.{Splittable}
+use Rattle.branches.specs.Inner.Split.{sets_before, masks_before, Driven}
+use Rattle.branches.proofs.Carrying.{carried_back, pattern_lt}
+use Rattle.branches.proofs.Ready.{whole_after}
+
+pub pattern_there : {e S ws l : List ℕ} {low c p j : ℕ} → Splittable e S ws l low c p j → p < max_patterns
+pattern_there {e} q = pattern_lt (lent_kind e) q.part.carried.sized q.pattern
+
+-- the same part, after a part of it was treated
+pub still_splittable : {e S ws l l' : List ℕ} {low c p j : ℕ} {step : State → State} → Splittable e S ws l low c p j → SameRest l l' → Ran step l l'
+    → cells_sum c < get_or l' cells_place 0 → Splittable e S ws l' low c p j
+still_splittable {e} {S} {l = l} {l'} q same ran under =
+    record {
+      part = record {
+        lent = q.part.lent;
+        carried = carried_back q.part.carried same;
+        whole = whole_after _ (lent_inputs e) S l l' ran.whole q.part.whole;
+        inside = q.part.inside;
+        settled = q.part.settled;
+        held = held_after q.part.held ran;
+        under = under;
+      };
+      pattern = q.pattern;
+      wire = q.wire;
+      open_there = q.open_there;
+    }
+
+module _ (sets masks : List ℕ) (at : Pattern) {e l : List ℕ} {low c j b left : ℕ} (q : Splittable e (sets_before sets at) (masks_before masks at) l low c at.p j) (lb : b < 2)
+    (long : length sets ≡ max_patterns) (el : left ≡ with_bit at.set j b) where
+  -- the part
+  abbrev pub half_of : Half e (lent_wires e) (sets_before sets at) (masks_before masks at) l low c at.p j b left
+  half_of =
+      record {
+        lent = q.part.lent;
+        carried = q.part.carried;
+        pattern = q.pattern;
+        wire = q.wire;
+        is_open_lem = q.open_there;
+        side = lb;
+        left = el ∙ ap (λ x. with_bit x j b) (sym (get_or-set_same sets at.p at.set 0 (rw long (pattern_there q))));
+      }
+
+  pub sets_are : set sets at.p left ≡ part_sets half_of
+  unfolding narrowed
+  sets_are = sym (set-set sets at.p at.set left) ∙ ap (set (sets_before sets at) at.p) half_of.left
+
+  pub masks_are : at.row < lanes_space → {M : List ℕ} → M ≡ with_lanes masks (at.p / row_patterns) (cut_row at.row at.p left) → M ≡ part_masks half_of
+  masks_are lr eM =
+      let k = at.p / row_patterns in
+      eM ∙ sym (row_again masks k (cut_row at.row at.p left) at.row) ∙ ap (λ r. with_lanes (masks_before masks at) k (cut_row r at.p left)) (sym (row_there masks k at.row (omega (arith, pattern_there q)) lr))
+
+  -- the wires whose bit on the pattern no longer occurs
+  pub lost_told : Driven e (sets_before sets at) at → (lost : ℕ) → ((i : ℕ) → i < max_wires → lane_of lost i ≡ is_one (not (occurs max_wires (member left) i (lane_of at.driven i))))
+      → (i : ℕ) → i < max_wires → lane_of lost i ≡ is_one (not (occurs max_wires (member left) i (bit (table_of (lent_kind e) (lent_inputs e) (sets_before sets at) i) at.p)))
+  lost_told driven lost el i li = el i li ∙ ap (λ x. is_one (not (occurs max_wires (member left) i x))) (driven.1 i li)
