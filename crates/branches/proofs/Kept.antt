@@ -1,6 +1,6 @@
 -- What a split keeps of its pattern tells its parts: the sets and the masks of each are those that the code makes of what it keeps.
 use Prim.Native.Nat.{ℕ, ◌/◌, ◌<◌}
-use mathlib.Core.Path.{◌≡◌, sym, ap, ◌∙◌}
+use mathlib.Core.Path.{◌≡◌, sym, ap, subst, ◌∙◌}
 use mathlib.Core.Bool.{not}
 use mathlib.Core.List.{List}
 use native.Mathlib.Omega.{arith}
@@ -8,7 +8,10 @@ use lib.ListN.{length, get_or, set}
 use lib.Seq.{set-set, get_or-set_same}
 use Rattle.sheet.specs.Limits.{max_wires, max_patterns}
 use Rattle.table.specs.Bits.{bit, is_one}
-use Rattle.relation.specs.Tests.{occurs}
+use Rattle.std.specs.Prelude.{Option, Some}
+use Rattle.table.specs.Cells.{wires}
+use Rattle.branch_bound.specs.Search.{charged}
+use Rattle.relation.specs.Tests.{of_sets, occurs}
 use Rattle.relation.specs.Inner.Members.{member, with_bit}
 use Rattle.relation.specs.Inner.Narrowed.{narrowed}
 use Rattle.branch_bound.specs.declared.State.{State}
@@ -16,20 +19,44 @@ use Rattle.lanes.specs.Inner.Lanes.{lanes_space, lane_of}
 use Rattle.parts.specs.Inner.Boards.{lent_kind, lent_inputs, lent_wires}
 use Rattle.parts.specs.Inner.Cells.{cells_sum}
 use Rattle.parts.specs.Inner.Masks.{row_patterns, with_lanes, cut_row}
-use Rattle.parts.specs.Inner.Picks.{table_of}
+use Rattle.parts.specs.Inner.Picks.{table_of, tables_of}
 use Rattle.parts.specs.Inner.States.{cells_place}
 use Rattle.parts.proofs.MaskRows.{row_there, row_again}
-use Rattle.visits.specs.Inner.States.{SameRest, Ran}
+use Rattle.visits.specs.Inner.Conflicts.{split_place}
+use Rattle.visits.specs.Inner.States.{state_of, SameRest, Ran}
+use Rattle.visits.proofs.Opening.{found_open, found_below}
 use Rattle.visits.proofs.StateChanges.{held_after}
 use Rattle.halves.proofs.Making.{Half, part_sets, part_masks}
 use Rattle.branches.specs.declared.Pattern.{Pattern}
-use Rattle.branches.specs.Inner.Parts.{Splittable}
+use Rattle.branches.specs.Inner.Parts.{Visitable, Splittable}
 use Rattle.branches.specs.Inner.Split.{sets_before, masks_before, Driven}
-use Rattle.branches.proofs.Carrying.{carried_back, pattern_lt}
+use Rattle.branches.proofs.Carrying.{carried_tables, carried_back, pattern_lt}
 use Rattle.branches.proofs.Ready.{whole_after}
 
 pub pattern_there : {e S ws l : List ℕ} {low c p j : ℕ} → Splittable e S ws l low c p j → p < max_patterns
 pattern_there {e} q = pattern_lt (lent_kind e) q.part.carried.sized q.pattern
+
+-- a visited part whose first open pair was found may be split there
+pub found_splittable : {e S ws l l' : List ℕ} {low c from p j : ℕ} {f : Option (ℕ × ℕ)} → Visitable e S ws l low c from → Ran charged l l' → SameRest l l'
+    → f ≡ split_place (lent_inputs e) (lent_wires e) (of_sets S) (wires (tables_of (lent_kind e) (lent_inputs e) S)) → f ≡ Some (p, j) → Splittable e S ws l' low c p j
+unfolding state_of
+found_splittable {e} {S} {l = l} {l'} {c = c} q ran same ef fs =
+    let h = q.carried in
+    let o = found_open (lent_kind e) h.sized h.sets (carried_tables h) ef fs in
+    record {
+      part = record {
+        lent = q.lent;
+        carried = carried_back h same;
+        whole = whole_after _ (lent_inputs e) S l l' ran.whole q.whole;
+        inside = omega (arith, o.0);
+        settled = found_below (lent_kind e) h.sized h.sets (carried_tables h) ef fs o.0;
+        held = held_after q.held ran;
+        under = subst (λ x. cells_sum c < x) (sym (ap (λ s. s.cells) ran.state)) q.under;
+      };
+      pattern = o.0;
+      wire = o.1;
+      open_there = o.2;
+    }
 
 -- the same part, after a part of it was treated
 pub still_splittable : {e S ws l l' : List ℕ} {low c p j : ℕ} {step : State → State} → Splittable e S ws l low c p j → SameRest l l' → Ran step l l'

@@ -1,4 +1,4 @@
-// The cycle of the search (document 01, "Search"): `visit` treats a part, `split` the two parts that it makes of one, each by `half`. Each split closes a pair that was open.
+// The cycle of the search (document 01, "Search"): `visit` treats a part, `split` makes each of the two parts of one and has it visited. Each split closes a pair that was open.
 // The sets and the masks are lent down: a split narrows those of its pattern and puts them back, so that no part is copied. Lent too is the state
 // of the search: the best tables so far, their cells, the visits charged, 1 once a part was left, the budget, the tables of the part at hand and the whole relation by value. So few
 // things are handed down that all of them but one stand in registers, and a call takes little of the stack.
@@ -7,7 +7,7 @@
 
 ghost use Rattle.std.specs.Prelude.{◌≡◌, ◌<◌};
 ghost use Rattle.relation.specs.Tests.{of_sets, keep};
-ghost use Rattle.branch_bound.specs.Search.{split as split_of, search_part};
+ghost use Rattle.branch_bound.specs.Search.{search_part};
 ghost use Rattle.branch_bound.specs.Boards.{board_of};
 ghost use Rattle.parts.specs.Inner.Boards.{lent_kind, lent_inputs, lent_wires};
 ghost use Rattle.visits.specs.Inner.States.{budget_in, SameRest, Ran};
@@ -26,7 +26,17 @@ use table::picks::LENT;
 use visits::conflicts::first_open;
 use visits::states::{charge, keep, leave};
 
+// What a split reads of its pattern before either part is made: the pattern, its set and its row of the masks as they were, and the bits that the tables drive there.
+#[derive(Clone, Copy)]
+struct Pattern {
+    p: u8,
+    set: u16,
+    row: u64,
+    driven: u64,
+}
+
 // Steps 2 to 4 of the search for one part, whose cells are fewer than the best: who calls it has made step 1. Its picks are allowed on the patterns below `from`.
+// Of the two parts of a split the one with wire j at 0 comes before the one with it at 1. A part whose cells reach the best is not visited: it would be discarded.
 #[cycle(split_visit)]
 pub fn visit(
     e: &[u32; LENT],
@@ -45,26 +55,29 @@ pub fn visit(
         leave(state);
         return;
     }
-    match first_open(e, from, sets, state, low) {
-        None => keep(state, low, sum_of(cells) as u64),
-        Some((p, j)) => split(e, sets, masks, state, low, cells, p, j),
+    let Some((p, j)) = first_open(e, from, sets, state, low) else {
+        keep(state, low, sum_of(cells) as u64);
+        return;
+    };
+    let at = Pattern {
+        p,
+        set: sets[p as usize],
+        row: row_of(masks, p),
+        driven: driven_on(state, low, p),
+    };
+    split(e, sets, masks, state, low, cells, at, j, 0);
+    if (sum_of(cells) as u64) < state[CELLS] {
+        split(e, sets, masks, state, low, cells, at, j, 1);
     }
-}
-
-// What a split reads of its pattern before either part is made: the pattern, its set and its row of the masks as they were, and the bits that the tables drive there.
-#[derive(Clone, Copy)]
-struct Pattern {
-    p: u8,
-    set: u16,
-    row: u64,
-    driven: u64,
+    put_row(masks, p, at.row);
+    sets[p as usize] = at.set;
 }
 
 // One part of a split, wire j at b: its masks are cut, the picks that no longer fit are made again, and it is visited where its cells stay below the best. The set and the row
 // of the pattern are left as they come. Put in line in both places: as a function of its own it is slower.
 #[cycle(split_visit)]
 #[inline(always)]
-fn half(
+fn split(
     e: &[u32; LENT],
     sets: &mut [u16; Sheet::MAX_PATTERNS],
     masks: &mut [u16; MASKS],
@@ -90,34 +103,4 @@ fn half(
         visit(e, sets, masks, state, found.low, found.cells, from);
     }
     restore(wide, state, rest);
-}
-
-// The two parts of a split, wire j at 0 on pattern p before wire j at 1. A part whose cells reach the best is not visited: it would be discarded.
-#[cycle(split_visit)]
-fn split(
-    e: &[u32; LENT],
-    sets: &mut [u16; Sheet::MAX_PATTERNS],
-    masks: &mut [u16; MASKS],
-    state: &mut [u64; STATE],
-    low: u64,
-    cells: u64,
-    p: u8,
-    j: u8,
-)
-    requires { Splittable e.now sets.old masks.old state.old low cells p j }
-    ensures { (sets.new ≡ sets.old) × (masks.new ≡ masks.old) × SameRest state.old state.new
-        × Ran (split_of (board_of (lent_kind e.now) (lent_inputs e.now) (lent_wires e.now)) (budget_in state.old) (search_part (board_of (lent_kind e.now) (lent_inputs e.now) (lent_wires e.now)) (budget_in state.old)) (of_sets sets.old) p j) state.old state.new }
-{
-    let at = Pattern {
-        p,
-        set: sets[p as usize],
-        row: row_of(masks, p),
-        driven: driven_on(state, low, p),
-    };
-    half(e, sets, masks, state, low, cells, at, j, 0);
-    if (sum_of(cells) as u64) < state[CELLS] {
-        half(e, sets, masks, state, low, cells, at, j, 1);
-    }
-    put_row(masks, p, at.row);
-    sets[p as usize] = at.set;
 }

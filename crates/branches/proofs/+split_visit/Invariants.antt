@@ -5,11 +5,8 @@ use Rattle.parts.specs.Inner.Boards.{lent_inputs, lent_wires}
 use Rattle.branches.specs.Inner.Split.{sets_before}
 use Rattle.branches.proofs.+split_visit.Given as goal
 
-abbrev pub decreases-half : goal.decreases-half
-decreases-half l = 3 * open_pairs (lent_inputs l.e.now) (lent_wires l.e.now) (of_sets (sets_before l.sets.now l.at))
-
 abbrev pub decreases-split : goal.decreases-split
-decreases-split l = 3 * open_pairs (lent_inputs l.e.now) (lent_wires l.e.now) (of_sets l.sets.now) + 1
+decreases-split l = 2 * open_pairs (lent_inputs l.e.now) (lent_wires l.e.now) (of_sets (sets_before l.sets.now l.at))
 
 abbrev pub decreases-visit : goal.decreases-visit
-decreases-visit l = 3 * open_pairs (lent_inputs l.e.now) (lent_wires l.e.now) (of_sets l.sets.now) + 2
+decreases-visit l = 2 * open_pairs (lent_inputs l.e.now) (lent_wires l.e.now) (of_sets l.sets.now) + 1
