@@ -1,5 +1,5 @@
 -- Laws of writing a diagram: an entry for each listed node, and the whole wire.
-use Prim.Native.Nat.{ℕ, zero, suc, ◌+◌, ◌-◌, ◌*◌, ◌^◌, ◌/◌, ◌%◌, ◌<◌, ◌≤◌}
+use Prim.Native.Nat.{ℕ, zero, suc, ◌+◌, ◌-◌, ◌*◌, ◌^◌, ◌<◌, ◌≤◌}
 use mathlib.Core.Path.{◌≡◌, ap, ◌∙◌}
 use mathlib.Core.Logic.{⊎_elim}
 use mathlib.Core.List.{List, [], ◌∷◌, ◌++◌}
@@ -32,12 +32,10 @@ unfolding entries_of entries_bytes
 entries_step n ks k h = rw (nodes_more ks k h)
 
 -- the entry of a node by the numbers of its halves
-pub entry_of_node : (n : ℕ) (before : List Node) (k : NodeKept) (half z o : ℕ) → half ≡ 2 ^ (2 ^ k.after)
-    → z ≡ number_of before k.after (k.table % half)
-    → o ≡ number_of before k.after (k.table / half)
+pub entry_of_node : (n : ℕ) (before : List Node) (k : NodeKept) (lo hi z o : ℕ) → lo ≡ low k.after k.table → hi ≡ high k.after k.table
+    → z ≡ number_of before k.after lo → o ≡ number_of before k.after hi
     → ◌≡◌ {A = List ℕ} ((n - k.after) ∷ z ∷ o ∷ []) (entry_bytes (entry_of n before (as_node k)))
-unfolding low high
-entry_of_node n before k half z o e p q = rw (p, q, e)
+entry_of_node n before k lo hi z o el eh p q = rw (p, q, el, eh)
 
 -- what is listed of a table of n inputs are nodes of such a table
 nodes_closed : (n : ℕ) (ks : List NodeKept) (j i : ℕ) → i < j → j ≤ length ks → Closed n (nodes_of (take j ks)) → InRange (nodes_of (take j ks))

@@ -2,7 +2,6 @@ pub mod Firsts
 pub mod Lasts
 pub mod Finding
 pub mod Nodes
-pub mod Narrow
 pub mod Halves
 pub mod Storing
 pub mod Entries

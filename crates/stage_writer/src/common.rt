@@ -1,19 +1,21 @@
-// What trees and diagrams have in common: the number by which a table is halved, and runs of bytes.
+// What trees and diagrams have in common: the halves of a table, and runs of bytes.
 // Inner functions: their callers write within the longest stage.
-ghost use Rattle.std.specs.Prelude.{◌≡◌, ◌+◌, ◌^◌, ◌<◌, ◌≤◌, length};
+ghost use Rattle.std.specs.Prelude.{◌≡◌, ◌+◌, ◌<◌, ◌≤◌, length};
 ghost use Rattle.sheet.specs.Limits.{max_inputs};
+ghost use Rattle.table.specs.Cells.{low, high};
 ghost use Rattle.diagram.specs.Bytes.{longest_written};
 ghost use Rattle.base.specs.Inner.Put.{Put};
 
 use base::put;
 use sheet::limits::patterns_of;
 
-// The number of tables of v inputs: what halves a table of one input more.
-pub fn half_of(v: u8) -> u64
+// The halves of a table of one input more than v, by its first input: where that is 0, and where it is 1.
+pub fn halves(v: u8, t: u64) -> (u64, u64)
     requires { v < max_inputs }
-    ensures { result ≡ 2 ^ (2 ^ v) }
+    ensures { (result.0 ≡ low v t) × (result.1 ≡ high v t) }
 {
-    1u64 << patterns_of(v)
+    let half = 1u64 << patterns_of(v);
+    (t % half, t / half)
 }
 
 // Writes bytes one after the other, and hands back the place after them.

@@ -9,11 +9,11 @@ ghost use Rattle.diagram.specs.Written.{entry_of, entries_of, reduced_diagram};
 ghost use Rattle.base.specs.Inner.Put.{Put};
 ghost use Rattle.stage_writer.specs.Inner.Listed.{as_node, nodes_of, no_node, NodeOf};
 
-use crate::common::put_bytes;
-use crate::listed::{Listing, Node, narrow_half, number_of};
+use crate::common::{halves, put_bytes};
+use crate::listed::{Listing, Node, number_of};
 
 // How many entries are written of a table: its nodes, whether or not they count.
-pub fn entry_count(n: u8, t: u16) -> u8
+pub fn entry_count(n: u8, t: u64) -> u8
     requires { n ≤ max_shared_inputs }
     ensures { (result ≡ length (listing n t [])) × (result ≤ most_nodes) }
 {
@@ -26,9 +26,9 @@ fn put_entry(buffer: &mut [u8], at: usize, before: &[Node], node: Node, n: u8) -
     requires { (length before.now ≤ most_nodes) × (n ≤ max_shared_inputs) × NodeOf n node × (at + selector_bytes ≤ longest_written) }
     ensures { Put buffer.old at (entry_bytes (entry_of n (nodes_of before.now) (as_node node))) buffer.new result }
 {
-    let half = narrow_half(node.after);
-    let for_zero = number_of(before, node.after, node.table % half);
-    let for_one = number_of(before, node.after, node.table / half);
+    let (low, high) = halves(node.after, node.table);
+    let for_zero = number_of(before, node.after, low);
+    let for_one = number_of(before, node.after, high);
     put_bytes(buffer, at, &[n - node.after, for_zero, for_one])
 }
 
@@ -46,7 +46,7 @@ fn put_entries(buffer: &mut [u8], at: usize, listed: &[Node], n: u8) -> usize
 }
 
 // Writes wire j, and hands back the place after it.
-pub fn put_diagram_wire(buffer: &mut [u8], at: usize, n: u8, j: u8, t: u16) -> usize
+pub fn put_diagram_wire(buffer: &mut [u8], at: usize, n: u8, j: u8, t: u64) -> usize
     requires { (n ≤ max_shared_inputs) × (t < 2 ^ (2 ^ n)) × (at + length (diagram_wire_bytes j (reduced_diagram n t)) ≤ longest_written) }
     ensures { Put buffer.old at (diagram_wire_bytes j (reduced_diagram n t)) buffer.new result }
 {

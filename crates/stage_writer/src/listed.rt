@@ -7,23 +7,15 @@ ghost use Rattle.diagram.specs.Bytes.{most_nodes};
 ghost use Rattle.diagram.specs.Written.{node_number, number_of};
 ghost use Rattle.stage_writer.specs.Inner.Listed.{as_node, nodes_of};
 
-use crate::common::half_of;
+use crate::common::halves;
 use diagram::{FIRST_NUMBER, MOST_NODES};
 use std::marker::Model;
-
-// What halves a table of one input more than v, as `half_of` has it: this board's tables are of so few inputs that 16 bits have room for them.
-pub fn narrow_half(v: u8) -> u16
-    requires { v < max_shared_inputs }
-    ensures { result ≡ 2 ^ (2 ^ v) }
-{
-    half_of(v) as u16
-}
 
 // A node: how many inputs stand after the one that it tests, and its table.
 #[derive(Clone, Copy, PartialEq, Eq)]
 pub struct Node {
     pub after: u8,
-    pub table: u16,
+    pub table: u64,
 }
 
 // The number of a node among those that are listed. They are numbered in their order, and the latest that is the same has it.
@@ -35,16 +27,16 @@ fn node_number(listed: &[Node], node: Node) -> Option<u8>
     Some(FIRST_NUMBER + place as u8)
 }
 
-// The number of a table of w inputs. Inputs that it does not depend on are passed over; what is left is a listed node or a constant.
-pub fn number_of(listed: &[Node], w: u8, t: u16) -> u8
+// The number of a table of w inputs. Inputs that it does not depend on are passed over; what is left is a listed node or a constant. For a node that is not
+// listed the meaning has 0, and nobody asks for one.
+pub fn number_of(listed: &[Node], w: u8, t: u64) -> u8
     requires { (length listed.now ≤ most_nodes) × (w ≤ max_shared_inputs) × (t < 2 ^ (2 ^ w)) }
     ensures { result ≡ number_of (nodes_of listed.now) w t }
 {
     let mut part = t;
     for after in (0..w).rev() {
-        let half = narrow_half(after);
-        let low = part % half;
-        if low != part / half {
+        let (low, high) = halves(after, part);
+        if low != high {
             let node = Node { after, table: part };
             return node_number(listed, node).unwrap_or(0);
         }
@@ -87,7 +79,7 @@ impl Listing {
     }
 
     // All nodes of a table of n inputs.
-    pub fn of_table(n: u8, t: u16) -> Listing
+    pub fn of_table(n: u8, t: u64) -> Listing
         requires { n ≤ max_shared_inputs }
         ensures { result ≡ listing n t [] }
     {
@@ -114,7 +106,7 @@ impl Listing {
 
     // Lists the nodes of a table of w inputs that are not listed yet: fewer than the table has patterns. The half for 0 comes first, and the table itself after
     // both halves. Where it is listed its halves are too, so nothing is left to do.
-    fn list(&mut self, w: u8, t: u16)
+    fn list(&mut self, w: u8, t: u64)
         requires { (w ≤ max_shared_inputs) × (length self.old + 2 ^ w ≤ 2 ^ max_shared_inputs) }
         ensures { (self.new ≡ listing w t self.old) × (length self.new < length self.old + 2 ^ w) }
     {
@@ -122,12 +114,9 @@ impl Listing {
             return;
         }
         let v = w - 1;
-        let half = narrow_half(v);
-        let low = t % half;
-        let high = t / half;
+        let (low, high) = halves(v, t);
         if low == high {
-            self.list(v, low);
-            return;
+            return self.list(v, low);
         }
         let node = Node { after: v, table: t };
         if node_number(self.nodes(), node).is_some() {

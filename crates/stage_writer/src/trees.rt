@@ -7,7 +7,7 @@ ghost use Rattle.stage.specs.TreeBytes.{constant_byte, tree_bytes, tree_wire_byt
 ghost use Rattle.diagram.specs.Bytes.{longest_written};
 ghost use Rattle.base.specs.Inner.Put.{Put};
 
-use crate::common::{half_of, put_bytes};
+use crate::common::{halves, put_bytes};
 
 // How many selectors the reduced tree of a table of w inputs has, whatever number k of inputs stand before these.
 pub fn selector_count(w: u8, t: u64) -> u8
@@ -18,9 +18,7 @@ pub fn selector_count(w: u8, t: u64) -> u8
         return 0;
     }
     let v = w - 1;
-    let half = half_of(v);
-    let low = t % half;
-    let high = t / half;
+    let (low, high) = halves(v, t);
     if low != high {
         return 1 + selector_count(v, low) + selector_count(v, high);
     }
@@ -43,9 +41,7 @@ fn put_tree(buffer: &mut [u8], at: usize, w: u8, k: u8, t: u64) -> usize
         return put_bytes(buffer, at, &[constant(t)]);
     }
     let v = w - 1;
-    let half = half_of(v);
-    let low = t % half;
-    let high = t / half;
+    let (low, high) = halves(v, t);
     let input = k + 1;
     if low == high {
         put_tree(buffer, at, v, input, low)

@@ -1,5 +1,4 @@
-// A wire by the board: but for the test of sizes the only place where the writer looks at which board it writes for. 16 bits have room for a table of the board that shares
-// selectors, which is of four inputs at most.
+// A wire by the board: but for the test of sizes the only place where the writer looks at which board it writes for.
 // Inner functions: `write_on` has tested sizes and tables before it calls them, and the buffer before any of them writes.
 ghost use Rattle.std.specs.Prelude.{◌≡◌, ◌+◌, ◌^◌, ◌<◌, ◌≤◌, length};
 ghost use Rattle.nodes.specs.declared.BoardKind.TheVariants.{Sharing};
@@ -33,7 +32,7 @@ pub fn selectors(kind: BoardKind, n: u8, t: u64) -> u8
 {
     match kind {
         BoardKind::Tree => selector_count(n, t),
-        BoardKind::Sharing => entry_count(n, t as u16),
+        BoardKind::Sharing => entry_count(n, t),
     }
 }
 
@@ -44,6 +43,6 @@ pub fn put_wire(kind: BoardKind, buffer: &mut [u8], at: usize, n: u8, j: u8, t: 
 {
     match kind {
         BoardKind::Tree => put_tree_wire(buffer, at, n, j, t),
-        BoardKind::Sharing => put_diagram_wire(buffer, at, n, j, t as u16),
+        BoardKind::Sharing => put_diagram_wire(buffer, at, n, j, t),
     }
 }

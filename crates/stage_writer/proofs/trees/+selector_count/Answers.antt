@@ -1,5 +1,5 @@
 -- `selector_count` meets its contract: the halves of a table are equal, or a selector stands over the trees of both.
-use Rattle.std.proofs.Common.{◌≡◌, ℕ, ◌+◌, ◌-◌, ◌/◌, ◌%◌, ◌<◌, ◌≤◌, sym, ◌∙◌, arith}
+use Rattle.std.proofs.Common.{◌≡◌, ℕ, ◌+◌, ◌-◌, ◌<◌, ◌≤◌, sym, ◌∙◌, arith}
 use Rattle.sheet.specs.Limits.{max_inputs, max_patterns}
 use Rattle.table.specs.Tree.{selectors, reduced}
 use Rattle.stage.proofs.TreeTables.{patterns_most, reduced_selectors_lt}
@@ -28,13 +28,12 @@ overflow_add-result-then-low-high t c =
 pub returns-then-low-high : goal.returns-then-low-high
 returns-then-low-high t c =
     let a = c.args in
-    let half = c.half_of-half.result in
     λ k.
-    let low : c.selector_count.result ≡ selectors (reduced (a.w - 1) (k + 1) (a.t % half)) = c.selector_count.ensures (k + 1) in
-    let high : c.selector_count-then-low-high.result ≡ selectors (reduced (a.w - 1) (k + 1) (a.t / half)) = c.selector_count-then-low-high.ensures (k + 1) in
-    omega (arith, low, high, two_selectors a.w a.t half c.if-w-eq0.false c.half_of-half.ensures k c.if-low-high.true)
+    let low : c.selector_count.result ≡ selectors (reduced (a.w - 1) (k + 1) c.halves-low.result.0) = c.selector_count.ensures (k + 1) in
+    let high : c.selector_count-then-low-high.result ≡ selectors (reduced (a.w - 1) (k + 1) c.halves-low.result.1) = c.selector_count-then-low-high.ensures (k + 1) in
+    omega (arith, low, high, two_selectors a.w a.t _ _ c.if-w-eq0.false c.halves-low.ensures.0 c.halves-low.ensures.1 k c.if-low-high.true)
 
 pub returns : goal.returns
 returns t c =
     let a = c.args in
-    λ k. c.selector_count-2.ensures (k + 1) ∙ sym (same_selectors a.w a.t _ c.if-w-eq0.false c.half_of-half.ensures k c.if-low-high.false)
+    λ k. c.selector_count-2.ensures (k + 1) ∙ sym (same_selectors a.w a.t _ _ c.if-w-eq0.false c.halves-low.ensures.0 c.halves-low.ensures.1 k c.if-low-high.false)

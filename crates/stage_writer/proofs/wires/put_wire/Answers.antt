@@ -1,5 +1,4 @@
 -- `put_wire` meets its contract: each board has its own form.
-use Rattle.stage_writer.proofs.Narrow.{shared_narrow}
 use Rattle.stage_writer.proofs.wires.put_wire.Goals as goal
 
 pub put_tree_wire-requires : goal.put_tree_wire-requires
@@ -7,10 +6,6 @@ put_tree_wire-requires c =
     let p = c.requires in
     let is = c.in-Tree.is in
     (rw is at p.0, rw is at p.2)
-
-pub overflow_cast-t : goal.overflow_cast-t
-overflow_cast-t c =
-    record { fits = shared_narrow c.args.n c.args.t (rw c.in-Sharing.is at c.requires.0) c.requires.1 }
 
 pub put_diagram_wire-requires : goal.put_diagram_wire-requires
 put_diagram_wire-requires c =

@@ -1,15 +1,10 @@
 -- `selectors` meets its contract: the selectors of a tree are counted, and every node of a diagram has an entry.
 use native.Mathlib.Omega.{arith}
 use Rattle.stage.proofs.TreeTables.{patterns_most, reduced_selectors_lt}
-use Rattle.stage_writer.proofs.Narrow.{shared_narrow}
 use Rattle.stage_writer.proofs.wires.selectors.Goals as goal
 
 pub selector_count-requires : goal.selector_count-requires
 selector_count-requires c = (rw c.in-Tree.is at c.requires.0)
-
-pub overflow_cast-t : goal.overflow_cast-t
-overflow_cast-t c =
-    record { fits = shared_narrow c.args.n c.args.t (rw c.in-Sharing.is at c.requires.0) c.requires.1 }
 
 pub entry_count-requires : goal.entry_count-requires
 entry_count-requires c = (rw c.in-Sharing.is at c.requires.0)

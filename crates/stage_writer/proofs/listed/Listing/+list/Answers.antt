@@ -1,9 +1,9 @@
 -- `list` meets its contract: a table that is a constant, or has equal halves, or is listed already, or is listed after its halves.
-use Rattle.std.proofs.Common.{◌∷◌, ◌-◌, ◌/◌, List, length, sym, ap, ◌∙◌, arith}
+use Rattle.std.proofs.Common.{◌∷◌, ◌-◌, List, length, sym, ap, ◌∙◌, arith}
 use lib.Pow.{pow_pos}
 use Rattle.diagram.specs.Written.{node_number}
 use Rattle.nodes.specs.Nodes.{Node, node, listing}
-use Rattle.stage_writer.proofs.Halves.{halves, listing_same, listing_old, listing_new}
+use Rattle.stage_writer.proofs.Halves.{both_patterns, listing_same, listing_old, listing_new}
 use Rattle.stage_writer.proofs.Finding.{has_place, lacks_place}
 use Rattle.stage_writer.proofs.listed.Listing.+list.Goals as goal
 
@@ -13,36 +13,36 @@ returns-then-w-eq0 t c = (rw c.if-w-eq0.true, omega (arith, pow_pos c.args.w))
 
 -- where the table is no constant, there is room for what both halves list
 pub list-requires : goal.list-requires
-list-requires t c = (omega arith, (omega arith, omega (arith, halves c.args.w c.if-w-eq0.false)))
+list-requires t c = (omega arith, (omega arith, omega (arith, both_patterns c.args.w c.if-w-eq0.false)))
 
 pub returns-then-low-high : goal.returns-then-low-high
 returns-then-low-high t c =
     let a = c.args in
-    let same = listing_same a.w a.t _ c.if-w-eq0.false c.narrow_half-half.ensures a.self.now c.if-low-high.true in
-    (c.list.ensures.0 ∙ sym same, omega (arith, halves a.w c.if-w-eq0.false))
+    let same = listing_same a.w a.t _ _ c.if-w-eq0.false c.halves-low.ensures.0 c.halves-low.ensures.1 a.self.now c.if-low-high.true in
+    (c.list.ensures.0 ∙ sym same, omega (arith, both_patterns a.w c.if-w-eq0.false))
 
 pub returns-then-is_some : goal.returns-then-is_some
 returns-then-is_some t c =
     let a = c.args in
     let among = ap (λ ks. node_number ks (node (a.w - 1) a.t)) c.nodes.ensures.0 in
     let there = has_place _ _ c.node_number.ensures (sym c.if-is_some.ensures) in
-    let old = listing_old a.w a.t _ c.if-w-eq0.false c.narrow_half-half.ensures a.self.now c.if-low-high.false (λ z. there (among ∙ z)) in
+    let old = listing_old a.w a.t _ _ c.if-w-eq0.false c.halves-low.ensures.0 c.halves-low.ensures.1 a.self.now c.if-low-high.false (λ z. there (among ∙ z)) in
     (sym old, omega (arith, pow_pos a.w))
 
 pub list-requires-2 : goal.list-requires-2
-list-requires-2 t c = (omega arith, (omega arith, omega (arith, halves c.args.w c.if-w-eq0.false)))
+list-requires-2 t c = (omega arith, (omega arith, omega (arith, both_patterns c.args.w c.if-w-eq0.false)))
 
 pub list-requires-3 : goal.list-requires-3
-list-requires-3 t c = (omega arith, (omega arith, omega (arith, halves c.args.w c.if-w-eq0.false)))
+list-requires-3 t c = (omega arith, (omega arith, omega (arith, both_patterns c.args.w c.if-w-eq0.false)))
 
 pub push-requires : goal.push-requires
-push-requires t c = omega (arith, halves c.args.w c.if-w-eq0.false)
+push-requires t c = omega (arith, both_patterns c.args.w c.if-w-eq0.false)
 
 pub returns : goal.returns
 returns t c =
     let a = c.args in
     let among = ap (λ ks. node_number ks (node (a.w - 1) a.t)) c.nodes.ensures.0 in
     let lacks = lacks_place _ _ c.node_number.ensures (sym c.if-is_some.ensures) in
-    let new = listing_new a.w a.t _ c.if-w-eq0.false c.narrow_half-half.ensures a.self.now c.if-low-high.false (sym among ∙ lacks) in
-    let pushed = c.push.ensures ∙ ap (λ (l : List Node). node (a.w - 1) a.t ∷ l) (c.list-3.ensures.0 ∙ ap (listing (a.w - 1) (a.t / c.narrow_half-half.result)) c.list-2.ensures.0) in
-    (pushed ∙ sym new, omega (arith, ap length c.push.ensures, halves a.w c.if-w-eq0.false))
+    let new = listing_new a.w a.t _ _ c.if-w-eq0.false c.halves-low.ensures.0 c.halves-low.ensures.1 a.self.now c.if-low-high.false (sym among ∙ lacks) in
+    let pushed = c.push.ensures ∙ ap (λ (l : List Node). node (a.w - 1) a.t ∷ l) (c.list-3.ensures.0 ∙ ap (listing (a.w - 1) c.halves-low.result.1) c.list-2.ensures.0) in
+    (pushed ∙ sym new, omega (arith, ap length c.push.ensures, both_patterns a.w c.if-w-eq0.false))
