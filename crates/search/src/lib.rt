@@ -159,6 +159,7 @@ pub fn search_on(kind: BoardKind, relation: Relation, budget: u32) -> Result<Ans
     Ok(search_tested(kind, n, relation.m, sets, budget))
 }
 
+// Two calls stay beside `search_on`, which is both of them: README names them.
 // The search on the board of trees.
 pub fn search(relation: Relation, budget: u32) -> Result<Answer, Refusal>
     ensures { search_reply result ≡ search_of Tree relation budget }
