@@ -1,8 +1,6 @@
 -- `put_entry` meets its contract: a node's halves are tables, so that each has its number.
-use Rattle.std.proofs.Common.{sym, arith}
-use Rattle.stage_writer.specs.Inner.Listed.{nodes_of}
+use Rattle.std.proofs.Common.{arith}
 use Rattle.table.proofs.Halves.{low_lt, high_lt}
-use Rattle.stage_writer.proofs.Entries.{entry_of_node}
 use Rattle.stage_writer.proofs.diagrams.put_entry.Goals as goal
 
 pub number_of-for_zero-requires : goal.number_of-for_zero-requires
@@ -10,8 +8,3 @@ number_of-for_zero-requires c = (c.requires.0, omega arith, rw c.halves-low.ensu
 
 pub number_of-for_one-requires : goal.number_of-for_one-requires
 number_of-for_one-requires c = (c.requires.0, omega arith, rw c.halves-low.ensures.1 (high_lt _ _ c.requires.2.bound))
-
-pub returns : goal.returns
-returns c =
-    let a = c.args in
-    rw (sym (entry_of_node a.n (nodes_of a.before.now) a.node _ _ _ _ c.halves-low.ensures.0 c.halves-low.ensures.1 c.number_of-for_zero.ensures c.number_of-for_one.ensures)) c.put_bytes.ensures

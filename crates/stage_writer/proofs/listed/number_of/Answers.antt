@@ -1,13 +1,10 @@
-use Rattle.std.proofs.Common.{◌≡◌, ◌<◌, refl, sym, ◌∙◌, arith}
+use Rattle.std.proofs.Common.{◌≡◌, sym, ◌∙◌, arith}
 use Rattle.diagram.specs.Written.{number_of}
 use Rattle.stage_writer.specs.Inner.Listed.{nodes_of}
 use Rattle.stage_writer.proofs.Finding.{number_or_zero}
 use Rattle.table.proofs.Halves.{low_lt}
 use Rattle.stage_writer.proofs.Halves.{number_same, number_node}
 use Rattle.stage_writer.proofs.listed.number_of.Goals as goal
-
-pub loop-after-init : goal.loop-after-init
-loop-after-init c = (c.requires.2, refl)
 
 pub returns-then-low-high : goal.returns-then-low-high
 returns-then-low-high c =
@@ -24,13 +21,6 @@ loop-after-preserved c =
       rw c.halves-low.ensures.0 (low_lt _ l.part),
       sym (number_same l.after l.part _ _ (λ z. absurd (omega arith)) c.halves-low.ensures.0 c.halves-low.ensures.1 ks c.if-low-high.false) ∙ l.invariant.1,
     )
-
-pub overflow_cast-result : goal.overflow_cast-result
-overflow_cast-result c =
-    let l = c.loop-after in
-    let z : l.after ≡ 0 = omega arith in
-    let b : l.part < 2 = rw z at l.invariant.0 in
-    omega arith
 
 pub returns : goal.returns
 unfolding number_of

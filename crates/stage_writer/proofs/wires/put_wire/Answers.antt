@@ -7,13 +7,5 @@ put_tree_wire-requires c =
     let is = c.in-Tree.is in
     (rw is at p.0, rw is at p.2)
 
-pub put_diagram_wire-requires : goal.put_diagram_wire-requires
-put_diagram_wire-requires c =
-    let p = c.requires in
-    ((rw c.in-Sharing.is at c.requires.0), p.1, rw c.in-Sharing.is at p.2)
-
 pub returns-in-Tree : goal.returns-in-Tree
 returns-in-Tree c = rw c.in-Tree.is c.put_tree_wire.ensures
-
-pub returns-in-Sharing : goal.returns-in-Sharing
-returns-in-Sharing c = rw c.in-Sharing.is c.put_diagram_wire.ensures

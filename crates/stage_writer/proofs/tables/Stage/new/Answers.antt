@@ -51,12 +51,6 @@ returns-then-sizes_out c room =
     let out : out_on a.kind a.n a.m ≡ true = sym (tested a.kind a.n a.m c.most_inputs.ensures c.sizes_out.ensures) ∙ c.if-sizes_out.true in
     rw c.at.ensures (sizes_refused (form_of a.kind) a.n a.m a.tables room out)
 
-pub first_out-requires : goal.first_out-requires
-first_out-requires c =
-    let a = c.args in
-    let in_range = sym (tested a.kind a.n a.m c.most_inputs.ensures c.sizes_out.ensures) ∙ c.if-sizes_out.false in
-    (sized a.kind a.n a.m in_range).m_most
-
 pub returns-in-Some : goal.returns-in-Some
 returns-in-Some c room =
     let a = c.args in

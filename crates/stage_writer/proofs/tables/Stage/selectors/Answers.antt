@@ -1,4 +1,4 @@
-use Rattle.std.proofs.Common.{◌≡◌, refl, arith, add-one}
+use Rattle.std.proofs.Common.{refl, arith, add-one}
 use Rattle.table.specs.Cells.{total}
 use Rattle.table.specs.Bits.{sum}
 use Rattle.stage_writer.proofs.tables.Stage.selectors.Goals as goal
@@ -7,17 +7,8 @@ pub loop-j-init : goal.loop-j-init
 unfolding total sum
 loop-j-init c = (refl, omega arith)
 
-pub overflow_add-all : goal.overflow_add-all
-overflow_add-all c = omega (arith, c.loop-j.invariant, c.args.self.now.few_wires, c.loop-j-test.true, c.selectors-all.ensures)
-
 pub loop-j-preserved : goal.loop-j-preserved
 unfolding total sum
 loop-j-preserved c =
     let l = c.loop-j in
     (rw (add-one l.j) (cc (l.invariant.0, c.selectors-all.ensures.0)), omega (arith, l.invariant, c.selectors-all.ensures))
-
-pub returns : goal.returns
-returns c =
-    let l = c.loop-j in
-    let e : l.j ≡ c.args.self.now.m = omega arith in
-    rw e at l.invariant.0

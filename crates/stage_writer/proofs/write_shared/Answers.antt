@@ -1,4 +1,0 @@
-use Rattle.stage_writer.proofs.write_shared.Goals as goal
-
-pub returns : goal.returns
-returns c = c.write_on.ensures
