@@ -19,18 +19,18 @@ use Rattle.parts.specs.Inner.Boards.{board_in, lent_kind, lent_inputs, lent_wire
 use Rattle.parts.specs.Inner.Cells.{cells_sum}
 use Rattle.parts.specs.Inner.Masks.{row_patterns, words_of, with_lanes}
 use Rattle.parts.specs.Inner.Picks.{tables_of}
-use Rattle.parts.specs.Inner.States.{left_place}
 use Rattle.parts.proofs.Lending.{board_small}
 use Rattle.parts.proofs.MaskRows.{row_back, row_again}
-use Rattle.visits.specs.Inner.States.{state_of, budget_in, SameRest, rest_of, Ran}
+use Rattle.visits.specs.Inner.States.{state_of, stopped_at, SameRest, Ran}
 use Rattle.visits.proofs.Opening.{found_open, found_below}
-use Rattle.visits.proofs.StateChanges.{lt→nleb, left_ran, left_rest, not_charged, was_charged, kept_ran, held_after, saved_wide}
+use Rattle.visits.proofs.StateChanges.{lt→nleb, left_ran, not_charged, was_charged, kept_ran, saved_wide}
+use Rattle.halves.specs.Inner.Whole.{Whole}
 use Rattle.halves.specs.Inner.Remade.{Remade}
 use Rattle.halves.proofs.Making.{Half}
 use Rattle.branches.proofs.Carrying.{carried_floor, carried_tables, carried_fit, tables_long, tables_small, carried_back}
 use Rattle.branches.proofs.Steps.{halts, improves, splits}
 use Rattle.branches.proofs.Treated.{part_fewer, Tried, treated, not_made, split_ran}
-use Rattle.branches.proofs.Ready.{whole_after, driven_told, asked, ready}
+use Rattle.branches.proofs.Ready.{driven_told, asked, ready}
 use Rattle.branches.proofs.Kept.{pattern_there, still_splittable, half_of, sets_are, masks_are, lost_told}
 use Rattle.branches.proofs.+split_visit.Goals as goal
 use Rattle.branches.proofs.+split_visit.Goals.{half-in-Some, half-in_default, split-then-sum_of-state, split-else-sum_of-state}
@@ -47,7 +47,7 @@ half-again-requires t c =
     let row : Fits w64 c.args.at.row = search rules in
     let a = c.args in
     let h = half_of a.sets.now a.masks.now a.at q.0 q.2 c.told-sets c.with_bit-left.ensures in
-    asked h (masks_are a.sets.now a.masks.now a.at q.0 q.2 c.told-sets c.with_bit-left.ensures row.fits c.cut_at.ensures) c.told-state c.lost_wires-lost.ensures.1 c.lost_wires-lost.ensures.2 q.0.part.under
+    asked h (masks_are a.sets.now a.masks.now a.at q.0 q.2 c.told-sets c.with_bit-left.ensures row.fits c.cut_at.ensures) c.lost_wires-lost.ensures.1 c.lost_wires-lost.ensures.2 q.0.part.under
 
 pub half-bounds-sets-at : goal.half-bounds-sets-at
 half-bounds-sets-at t c = pattern_there c.requires.0
@@ -62,8 +62,8 @@ half-visit-requires t c =
     let em = masks_are a.sets.now a.masks.now a.at q.0 q.2 c.told-sets c.with_bit-left.ensures row.fits c.cut_at.ensures in
     let lost = lost_told a.sets.now a.masks.now a.at q.0 q.2 c.told-sets c.with_bit-left.ensures q.1 c.lost_wires-lost.result c.lost_wires-lost.ensures.0 in
     let made = subst (λ M. Remade a.e.now (words_of M) c.lost_wires-lost.result a.low a.cells a.state.now c.again.new.state (Some c.in-Some.found)) em c.in-Some.ensures in
-    let r = ready h c.lost_wires-lost.result lost q.0.part.whole q.0.part.settled q.0.part.held made c.begin_at-from.result c.begin_at-from.ensures in
-    (omega (arith, rw (← es) at (part_fewer h), c.decreases), rw (es, em) record { lent = q.0.part.lent; carried = r.0; whole = r.1; inside = r.2; settled = r.3; held = r.4; under = r.5 })
+    let r = ready h c.lost_wires-lost.result lost q.0.part.whole q.0.part.settled made c.begin_at-from.result c.begin_at-from.ensures in
+    (omega (arith, rw (← es) at (part_fewer h), c.decreases), rw (es, em) record { lent = q.0.part.lent; carried = r.0; whole = r.1; inside = r.2; settled = r.3; under = r.4 })
 
 pub half-returns : goal.half-returns
 unfolding board_in
@@ -79,7 +79,7 @@ half-returns t c =
     let lost = lost_told a.sets.now a.masks.now a.at q.0 q.2 c.told-sets c.with_bit-left.ensures q.1 c.lost_wires-lost.result c.lost_wires-lost.ensures.0 in
     let made = subst (λ M. Remade a.e.now (words_of M) c.lost_wires-lost.result a.low a.cells l c.again.new.state c.again.result) em c.again.ensures in
     let wide : c.is_wide-wide.result ≡ lent_wide a.e.now = c.is_wide-wide.ensures in
-    let saved : T (lent_wide a.e.now) → c.saved-rest.result ≡ rest_of l = λ w. c.saved-rest.ensures ∙ saved_wide c.is_wide-wide.result l (subst T (sym wide) w) in
+    let saved : T (lent_wide a.e.now) → c.saved-rest.result ≡ l.rest = λ w. c.saved-rest.ensures ∙ saved_wide c.is_wide-wide.result l (subst T (sym wide) w) in
     let tried : Tried h c.saved-rest.result saved c.again.new.state c.again.result c.match-again.state =
     elim c.match-again.branch [
       | half-in-Some w ↦ inl (rw w.state-is w.visit.ensures.2, rw (w.state-is, ← es) w.visit.ensures.3)
@@ -149,7 +149,7 @@ split-returns t c =
     let R = of_sets a.sets.now in
     let board = board_of (lent_kind a.e.now) (lent_inputs a.e.now) (lent_wires a.e.now) in
     let l = c.half.new.state in
-    let ran : Ran (search_part board (budget_in a.state.now) (keep R a.p a.j 0)) a.state.now l = rw (← es) first.3 in
+    let ran : Ran (search_part board a.state.now.budget (keep R a.p a.j 0)) a.state.now l = rw (← es) first.3 in
     let half : Half a.e.now (lent_wires a.e.now) a.sets.now a.masks.now l a.low a.cells a.p a.j 1 (with_bit (get_or a.sets.now a.p 0) a.j 1) =
     record {
       lent = q.part.lent;
@@ -160,12 +160,12 @@ split-returns t c =
       side = omega arith;
       left = refl;
     } in
-    let second : SameRest a.state.now c.if-sum_of-state.state × Ran (search_part board (budget_in l) (keep R a.p a.j 1)) l c.if-sum_of-state.state =
+    let second : SameRest a.state.now c.if-sum_of-state.state × Ran (search_part board l.budget (keep R a.p a.j 1)) l c.if-sum_of-state.state =
     elim c.if-sum_of-state.branch [
       | split-then-sum_of-state w ↦
           let g = w.half-then-sum_of-state.ensures in
-          rw w.state-is (λ i l1 li. g.2 i l1 li ∙ first.2 i l1 li, rw (← es, ← first.0) g.3)
-      | split-else-sum_of-state w ↦ rw w.state-is (first.2, not_made half ran.long (omega (arith, c.sum_of.ensures.0, w.if-sum_of-state.false)))
+          rw w.state-is (λ i li. g.2 i li ∙ first.2 i li, rw (← es, ← first.0) g.3)
+      | split-else-sum_of-state w ↦ rw w.state-is (first.2, not_made half (omega (arith, c.sum_of.ensures.0, w.if-sum_of-state.false)))
     ] in
     let set_back : set c.if-sum_of-state.sets a.p (get_or a.sets.now a.p 0) ≡ set c.half.new.sets a.p (get_or a.sets.now a.p 0) =
     elim c.if-sum_of-state.branch [
@@ -186,14 +186,13 @@ visit-returns-then-not-charge t c =
     let q = c.requires in
     let s = a.state.now in
     let spent = not_charged s c.charge.ensures.1 (told_no c.charge.ensures.0 c.if-not-charge.true) in
-    let e = c.leave.ensures ∙ ap (λ z. set z left_place 1) spent.1 in
-    let r : Ran halted s c.leave.new.state = rw e (left_ran s c.told-state) in (
+    let e = c.leave.ensures ∙ ap stopped_at spent.1 in
+    let r : Ran halted s c.leave.new.state = rw e (left_ran s) in (
       refl,
       refl,
-      rw e (left_rest s c.told-state),
+      rw e (λ i _. refl),
       record {
-        long = r.long;
-        state = halts (lent_kind a.e.now) q.carried.sized q.carried.sets (budget_in s) (state_of s) (carried_floor q.carried refl) (lt→nleb _ _ q.under) spent.0 r.state;
+        state = halts (lent_kind a.e.now) q.carried.sized q.carried.sets s.budget (state_of s) (carried_floor q.carried refl) (lt→nleb _ _ q.under) spent.0 r.state;
         budget = r.budget;
         whole = r.whole;
       },
@@ -202,7 +201,7 @@ visit-returns-then-not-charge t c =
 pub visit-first_open-requires : goal.visit-first_open-requires
 visit-first_open-requires t c =
     let q = c.requires in
-    let one = was_charged c.args.state.now c.charge.ensures.1 (told_yes c.charge.ensures.0 c.if-not-charge.false) c.told-state in
+    let one = was_charged c.args.state.now c.charge.ensures.1 (told_yes c.charge.ensures.0 c.if-not-charge.false) in
     (q.lent, q.carried.sized, q.carried.sets, (carried_back q.carried one.1).tables, q.inside, q.settled)
 
 pub visit-sum_of-requires : goal.visit-sum_of-requires
@@ -214,7 +213,7 @@ visit-split-requires t c =
     let a = c.args in
     let q = c.requires in
     let h = q.carried in
-    let one = was_charged a.state.now c.charge.ensures.1 (told_yes c.charge.ensures.0 c.if-not-charge.false) c.told-state in
+    let one = was_charged a.state.now c.charge.ensures.1 (told_yes c.charge.ensures.0 c.if-not-charge.false) in
     let are = carried_tables h in
     let o = found_open (lent_kind a.e.now) h.sized h.sets are c.first_open.ensures c.in-Some.is in (
       omega (arith, c.decreases),
@@ -222,10 +221,9 @@ visit-split-requires t c =
         part = record {
           lent = q.lent;
           carried = carried_back h one.1;
-          whole = whole_after (lent_wide a.e.now) (lent_inputs a.e.now) a.sets.now a.state.now c.charge.new.state one.0.whole q.whole;
+          whole = subst (Whole (lent_wide a.e.now) (lent_inputs a.e.now) a.sets.now) (sym one.0.whole) q.whole;
           inside = omega (arith, o.0);
           settled = found_below (lent_kind a.e.now) h.sized h.sets are c.first_open.ensures c.in-Some.is o.0;
-          held = held_after q.held one.0;
           under = subst (λ x. cells_sum a.cells < x) (sym (ap (λ s. s.cells) one.0.state)) q.under;
         };
         pattern = o.0;
@@ -241,22 +239,20 @@ visit-returns-in-None t c =
     let q = c.requires in
     let s = a.state.now in
     let left = told_yes c.charge.ensures.0 c.if-not-charge.false in
-    let one = was_charged s c.charge.ensures.1 left c.told-state in
+    let one = was_charged s c.charge.ensures.1 left in
     let h = carried_back q.carried one.1 in
     let f = c.sum_of.result in
     let ts = tables_of (lent_kind a.e.now) (lent_inputs a.e.now) a.sets.now in
-    let k = kept_ran c.charge.new.state ts a.low f one.0.long h.tables (tables_long h) (tables_small h) in
-    let r : Ran (improved ts f) c.charge.new.state c.keep.new.state = rw c.keep.ensures k.0 in
-    let same : SameRest c.charge.new.state c.keep.new.state = rw c.keep.ensures k.1 in (
+    let r : Ran (improved ts f) c.charge.new.state c.keep.new.state = rw c.keep.ensures (kept_ran c.charge.new.state ts a.low f h.tables (tables_long h) (tables_small h)) in
+    let same : SameRest c.charge.new.state c.keep.new.state = rw c.keep.ensures (λ i _. refl) in (
       refl,
       refl,
-      λ i l1 li. same i l1 li ∙ one.1 i l1 li,
+      λ i li. same i li ∙ one.1 i li,
       record {
-        long = r.long;
-        state = improves (lent_kind a.e.now) q.carried.sized q.carried.sets (budget_in s) (state_of s) (carried_floor q.carried c.sum_of.ensures.0)
+        state = improves (lent_kind a.e.now) q.carried.sized q.carried.sets s.budget (state_of s) (carried_floor q.carried c.sum_of.ensures.0)
             (rw c.sum_of.ensures.0 (lt→nleb _ _ q.under)) left (carried_tables q.carried) c.first_open.ensures c.in-None.is (r.state ∙ ap (improved ts f) one.0.state);
         budget = r.budget ∙ one.0.budget;
-        whole = λ i li. r.whole i li ∙ one.0.whole i li;
+        whole = r.whole ∙ one.0.whole;
       },
     )
 
@@ -267,16 +263,15 @@ visit-returns-in-Some t c =
     let q = c.requires in
     let s = a.state.now in
     let left = told_yes c.charge.ensures.0 c.if-not-charge.false in
-    let one = was_charged s c.charge.ensures.1 left c.told-state in
+    let one = was_charged s c.charge.ensures.1 left in
     let r = c.split.ensures.3 in (
       c.split.ensures.0,
       c.split.ensures.1,
-      λ i l1 li. c.split.ensures.2 i l1 li ∙ one.1 i l1 li,
+      λ i li. c.split.ensures.2 i li ∙ one.1 i li,
       record {
-        long = r.long;
-        state = splits (lent_kind a.e.now) q.carried.sized q.carried.sets (budget_in s) (state_of s) (carried_floor q.carried refl) (lt→nleb _ _ q.under) left (carried_tables q.carried)
+        state = splits (lent_kind a.e.now) q.carried.sized q.carried.sets s.budget (state_of s) (carried_floor q.carried refl) (lt→nleb _ _ q.under) left (carried_tables q.carried)
             c.first_open.ensures c.in-Some.is one.0.state (rw one.0.budget at r).state;
         budget = r.budget ∙ one.0.budget;
-        whole = λ i li. r.whole i li ∙ one.0.whole i li;
+        whole = r.whole ∙ one.0.whole;
       },
     )
