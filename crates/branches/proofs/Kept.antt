@@ -4,7 +4,7 @@ use mathlib.Core.Path.{◌≡◌, sym, ap, subst, ◌∙◌}
 use mathlib.Core.Bool.{not}
 use mathlib.Core.List.{List}
 use native.Mathlib.Omega.{arith}
-use lib.ListN.{length, get_or, set}
+use lib.ListN.{length, set}
 use lib.Seq.{set-set, get_or-set_same}
 use Rattle.sheet.specs.Limits.{max_wires, max_patterns}
 use Rattle.table.specs.Bits.{bit, is_one}
@@ -16,41 +16,39 @@ use Rattle.relation.specs.Inner.Members.{member, with_bit}
 use Rattle.relation.specs.Inner.Narrowed.{narrowed}
 use Rattle.branch_bound.specs.declared.State.{State}
 use Rattle.lanes.specs.Inner.Lanes.{lanes_space, lane_of}
-use Rattle.parts.specs.Inner.Boards.{lent_kind, lent_inputs, lent_wires}
+use Rattle.parts.specs.Inner.Boards.{lent_kind, lent_inputs, lent_wires, lent_wide}
 use Rattle.parts.specs.Inner.Cells.{cells_sum}
 use Rattle.parts.specs.Inner.Masks.{row_patterns, with_lanes, cut_row}
 use Rattle.parts.specs.Inner.Picks.{table_of, tables_of}
-use Rattle.parts.specs.Inner.States.{cells_place}
+use Rattle.parts.specs.declared.states.Running.{Running}
 use Rattle.parts.proofs.MaskRows.{row_there, row_again}
 use Rattle.visits.specs.Inner.Conflicts.{split_place}
 use Rattle.visits.specs.Inner.States.{state_of, SameRest, Ran}
 use Rattle.visits.proofs.Opening.{found_open, found_below}
-use Rattle.visits.proofs.StateChanges.{held_after}
+use Rattle.halves.specs.Inner.Whole.{Whole}
 use Rattle.halves.proofs.Making.{Half, part_sets, part_masks}
 use Rattle.branches.specs.declared.Pattern.{Pattern}
 use Rattle.branches.specs.Inner.Parts.{Visitable, Splittable}
 use Rattle.branches.specs.Inner.Split.{sets_before, masks_before, Driven}
 use Rattle.branches.proofs.Carrying.{carried_tables, carried_back, pattern_lt}
-use Rattle.branches.proofs.Ready.{whole_after}
 
-pub pattern_there : {e S ws l : List ℕ} {low c p j : ℕ} → Splittable e S ws l low c p j → p < max_patterns
+pub pattern_there : {e S ws : List ℕ} {l : Running} {low c p j : ℕ} → Splittable e S ws l low c p j → p < max_patterns
 pattern_there {e} q = pattern_lt (lent_kind e) q.part.carried.sized q.pattern
 
 -- a visited part whose first open pair was found may be split there
-pub found_splittable : {e S ws l l' : List ℕ} {low c from p j : ℕ} {f : Option (ℕ × ℕ)} → Visitable e S ws l low c from → Ran charged l l' → SameRest l l'
+pub found_splittable : {e S ws : List ℕ} {l l' : Running} {low c from p j : ℕ} {f : Option (ℕ × ℕ)} → Visitable e S ws l low c from → Ran charged l l' → SameRest l l'
     → f ≡ split_place (lent_inputs e) (lent_wires e) (of_sets S) (wires (tables_of (lent_kind e) (lent_inputs e) S)) → f ≡ Some (p, j) → Splittable e S ws l' low c p j
 unfolding state_of
-found_splittable {e} {S} {l = l} {l'} {c = c} q ran same ef fs =
+found_splittable {e} {S} {c = c} q ran same ef fs =
     let h = q.carried in
     let o = found_open (lent_kind e) h.sized h.sets (carried_tables h) ef fs in
     record {
       part = record {
         lent = q.lent;
         carried = carried_back h same;
-        whole = whole_after _ (lent_inputs e) S l l' ran.whole q.whole;
+        whole = subst (Whole (lent_wide e) (lent_inputs e) S) (sym ran.whole) q.whole;
         inside = omega (arith, o.0);
         settled = found_below (lent_kind e) h.sized h.sets (carried_tables h) ef fs o.0;
-        held = held_after q.held ran;
         under = subst (λ x. cells_sum c < x) (sym (ap (λ s. s.cells) ran.state)) q.under;
       };
       pattern = o.0;
@@ -59,17 +57,16 @@ found_splittable {e} {S} {l = l} {l'} {c = c} q ran same ef fs =
     }
 
 -- the same part, after a part of it was treated
-pub still_splittable : {e S ws l l' : List ℕ} {low c p j : ℕ} {step : State → State} → Splittable e S ws l low c p j → SameRest l l' → Ran step l l'
-    → cells_sum c < get_or l' cells_place 0 → Splittable e S ws l' low c p j
-still_splittable {e} {S} {l = l} {l'} q same ran under =
+pub still_splittable : {e S ws : List ℕ} {l l' : Running} {low c p j : ℕ} {step : State → State} → Splittable e S ws l low c p j → SameRest l l' → Ran step l l'
+    → cells_sum c < l'.cells → Splittable e S ws l' low c p j
+still_splittable {e} {S} q same ran under =
     record {
       part = record {
         lent = q.part.lent;
         carried = carried_back q.part.carried same;
-        whole = whole_after _ (lent_inputs e) S l l' ran.whole q.part.whole;
+        whole = subst (Whole (lent_wide e) (lent_inputs e) S) (sym ran.whole) q.part.whole;
         inside = q.part.inside;
         settled = q.part.settled;
-        held = held_after q.part.held ran;
         under = under;
       };
       pattern = q.pattern;
@@ -77,7 +74,7 @@ still_splittable {e} {S} {l = l} {l'} q same ran under =
       open_there = q.open_there;
     }
 
-module _ (sets masks : List ℕ) (at : Pattern) {e l : List ℕ} {low c j b left : ℕ} (q : Splittable e (sets_before sets at) (masks_before masks at) l low c at.p j) (lb : b < 2)
+module _ (sets masks : List ℕ) (at : Pattern) {e : List ℕ} {l : Running} {low c j b left : ℕ} (q : Splittable e (sets_before sets at) (masks_before masks at) l low c at.p j) (lb : b < 2)
     (long : length sets ≡ max_patterns) (el : left ≡ with_bit at.set j b) where
   -- the part
   abbrev pub half_of : Half e (lent_wires e) (sets_before sets at) (masks_before masks at) l low c at.p j b left

@@ -6,9 +6,9 @@ use mathlib.Core.Bool.{Bool, not, cond}
 use mathlib.Core.List.{List}
 use native.Mathlib.Nat.{le_trans}
 use lib.Dec.{T, le→leb}
-use lib.ListN.{length, get_or}
+use lib.ListN.{get_or}
 use Rattle.std.specs.Prelude.{Option, None}
-use Rattle.base.proofs.Tests.{decide, test_yes, test_no}
+use Rattle.base.proofs.Tests.{cond_has}
 use Rattle.sheet.specs.Limits.{max_wires}
 use Rattle.table.specs.Bits.{bit, is_one}
 use Rattle.nodes.specs.declared.BoardKind.{BoardKind}
@@ -24,37 +24,30 @@ use Rattle.parts.specs.Inner.Boards.{lent_kind, lent_inputs, lent_wide}
 use Rattle.parts.specs.Inner.Cells.{cells_sum}
 use Rattle.parts.specs.Inner.Picks.{table_of, cells_of}
 use Rattle.parts.specs.Inner.Masks.{words_of}
-use Rattle.parts.specs.Inner.States.{cells_place, state_length, SameBut}
+use Rattle.parts.specs.declared.states.Running.{Running}
+use Rattle.parts.specs.Inner.States.{with_rest, SameBut}
 use Rattle.parts.proofs.Keeping.{kept_floor}
 use Rattle.parts.proofs.Narrowing.{with_keep}
-use Rattle.visits.specs.Inner.States.{state_of, budget_in, SameRest, rest_of, with_rest, Ran}
-use Rattle.visits.proofs.StateChanges.{same_state, same_budget, with_rest_lem, rest_at}
+use Rattle.visits.specs.Inner.States.{state_of, SameRest, Ran}
+use Rattle.visits.proofs.StateChanges.{same_state, same_budget, same_whole}
 use Rattle.halves.specs.declared.Picks.{Picks}
 use Rattle.halves.specs.Inner.Remade.{KeptOrOver, Remade}
 use Rattle.halves.proofs.Making.{Half, part_sets, part_masks, half_sets, half_floor, made_over}
 use Rattle.branches.proofs.Steps.{discards}
 
 -- the tables at hand put back, where the board is wide
-abbrev pub restored : Bool → (rest state : List ℕ) → List ℕ
+abbrev pub restored : Bool → (rest : List ℕ) → Running → Running
 restored wide rest state = cond wide (with_rest state rest) state
 
-module _ (e l after rest : List ℕ) (er : T (lent_wide e) → rest ≡ rest_of l) (long : length after ≡ state_length) where
+module _ (e : List ℕ) (l after : Running) (rest : List ℕ) (er : T (lent_wide e) → rest ≡ l.rest) where
   back_but : SameBut after (restored (lent_wide e) rest after)
-  back_but =
-      ⊎_elim
-      (λ t. rw (test_yes (lent_wide e) t) (with_rest_lem after rest long))
-      (λ t. rw (test_no (lent_wide e) t) record { long = long; front = λ i _. refl; back = λ i _. refl })
-      (decide (lent_wide e))
+  back_but = cond_has (SameBut after) (lent_wide e) (λ _. record { is = refl }) (λ _. record { is = refl })
 
   -- on a wide board they are those of before whatever they are now; on another board they never changed
   back_rest : (T (not (lent_wide e)) → SameRest l after) → SameRest l (restored (lent_wide e) rest after)
-  back_rest narrow q l1 lq =
-      ⊎_elim
-      (λ t. rw (test_yes (lent_wide e) t, er t) (rest_at after l long q l1 lq))
-      (λ t. rw (test_no (lent_wide e) t) (narrow t q l1 lq))
-      (decide (lent_wide e))
+  back_rest narrow = cond_has (SameRest l) (lent_wide e) (λ t i _. ap (λ r. get_or r i 0) (er t)) narrow
 
-module _ {e : List ℕ} {m : ℕ} {S ws l : List ℕ} {low c p j b w : ℕ} (h : Half e m S ws l low c p j b w) where
+module _ {e : List ℕ} {m : ℕ} {S ws : List ℕ} {l : Running} {low c p j b w : ℕ} (h : Half e m S ws l low c p j b w) where
   abbrev kind : BoardKind
   kind = lent_kind e
 
@@ -69,72 +62,69 @@ module _ {e : List ℕ} {m : ℕ} {S ws l : List ℕ} {low c p j b w : ℕ} (h :
 
   -- the written treatment of the part
   abbrev step : State → State
-  step = search_part (board_of kind n m) (budget_in l) (keep (of_sets S) p j b)
+  step = search_part (board_of kind n m) l.budget (keep (of_sets S) p j b)
 
   -- it would be discarded: the state is the same with it treated
-  discarded_part : get_or l cells_place 0 ≤ cells_sum (cells_of kind n (part_sets h)) → state_of l ≡ step (state_of l)
+  discarded_part : l.cells ≤ cells_sum (cells_of kind n (part_sets h)) → state_of l ≡ step (state_of l)
   unfolding state_of
   discarded_part over =
-      discards kind h.carried.sized (half_sets h) (budget_in l) (state_of l) (kept_floor kind h.carried.sized (half_sets h)) (le→leb _ _ over)
-      ∙ ap (λ R. search_part (board_of kind n m) (budget_in l) R (state_of l)) part_keep
+      discards kind h.carried.sized (half_sets h) l.budget (state_of l) (kept_floor kind h.carried.sized (half_sets h)) (le→leb _ _ over)
+      ∙ ap (λ R. search_part (board_of kind n m) l.budget R (state_of l)) part_keep
 
-  module _ (rest : List ℕ) (er : T (lent_wide e) → rest ≡ rest_of l) where
+  module _ (rest : List ℕ) (er : T (lent_wide e) → rest ≡ l.rest) where
     -- once it is made and visited
-    visited : {after last : List ℕ} → SameBut l after → (T (not (lent_wide e)) → SameRest l after)
-        → Ran (search_part (board_of kind n m) (budget_in after) (of_sets (part_sets h))) after last → SameRest after last
+    visited : {after last : Running} → SameBut l after → (T (not (lent_wide e)) → SameRest l after)
+        → Ran (search_part (board_of kind n m) after.budget (of_sets (part_sets h))) after last → SameRest after last
         → SameRest l (restored (lent_wide e) rest last) × Ran step l (restored (lent_wide e) rest last)
     visited {after} {last} but narrow ran same =
-        let back = back_but e l last rest er ran.long in (
-          back_rest e l last rest er ran.long (λ t q l1 lq. same q l1 lq ∙ narrow t q l1 lq),
+        let back = back_but e l last rest er in (
+          back_rest e l last rest er (λ t i li. same i li ∙ narrow t i li),
           record {
-            long = back.long;
             state = same_state back ∙ ran.state ∙ ap₂ (λ z s. search_part (board_of kind n m) z (of_sets (part_sets h)) s) (same_budget but) (same_state but)
-                ∙ ap (λ R. search_part (board_of kind n m) (budget_in l) R (state_of l)) part_keep;
+                ∙ ap (λ R. search_part (board_of kind n m) l.budget R (state_of l)) part_keep;
             budget = same_budget back ∙ ran.budget ∙ same_budget but;
-            whole = λ i li. back.back i li ∙ ran.whole i li ∙ but.back i li;
+            whole = same_whole back ∙ ran.whole ∙ same_whole but;
           },
         )
 
     -- where it is made and not visited
-    passed_over : {after : List ℕ} → SameBut l after → (T (not (lent_wide e)) → SameRest l after) → get_or l cells_place 0 ≤ cells_sum (cells_of kind n (part_sets h))
+    passed_over : {after : Running} → SameBut l after → (T (not (lent_wide e)) → SameRest l after) → l.cells ≤ cells_sum (cells_of kind n (part_sets h))
         → SameRest l (restored (lent_wide e) rest after) × Ran step l (restored (lent_wide e) rest after)
     passed_over {after} but narrow over =
-        let back = back_but e l after rest er but.long in (
-          back_rest e l after rest er but.long narrow,
+        let back = back_but e l after rest er in (
+          back_rest e l after rest er narrow,
           record {
-            long = back.long;
             state = same_state back ∙ same_state but ∙ discarded_part over;
             budget = same_budget back ∙ same_budget but;
-            whole = λ i li. back.back i li ∙ but.back i li;
+            whole = same_whole back ∙ same_whole but;
           },
         )
 
     -- what was made is visited, or it was not kept
-    abbrev pub Tried : (after : List ℕ) (made : Option Picks) (last : List ℕ) → Type 0
+    abbrev pub Tried : (after : Running) (made : Option Picks) (last : Running) → Type 0
     Tried after made last =
-        (SameRest after last × Ran (search_part (board_of kind n m) (budget_in after) (of_sets (part_sets h))) after last) ⊎ ((made ≡ None) × (last ≡ after))
+        (SameRest after last × Ran (search_part (board_of kind n m) after.budget (of_sets (part_sets h))) after last) ⊎ ((made ≡ None) × (last ≡ after))
 
     -- whichever came
-    pub treated : (lost : ℕ) → ((i : ℕ) → i < max_wires → lane_of lost i ≡ is_one (not (occurs max_wires (member w) i (bit (table_of kind n S i) p)))) → {after : List ℕ} {made : Option Picks}
-        → Remade e (words_of (part_masks h)) lost low c l after made → {last : List ℕ} → Tried after made last
+    pub treated : (lost : ℕ) → ((i : ℕ) → i < max_wires → lane_of lost i ≡ is_one (not (occurs max_wires (member w) i (bit (table_of kind n S i) p)))) → {after : Running} {made : Option Picks}
+        → Remade e (words_of (part_masks h)) lost low c l after made → {last : Running} → Tried after made last
         → SameRest l (restored (lent_wide e) rest last) × Ran step l (restored (lent_wide e) rest last)
     treated lost told {after} {made} again =
         ⊎_elim (λ v. visited again.same again.narrow v.1 v.0)
         (λ v. rw v.1 (passed_over again.same again.narrow (made_over h lost told (subst (KeptOrOver e (words_of (part_masks h)) lost low c l after) v.0 again.told))))
 
 -- where it is not even made, since the part that is split has as many cells as the best
-pub not_made : {e : List ℕ} {m : ℕ} {S ws l : List ℕ} {low c p j b w : ℕ} (h : Half e m S ws l low c p j b w) → length l ≡ state_length → get_or l cells_place 0 ≤ cells_sum c
-    → Ran (search_part (board_of (lent_kind e) (lent_inputs e) m) (budget_in l) (keep (of_sets S) p j b)) l l
-not_made h long over = record { long = long; state = discarded_part h (le_trans over (half_floor h)); budget = refl; whole = λ i _. refl }
+pub not_made : {e : List ℕ} {m : ℕ} {S ws : List ℕ} {l : Running} {low c p j b w : ℕ} (h : Half e m S ws l low c p j b w) → l.cells ≤ cells_sum c
+    → Ran (search_part (board_of (lent_kind e) (lent_inputs e) m) l.budget (keep (of_sets S) p j b)) l l
+not_made h over = record { state = discarded_part h (le_trans over (half_floor h)); budget = refl; whole = refl }
 
 -- both parts, one after the other, are the split
-pub split_ran : (board : Board) (R : Rel) (p j : ℕ) {l l1 l2 : List ℕ} → Ran (search_part board (budget_in l) (keep R p j 0)) l l1
-    → Ran (search_part board (budget_in l1) (keep R p j 1)) l1 l2 → Ran (split board (budget_in l) (search_part board (budget_in l)) R p j) l l2
+pub split_ran : (board : Board) (R : Rel) (p j : ℕ) {l l1 l2 : Running} → Ran (search_part board l.budget (keep R p j 0)) l l1
+    → Ran (search_part board l1.budget (keep R p j 1)) l1 l2 → Ran (split board l.budget (search_part board l.budget) R p j) l l2
 unfolding split
 split_ran board R p j {l} first second =
     record {
-      long = second.long;
       state = second.state ∙ ap₂ (λ z s. search_part board z (keep R p j 1) s) first.budget first.state;
       budget = second.budget ∙ first.budget;
-      whole = λ i li. second.whole i li ∙ first.whole i li;
+      whole = second.whole ∙ first.whole;
     }

@@ -1,7 +1,6 @@
 // The cycle of the search (document 01, "Search"): `visit` treats a part, `split` makes each of the two parts of one and has it visited. Each split closes a pair that was open.
 // The sets and the masks are lent down: a split narrows those of its pattern and puts them back, so that no part is copied. Lent too is the state
-// of the search: the best tables so far, their cells, the visits charged, 1 once a part was left, the budget, the tables of the part at hand and the whole relation by value. So few
-// things are handed down that all of them but one stand in registers, and a call takes little of the stack.
+// of the search. So few things are handed down that all of them but one stand in registers, and a call takes little of the stack.
 // Inner functions: `search_whole` of the crate `search` and the cycle itself meet what they require.
 #![tactic(auto)]
 
@@ -10,7 +9,7 @@ ghost use Rattle.relation.specs.Tests.{of_sets, keep};
 ghost use Rattle.branch_bound.specs.Search.{search_part};
 ghost use Rattle.branch_bound.specs.Boards.{board_of};
 ghost use Rattle.parts.specs.Inner.Boards.{lent_kind, lent_inputs, lent_wires};
-ghost use Rattle.visits.specs.Inner.States.{budget_in, SameRest, Ran};
+ghost use Rattle.visits.specs.Inner.States.{SameRest, Ran};
 ghost use Rattle.branches.specs.Inner.Parts.{Visitable, Splittable};
 ghost use Rattle.branches.specs.Inner.Split.{sets_before, masks_before, Driven};
 
@@ -19,7 +18,7 @@ use halves::tables::{begin_at, driven_on, restore, saved};
 use parts::boards::{BOARD_PLACE, is_wide};
 use parts::cells::sum_of;
 use parts::masks::{MASKS, put_row, row_of};
-use parts::states::{CELLS, STATE};
+use parts::states::Running;
 use relation::values::with_bit;
 use sheet::Sheet;
 use table::picks::LENT;
@@ -42,21 +41,21 @@ pub fn visit(
     e: &[u32; LENT],
     sets: &mut [u16; Sheet::MAX_PATTERNS],
     masks: &mut [u16; MASKS],
-    state: &mut [u64; STATE],
+    state: &mut Running,
     low: u64,
     cells: u64,
     from: u8,
 )
     requires { Visitable e.now sets.old masks.old state.old low cells from }
     ensures { (sets.new ≡ sets.old) × (masks.new ≡ masks.old) × SameRest state.old state.new
-        × Ran (search_part (board_of (lent_kind e.now) (lent_inputs e.now) (lent_wires e.now)) (budget_in state.old) (of_sets sets.old)) state.old state.new }
+        × Ran (search_part (board_of (lent_kind e.now) (lent_inputs e.now) (lent_wires e.now)) state.old.budget (of_sets sets.old)) state.old state.new }
 {
     if !charge(state) {
         leave(state);
         return;
     }
     let Some((p, j)) = first_open(e, from, sets, state, low) else {
-        keep(state, low, sum_of(cells) as u64);
+        keep(state, low, sum_of(cells));
         return;
     };
     let at = Pattern {
@@ -66,7 +65,7 @@ pub fn visit(
         driven: driven_on(state, low, p),
     };
     split(e, sets, masks, state, low, cells, at, j, 0);
-    if (sum_of(cells) as u64) < state[CELLS] {
+    if sum_of(cells) < state.cells {
         split(e, sets, masks, state, low, cells, at, j, 1);
     }
     put_row(masks, p, at.row);
@@ -81,7 +80,7 @@ fn split(
     e: &[u32; LENT],
     sets: &mut [u16; Sheet::MAX_PATTERNS],
     masks: &mut [u16; MASKS],
-    state: &mut [u64; STATE],
+    state: &mut Running,
     low: u64,
     cells: u64,
     at: Pattern,
@@ -90,7 +89,7 @@ fn split(
 )
     requires { Splittable e.now (sets_before sets.old at) (masks_before masks.old at) state.old low cells at.p j × Driven e.now (sets_before sets.old at) at × (b < 2) }
     ensures { (sets_before sets.new at ≡ sets_before sets.old at) × (masks_before masks.new at ≡ masks_before masks.old at) × SameRest state.old state.new
-        × Ran (search_part (board_of (lent_kind e.now) (lent_inputs e.now) (lent_wires e.now)) (budget_in state.old) (keep (of_sets (sets_before sets.old at)) at.p j b)) state.old state.new }
+        × Ran (search_part (board_of (lent_kind e.now) (lent_inputs e.now) (lent_wires e.now)) state.old.budget (keep (of_sets (sets_before sets.old at)) at.p j b)) state.old state.new }
 {
     let wide = is_wide(e[BOARD_PLACE] as u8);
     let rest = saved(wide, state);

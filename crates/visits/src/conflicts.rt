@@ -14,9 +14,9 @@ ghost use Rattle.parts.specs.Inner.Picks.{tables_of};
 ghost use Rattle.parts.specs.Inner.States.{side_at, AtHand};
 ghost use Rattle.visits.specs.Inner.Conflicts.{Settled, split_place, ClearedBy, AllowedLater, AllowedBelow};
 
-use by_value::{SECTION_WORDS, allowing, first_refused};
+use by_value::{SECTION_WORDS, VALUE_WORDS, allowing, first_refused};
 use parts::boards::{BOARD_PLACE, COUNT_PLACE, WIRES_PLACE, is_wide};
-use parts::states::{REST, STATE, WHOLE};
+use parts::states::Running;
 use relation::patterns::value_in;
 use relation::values::{contains, is_open};
 use sheet::Sheet;
@@ -24,41 +24,41 @@ use table::picks::LENT;
 use table::wide::{SECTION, SECTIONS};
 
 // The tables of the part at hand on section q.
-pub fn word_of(state: &[u64; STATE], low: u64, q: u8) -> u64
+pub fn word_of(state: &Running, low: u64, q: u8) -> u64
     requires { q < sections }
     ensures { result ≡ side_at low state.now q }
 {
     if q == 0 {
         low
     } else {
-        state[REST + q as usize]
+        state.rest[q as usize - 1]
     }
 }
 
 // The lowest pattern of section q on which the tables' value is not allowed by the whole relation. Whoever calls needs no more than that it is allowed below,
 // and `first_open` goes on from there.
-fn refused_on(state: &[u64; STATE], q: u8, tables: u64) -> Option<u8>
+fn refused_on(whole: &[u64; VALUE_WORDS], q: u8, tables: u64) -> Option<u8>
     requires { q < sections }
     ensures inside { IfSome result (λ p. p < narrow_patterns) }
-    ensures cleared { ClearedBy state.now q tables result }
+    ensures cleared { ClearedBy whole.now q tables result }
 {
-    let at = WHOLE + SECTION_WORDS * q as usize;
+    let at = SECTION_WORDS * q as usize;
     first_refused(allowing(
-        state[at],
-        state[at + 1],
-        state[at + 2],
-        state[at + 3],
+        whole[at],
+        whole[at + 1],
+        whole[at + 2],
+        whole[at + 3],
         tables,
     ))
 }
 
 // A pattern below which the later sections are without conflict: the lowest in conflict there, or the number of patterns.
-fn later_conflict(state: &[u64; STATE], count: u8) -> u8
+fn later_conflict(state: &Running, count: u8) -> u8
     requires { count ≤ max_patterns }
     ensures { AllowedLater state.now count result }
 {
     for q in 1..SECTIONS {
-        if let Some(p) = refused_on(state, q, state[REST + q as usize]) {
+        if let Some(p) = refused_on(&state.whole, q, state.rest[q as usize - 1]) {
             return SECTION * q + p;
         }
     }
@@ -67,11 +67,11 @@ fn later_conflict(state: &[u64; STATE], count: u8) -> u8
 
 // A pattern below which the tables of the part at hand are without conflict: the lowest in conflict with the whole relation, or the number of patterns. What a split dropped of
 // the whole is no value of the picks, so that it is the lowest in conflict with the part too.
-pub fn first_conflict(e: &[u32; LENT], state: &[u64; STATE], low: u64) -> u8
+pub fn first_conflict(e: &[u32; LENT], state: &Running, low: u64) -> u8
     requires { Lent e.now }
     ensures { AllowedBelow (lent_wide e.now) (lent_inputs e.now) low state.now result }
 {
-    if let Some(p) = refused_on(state, 0, low) {
+    if let Some(p) = refused_on(&state.whole, 0, low) {
         return p;
     }
     let count = e[COUNT_PLACE] as u8;
@@ -87,7 +87,7 @@ pub fn first_open(
     e: &[u32; LENT],
     from: u8,
     sets: &[u16; Sheet::MAX_PATTERNS],
-    state: &[u64; STATE],
+    state: &Running,
     low: u64,
 ) -> Option<(u8, u8)>
     requires { Lent e.now × Sized (most_inputs (lent_kind e.now)) (lent_inputs e.now) (lent_wires e.now) × PartSets (lent_inputs e.now) (lent_wires e.now) sets.now

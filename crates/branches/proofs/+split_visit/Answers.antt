@@ -18,11 +18,10 @@ use Rattle.relation.specs.Inner.Members.{with_bit}
 use Rattle.parts.specs.Inner.Boards.{board_in, lent_kind, lent_inputs, lent_wires, lent_wide}
 use Rattle.parts.specs.Inner.Masks.{row_patterns, words_of, with_lanes}
 use Rattle.parts.specs.Inner.Picks.{tables_of}
-use Rattle.parts.specs.Inner.States.{left_place}
 use Rattle.parts.proofs.Lending.{board_small}
 use Rattle.parts.proofs.MaskRows.{row_back, row_again}
-use Rattle.visits.specs.Inner.States.{state_of, budget_in, SameRest, rest_of, Ran}
-use Rattle.visits.proofs.StateChanges.{lt→nleb, left_ran, left_rest, not_charged, was_charged, kept_ran, saved_wide}
+use Rattle.visits.specs.Inner.States.{state_of, stopped_at, SameRest, Ran}
+use Rattle.visits.proofs.StateChanges.{lt→nleb, left_ran, not_charged, was_charged, kept_ran, saved_wide}
 use Rattle.halves.specs.Inner.Remade.{Remade}
 use Rattle.halves.proofs.Making.{Half}
 use Rattle.branches.proofs.Carrying.{carried_floor, carried_tables, carried_fit, tables_long, tables_small, carried_back}
@@ -45,7 +44,7 @@ split-again-requires t c =
     let row : Fits w64 c.args.at.row = search rules in
     let a = c.args in
     let h = half_of a.sets.now a.masks.now a.at q.0 q.2 c.told-sets c.with_bit-left.ensures in
-    asked h (masks_are a.sets.now a.masks.now a.at q.0 q.2 c.told-sets c.with_bit-left.ensures row.fits c.cut_at.ensures) c.told-state c.lost_wires-lost.ensures.1 c.lost_wires-lost.ensures.2 q.0.part.under
+    asked h (masks_are a.sets.now a.masks.now a.at q.0 q.2 c.told-sets c.with_bit-left.ensures row.fits c.cut_at.ensures) c.lost_wires-lost.ensures.1 c.lost_wires-lost.ensures.2 q.0.part.under
 
 pub split-bounds-sets-at : goal.split-bounds-sets-at
 split-bounds-sets-at t c = pattern_there c.requires.0
@@ -60,8 +59,8 @@ split-visit-requires t c =
     let em = masks_are a.sets.now a.masks.now a.at q.0 q.2 c.told-sets c.with_bit-left.ensures row.fits c.cut_at.ensures in
     let lost = lost_told a.sets.now a.masks.now a.at q.0 q.2 c.told-sets c.with_bit-left.ensures q.1 c.lost_wires-lost.result c.lost_wires-lost.ensures.0 in
     let made = subst (λ M. Remade a.e.now (words_of M) c.lost_wires-lost.result a.low a.cells a.state.now c.again.new.state (Some c.in-Some.found)) em c.in-Some.ensures in
-    let r = ready h c.lost_wires-lost.result lost q.0.part.whole q.0.part.settled q.0.part.held made c.begin_at-from.result c.begin_at-from.ensures in
-    (omega (arith, rw (← es) at (part_fewer h), c.decreases), rw (es, em) record { lent = q.0.part.lent; carried = r.0; whole = r.1; inside = r.2; settled = r.3; held = r.4; under = r.5 })
+    let r = ready h c.lost_wires-lost.result lost q.0.part.whole q.0.part.settled made c.begin_at-from.result c.begin_at-from.ensures in
+    (omega (arith, rw (← es) at (part_fewer h), c.decreases), rw (es, em) record { lent = q.0.part.lent; carried = r.0; whole = r.1; inside = r.2; settled = r.3; under = r.4 })
 
 pub split-returns : goal.split-returns
 unfolding board_in
@@ -77,7 +76,7 @@ split-returns t c =
     let lost = lost_told a.sets.now a.masks.now a.at q.0 q.2 c.told-sets c.with_bit-left.ensures q.1 c.lost_wires-lost.result c.lost_wires-lost.ensures.0 in
     let made = subst (λ M. Remade a.e.now (words_of M) c.lost_wires-lost.result a.low a.cells l c.again.new.state c.again.result) em c.again.ensures in
     let wide : c.is_wide-wide.result ≡ lent_wide a.e.now = c.is_wide-wide.ensures in
-    let saved : T (lent_wide a.e.now) → c.saved-rest.result ≡ rest_of l = λ w. c.saved-rest.ensures ∙ saved_wide c.is_wide-wide.result l (subst T (sym wide) w) in
+    let saved : T (lent_wide a.e.now) → c.saved-rest.result ≡ l.rest = λ w. c.saved-rest.ensures ∙ saved_wide c.is_wide-wide.result l (subst T (sym wide) w) in
     let tried : Tried h c.saved-rest.result saved c.again.new.state c.again.result c.match-again.state =
     elim c.match-again.branch [
       | split-in-Some w ↦ inl (rw w.state-is w.visit.ensures.2, rw (w.state-is, ← es) w.visit.ensures.3)
@@ -103,14 +102,13 @@ visit-returns-then-not-charge t c =
     let q = c.requires in
     let s = a.state.now in
     let spent = not_charged s c.charge.ensures.1 (told_no c.charge.ensures.0 c.if-not-charge.true) in
-    let e = c.leave.ensures ∙ ap (λ z. set z left_place 1) spent.1 in
-    let r : Ran halted s c.leave.new.state = rw e (left_ran s c.told-state) in (
+    let e = c.leave.ensures ∙ ap stopped_at spent.1 in
+    let r : Ran halted s c.leave.new.state = rw e (left_ran s) in (
       refl,
       refl,
-      rw e (left_rest s c.told-state),
+      rw e (λ i _. refl),
       record {
-        long = r.long;
-        state = halts (lent_kind a.e.now) q.carried.sized q.carried.sets (budget_in s) (state_of s) (carried_floor q.carried refl) (lt→nleb _ _ q.under) spent.0 r.state;
+        state = halts (lent_kind a.e.now) q.carried.sized q.carried.sets s.budget (state_of s) (carried_floor q.carried refl) (lt→nleb _ _ q.under) spent.0 r.state;
         budget = r.budget;
         whole = r.whole;
       },
@@ -119,7 +117,7 @@ visit-returns-then-not-charge t c =
 pub visit-first_open-requires : goal.visit-first_open-requires
 visit-first_open-requires t c =
     let q = c.requires in
-    let one = was_charged c.args.state.now c.charge.ensures.1 (told_yes c.charge.ensures.0 c.if-not-charge.false) c.told-state in
+    let one = was_charged c.args.state.now c.charge.ensures.1 (told_yes c.charge.ensures.0 c.if-not-charge.false) in
     (q.lent, q.carried.sized, q.carried.sets, (carried_back q.carried one.1).tables, q.inside, q.settled)
 
 pub visit-sum_of-requires : goal.visit-sum_of-requires
@@ -132,50 +130,48 @@ visit-returns-in_default t c =
     let q = c.requires in
     let s = a.state.now in
     let left = told_yes c.charge.ensures.0 c.if-not-charge.false in
-    let one = was_charged s c.charge.ensures.1 left c.told-state in
+    let one = was_charged s c.charge.ensures.1 left in
     let h = carried_back q.carried one.1 in
     let f = c.sum_of.result in
     let ts = tables_of (lent_kind a.e.now) (lent_inputs a.e.now) a.sets.now in
-    let k = kept_ran c.charge.new.state ts a.low f one.0.long h.tables (tables_long h) (tables_small h) in
-    let r : Ran (improved ts f) c.charge.new.state c.keep.new.state = rw c.keep.ensures k.0 in
-    let same : SameRest c.charge.new.state c.keep.new.state = rw c.keep.ensures k.1 in (
+    let r : Ran (improved ts f) c.charge.new.state c.keep.new.state = rw c.keep.ensures (kept_ran c.charge.new.state ts a.low f h.tables (tables_long h) (tables_small h)) in
+    let same : SameRest c.charge.new.state c.keep.new.state = rw c.keep.ensures (λ i _. refl) in (
       refl,
       refl,
-      λ i l1 li. same i l1 li ∙ one.1 i l1 li,
+      λ i li. same i li ∙ one.1 i li,
       record {
-        long = r.long;
-        state = improves (lent_kind a.e.now) q.carried.sized q.carried.sets (budget_in s) (state_of s) (carried_floor q.carried c.sum_of.ensures.0)
+        state = improves (lent_kind a.e.now) q.carried.sized q.carried.sets s.budget (state_of s) (carried_floor q.carried c.sum_of.ensures.0)
             (rw c.sum_of.ensures.0 (lt→nleb _ _ q.under)) left (carried_tables q.carried) c.first_open.ensures c.in_default.is (r.state ∙ ap (improved ts f) one.0.state);
         budget = r.budget ∙ one.0.budget;
-        whole = λ i li. r.whole i li ∙ one.0.whole i li;
+        whole = r.whole ∙ one.0.whole;
       },
     )
 
 pub visit-bounds-sets-p : goal.visit-bounds-sets-p
 visit-bounds-sets-p t c =
     let a = c.args in
-    let one = was_charged a.state.now c.charge.ensures.1 (told_yes c.charge.ensures.0 c.if-not-charge.false) c.told-state in
+    let one = was_charged a.state.now c.charge.ensures.1 (told_yes c.charge.ensures.0 c.if-not-charge.false) in
     let q = found_splittable c.requires one.0 one.1 c.first_open.ensures c.in-Some.is in
     pattern_there q
 
 pub visit-row_of-requires : goal.visit-row_of-requires
 visit-row_of-requires t c =
     let a = c.args in
-    let one = was_charged a.state.now c.charge.ensures.1 (told_yes c.charge.ensures.0 c.if-not-charge.false) c.told-state in
+    let one = was_charged a.state.now c.charge.ensures.1 (told_yes c.charge.ensures.0 c.if-not-charge.false) in
     let q = found_splittable c.requires one.0 one.1 c.first_open.ensures c.in-Some.is in
     pattern_there q
 
 pub visit-driven_on-requires : goal.visit-driven_on-requires
 visit-driven_on-requires t c =
     let a = c.args in
-    let one = was_charged a.state.now c.charge.ensures.1 (told_yes c.charge.ensures.0 c.if-not-charge.false) c.told-state in
+    let one = was_charged a.state.now c.charge.ensures.1 (told_yes c.charge.ensures.0 c.if-not-charge.false) in
     let q = found_splittable c.requires one.0 one.1 c.first_open.ensures c.in-Some.is in
     pattern_there q
 
 pub visit-split-requires : goal.visit-split-requires
 visit-split-requires t c =
     let a = c.args in
-    let one = was_charged a.state.now c.charge.ensures.1 (told_yes c.charge.ensures.0 c.if-not-charge.false) c.told-state in
+    let one = was_charged a.state.now c.charge.ensures.1 (told_yes c.charge.ensures.0 c.if-not-charge.false) in
     let q = found_splittable c.requires one.0 one.1 c.first_open.ensures c.in-Some.is in
     let k = c.in-Some.p / row_patterns in
     let es = set-get_or a.sets.now c.in-Some.p 0 in
@@ -189,7 +185,7 @@ visit-sum_of-requires-2 t c = carried_fit c.requires.carried
 pub visit-split-requires-then-sum_of-state : goal.visit-split-requires-then-sum_of-state
 visit-split-requires-then-sum_of-state t c =
     let a = c.args in
-    let one = was_charged a.state.now c.charge.ensures.1 (told_yes c.charge.ensures.0 c.if-not-charge.false) c.told-state in
+    let one = was_charged a.state.now c.charge.ensures.1 (told_yes c.charge.ensures.0 c.if-not-charge.false) in
     let q = found_splittable c.requires one.0 one.1 c.first_open.ensures c.in-Some.is in
     let k = c.in-Some.p / row_patterns in
     let first = c.split.ensures in
@@ -202,14 +198,14 @@ visit-split-requires-then-sum_of-state t c =
 pub visit-put_row-requires : goal.visit-put_row-requires
 visit-put_row-requires t c =
     let a = c.args in
-    let one = was_charged a.state.now c.charge.ensures.1 (told_yes c.charge.ensures.0 c.if-not-charge.false) c.told-state in
+    let one = was_charged a.state.now c.charge.ensures.1 (told_yes c.charge.ensures.0 c.if-not-charge.false) in
     let q = found_splittable c.requires one.0 one.1 c.first_open.ensures c.in-Some.is in
     pattern_there q
 
 pub visit-bounds-sets-p-2 : goal.visit-bounds-sets-p-2
 visit-bounds-sets-p-2 t c =
     let a = c.args in
-    let one = was_charged a.state.now c.charge.ensures.1 (told_yes c.charge.ensures.0 c.if-not-charge.false) c.told-state in
+    let one = was_charged a.state.now c.charge.ensures.1 (told_yes c.charge.ensures.0 c.if-not-charge.false) in
     let q = found_splittable c.requires one.0 one.1 c.first_open.ensures c.in-Some.is in
     pattern_there q
 
@@ -220,7 +216,7 @@ visit-returns t c =
     let v = c.requires in
     let s = a.state.now in
     let left = told_yes c.charge.ensures.0 c.if-not-charge.false in
-    let one = was_charged s c.charge.ensures.1 left c.told-state in
+    let one = was_charged s c.charge.ensures.1 left in
     let q = found_splittable v one.0 one.1 c.first_open.ensures c.in-Some.is in
     let p = c.in-Some.p in
     let j = c.in-Some.j in
@@ -233,7 +229,7 @@ visit-returns t c =
     let board = board_of (lent_kind a.e.now) (lent_inputs a.e.now) (lent_wires a.e.now) in
     let before = c.charge.new.state in
     let l = c.split.new.state in
-    let ran : Ran (search_part board (budget_in before) (keep R p j 0)) before l = rw (← es) first.3 in
+    let ran : Ran (search_part board before.budget (keep R p j 0)) before l = rw (← es) first.3 in
     let half : Half a.e.now (lent_wires a.e.now) a.sets.now a.masks.now l a.low a.cells p j 1 (with_bit set_there j 1) =
     record {
       lent = q.part.lent;
@@ -244,12 +240,12 @@ visit-returns t c =
       side = omega arith;
       left = refl;
     } in
-    let second : SameRest before c.if-sum_of-state.state × Ran (search_part board (budget_in l) (keep R p j 1)) l c.if-sum_of-state.state =
+    let second : SameRest before c.if-sum_of-state.state × Ran (search_part board l.budget (keep R p j 1)) l c.if-sum_of-state.state =
     elim c.if-sum_of-state.branch [
       | visit-then-sum_of-state w ↦
           let g = w.split-then-sum_of-state.ensures in
-          rw w.state-is (λ i l1 li. g.2 i l1 li ∙ first.2 i l1 li, rw (← es, ← first.0) g.3)
-      | visit-else-sum_of-state w ↦ rw w.state-is (first.2, not_made half ran.long (omega (arith, c.sum_of-2.ensures.0, w.if-sum_of-state.false)))
+          rw w.state-is (λ i li. g.2 i li ∙ first.2 i li, rw (← es, ← first.0) g.3)
+      | visit-else-sum_of-state w ↦ rw w.state-is (first.2, not_made half (omega (arith, c.sum_of-2.ensures.0, w.if-sum_of-state.false)))
     ] in
     let set_back : set c.if-sum_of-state.sets p set_there ≡ set c.split.new.sets p set_there =
     elim c.if-sum_of-state.branch [
@@ -264,12 +260,11 @@ visit-returns t c =
     let r = split_ran board R p j ran second.1 in (
       set_back ∙ first.0 ∙ es,
       c.put_row.ensures ∙ row_put ∙ first.1 ∙ em,
-      λ i l1 li. second.0 i l1 li ∙ one.1 i l1 li,
+      λ i li. second.0 i li ∙ one.1 i li,
       record {
-        long = r.long;
-        state = splits (lent_kind a.e.now) v.carried.sized v.carried.sets (budget_in s) (state_of s) (carried_floor v.carried refl) (lt→nleb _ _ v.under) left (carried_tables v.carried)
+        state = splits (lent_kind a.e.now) v.carried.sized v.carried.sets s.budget (state_of s) (carried_floor v.carried refl) (lt→nleb _ _ v.under) left (carried_tables v.carried)
             c.first_open.ensures c.in-Some.is one.0.state (rw one.0.budget at r).state;
         budget = r.budget ∙ one.0.budget;
-        whole = λ i li. r.whole i li ∙ one.0.whole i li;
+        whole = r.whole ∙ one.0.whole;
       },
     )

@@ -19,10 +19,9 @@ visit-requires c = let b = c in
       whole = whole_itself q.1 w q.2;
       inside = from_there q.1 w q.2 from;
       settled = from_settled q.1 w q.2 from;
-      held = q.3;
       under = omega (arith, c.sum_of.ensures.0, c.if-sum_of-state.true);
     }
 
 pub returns-else-sum_of-state : goal.returns-else-sum_of-state
 returns-else-sum_of-state c = let q = c.requires in
-    not_visited q.1 q.3 c.sum_of.ensures.0 c.if-sum_of-state.false
+    not_visited q.1 c.sum_of.ensures.0 c.if-sum_of-state.false

@@ -1,8 +1,7 @@
 -- `refused_on` meets its contract: the lowest pattern that the section's words refuse.
-use Prim.Native.Nat.{◌+◌, ◌*◌}
+use Prim.Native.Nat.{◌*◌}
 use native.Mathlib.Omega.{arith}
 use Rattle.by_value.specs.Inner.ByValue.{section_words}
-use Rattle.parts.specs.Inner.States.{whole_place}
 use Rattle.visits.proofs.Clearing.{clear, inside_section}
 use Rattle.visits.proofs.conflicts.refused_on.Goals as goal
 
@@ -12,5 +11,5 @@ returns c =
     let r = c.allowing.result in
     record {
       inside = inside_section r c.first_refused.result c.first_refused.ensures;
-      cleared = clear a.state.now a.q (whole_place + section_words * a.q) a.tables r c.requires (omega arith) c.allowing.ensures.1 c.first_refused.result c.first_refused.ensures;
+      cleared = clear a.whole.now a.q (section_words * a.q) a.tables r c.requires (omega arith) c.allowing.ensures.1 c.first_refused.result c.first_refused.ensures;
     }
