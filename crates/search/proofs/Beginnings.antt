@@ -1,6 +1,6 @@
 -- What the state of the search has at its beginning: the first answer as the best so far, and the relation by value.
-use Prim.Native.Nat.{ℕ, ◌+◌, ◌*◌, ◌%◌, ◌^◌, ◌<◌, ◌≤◌}
-use mathlib.Core.Path.{◌≡◌, refl, sym, ap, ◌∙◌}
+use Prim.Native.Nat.{ℕ, ◌+◌, ◌*◌, ◌^◌, ◌<◌, ◌≤◌}
+use mathlib.Core.Path.{◌≡◌, sym, ap, ◌∙◌}
 use mathlib.Core.Logic.{⊎_elim}
 use mathlib.Core.Bool.{Bool, cond}
 use mathlib.Core.List.{List}
@@ -12,7 +12,6 @@ use Rattle.base.proofs.Tests.{cond_has, test_yes}
 use Rattle.sheet.specs.Limits.{max_inputs, max_wires, max_patterns}
 use Rattle.sheet.specs.Inner.Sized.{Sized}
 use Rattle.table.specs.Bits.{tabulate}
-use Rattle.table.proofs.Bits.{tabulate_at}
 use Rattle.table.specs.Inner.Pairs.{narrow_patterns}
 use Rattle.table.specs.Inner.Blocks.{entries}
 use Rattle.nodes.specs.declared.BoardKind.{BoardKind}
@@ -26,7 +25,7 @@ use Rattle.parts.specs.Inner.Parts.{PartSets}
 use Rattle.parts.specs.Inner.Picks.{table_of, tables_of, cells_of}
 use Rattle.parts.specs.declared.states.Running.{Running}
 use Rattle.base.proofs.Tabulate.{filled_tabulate}
-use Rattle.parts.specs.Inner.States.{rest_count, side_at, AtHand}
+use Rattle.parts.specs.Inner.States.{side_at, AtHand}
 use Rattle.parts.proofs.Keeping.{few, table_at, table_lt, cells_byte}
 use Rattle.parts.proofs.Lending.{inputs_few}
 use Rattle.visits.specs.Inner.Conflicts.{Seen}
@@ -37,14 +36,6 @@ use Rattle.visits.proofs.StateChanges.{sides_join}
 pub count_small : {e : List ℕ} → Lent e → get_or e (entries + 2) 0 ≤ max_patterns
 unfolding lent_count
 count_small {e} l = omega (arith, l.count, pow_mono {i = lent_inputs e} {j = max_inputs} (inputs_few l))
-
--- where nothing but zeros stands, no table is at hand
-pub empty_rest : (i : ℕ) → i < rest_count → get_or (tabulate {A = ℕ} rest_count (λ _. 0)) i 0 ≡ 0
-empty_rest i l = tabulate_at rest_count (λ _. 0) i l
-
--- the sections that are put are whole
-pub seen_whole : (wide : Bool) → (cond wide max_patterns narrow_patterns ≤ max_patterns) × (cond wide max_patterns narrow_patterns % narrow_patterns ≡ 0)
-seen_whole wide = cond_has (λ x. (x ≤ max_patterns) × (x % narrow_patterns ≡ 0)) wide (λ _. (omega arith, refl)) (λ _. (omega arith, refl))
 
 -- the words made are those of the relation, on the first section and on a wide board on all
 pub seen_told : {count seen : ℕ} (whole : List ℕ) (n : ℕ) (wide : Bool) (S : List ℕ) → WordsBelow seen (filled count S) whole

@@ -24,7 +24,6 @@ use Rattle.nodes.specs.Counts.{most_inputs}
 use Rattle.nodes.proofs.Counts.{most_inputs_lem}
 use Rattle.branch_bound.specs.Boards.{board_of}
 use Rattle.sheet.specs.Inner.Sized.{Sized}
-use Rattle.parts.specs.Inner.Boards.{lent_kind, lent_inputs, lent_wires}
 use Rattle.parts.specs.Inner.Cells.{cells_sum}
 use Rattle.parts.specs.Inner.Parts.{PartSets, Carried}
 use Rattle.parts.specs.Inner.Picks.{tables_of}
@@ -115,14 +114,3 @@ module _ (kind : BoardKind) (r : Relation) (long : length r.sets ≡ max_pattern
 pub turned_away_lem : (kind : BoardKind) (r : Relation) (budget : ℕ) (f : Refusal) → check_of (most_inputs kind) r ≡ refused_case f → search_of kind r budget ≡ refused_with (refused_case f)
 unfolding search_of search_tested
 turned_away_lem kind r budget f e = rw e
-
--- the board and the sizes that the lent table tells, in place of these themselves
-module _ (e : List ℕ) {kind : BoardKind} {n m : ℕ} (ek : lent_kind e ≡ kind) (en : lent_inputs e ≡ n) (em : lent_wires e ≡ m) where
-  pub entered : {sets : List ℕ} → Sized (most_inputs kind) n m → PartSets n m sets
-      → Sized (most_inputs (lent_kind e)) (lent_inputs e) (lent_wires e) × PartSets (lent_inputs e) (lent_wires e) sets
-  entered z s = rw (ek, en, em) (z, s)
-
-  pub answer_on : (budget : ℕ) (R : Rel) {r : SearchReply}
-      → r ≡ answer_of (board_of (lent_kind e) (lent_inputs e) (lent_wires e)) R (run (board_of (lent_kind e) (lent_inputs e) (lent_wires e)) budget R)
-      → r ≡ answer_of (board_of kind n m) R (run (board_of kind n m) budget R)
-  answer_on budget R h = h ∙ ap (λ b. answer_of b R (run b budget R)) (ap₂ (λ k x. board_of k x (lent_wires e)) ek en ∙ ap (board_of kind n) em)

@@ -1,20 +1,13 @@
 -- `search_sets` meets its contract: the whole relation is the first part, and the first answer the best before it.
 use mathlib.Core.Path.{ap, ◌∙◌}
-use Rattle.table.specs.Bits.{tabulate}
 use Rattle.relation.specs.Tests.{of_sets}
 use Rattle.branch_bound.specs.Boards.{board_of}
 use Rattle.branch_bound.specs.Reply.{answer_of}
 use Rattle.parts.specs.Inner.Boards.{lent_kind, lent_inputs, lent_wires}
 use Rattle.visits.specs.Inner.States.{state_of}
 use Rattle.branches.proofs.Carrying.{carried_floor, carried_fit, carried_back}
-use Rattle.search.proofs.Beginnings.{empty_rest}
 use Rattle.search.proofs.Entry.{started, ran}
 use Rattle.search.proofs.search_sets.Goals as goal
-
-pub whole_part-whole-requires : goal.whole_part-whole-requires
-unfolding tabulate
-whole_part-whole-requires c = let q = c.requires in
-    (q.0, q.1, q.2, empty_rest)
 
 pub search_whole-requires : goal.search_whole-requires
 search_whole-requires c = let q = c.requires in

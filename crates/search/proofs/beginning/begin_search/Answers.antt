@@ -7,7 +7,7 @@ use Rattle.table.specs.Inner.Pairs.{narrow_patterns}
 use Rattle.parts.specs.Inner.Boards.{board_in, lent_inputs, lent_count, lent_wide}
 use Rattle.parts.proofs.Lending.{board_small}
 use Rattle.visits.specs.Inner.States.{state_of}
-use Rattle.search.proofs.Beginnings.{count_small, seen_whole, seen_told}
+use Rattle.search.proofs.Beginnings.{count_small, seen_told}
 use Rattle.search.proofs.beginning.begin_search.Goals as goal
 
 pub overflow_cast-e : goal.overflow_cast-e
@@ -15,9 +15,6 @@ overflow_cast-e c = omega (arith, board_small c.requires)
 
 pub overflow_cast-e-2 : goal.overflow_cast-e-2
 overflow_cast-e-2 c = omega (arith, count_small c.requires)
-
-pub whole_of-whole-requires : goal.whole_of-whole-requires
-whole_of-whole-requires c = rw c.seen_of-seen.ensures (seen_whole c.is_wide.result)
 
 pub returns : goal.returns
 unfolding board_in lent_count state_of

@@ -1,5 +1,5 @@
 use Prim.Native.Nat.{◌<◌, ◌^◌}
-use mathlib.Core.Path.{◌≡◌, ap, ◌∙◌}
+use mathlib.Core.Path.{ap, ◌∙◌}
 use native.Mathlib.Omega.{arith}
 use lib.ListN.{set}
 use Rattle.nodes.specs.Counts.{count_of}
@@ -12,13 +12,6 @@ use Rattle.parts.proofs.WordMasks.{pick_told, alone_tells}
 use Rattle.parts.proofs.Lending.{board_small, inputs_told, inputs_few}
 use Rattle.search.proofs.PickTables.{cells_told, table_told}
 use Rattle.search.proofs.quick_solver.pick_left.Goals as goal
-
-pub returns-then-j-eq0 : goal.returns-then-j-eq0
-returns-then-j-eq0 c = let a = c.args in
-    let q = c.requires in
-    let e : a.j ≡ 0 = c.if-j-eq0.true in
-    let t = q.4 e in
-    rw e (ap (set a.tables.now 0) t.0, t.1 ∙ ap (count_of (lent_kind a.e.now) (lent_inputs a.e.now)) t.0)
 
 pub overflow_cast-board : goal.overflow_cast-board
 overflow_cast-board c = omega (arith, board_small c.requires.0)

@@ -39,9 +39,6 @@ overflow_add-cells c =
     let k = count_few (lent_kind e) (lent_inputs e) (table_of (lent_kind e) (lent_inputs e) l.left l.j) (inputs_few q.0) in
     omega (arith, q.1.m_most, l.invariant.0.few, l.invariant.0.reached, c.pick_left-cells.ensures.1, k)
 
-pub offset_bounds-tables-j : goal.offset_bounds-tables-j
-offset_bounds-tables-j c = omega (arith, wires_small c.args.e.now c.requires.1)
-
 pub bounds-tables-j : goal.bounds-tables-j
 bounds-tables-j c = omega (arith, wires_small c.args.e.now c.requires.1)
 

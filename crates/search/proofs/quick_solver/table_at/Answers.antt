@@ -14,9 +14,3 @@ overflow_add-result c = let a = c.args in
       c.side_in-low.ensures.0,
       joined_fits (a.found % narrow_space) (get_or r 0 0) (get_or r 1 0) (get_or r 2 0) a.j (omega arith) c.requires,
     )
-
-pub returns-then-wide : goal.returns-then-wide
-returns-then-wide c = rw (c.if-wide.true, c.joined.ensures, c.side_in-low.ensures.0)
-
-pub returns : goal.returns
-returns c = rw (c.if-wide.false, c.side_in-low.ensures.0)

@@ -3,14 +3,6 @@ use native.Mathlib.Omega.{arith}
 use Rattle.visits.proofs.Clearing.{later_more, later_found, later_none}
 use Rattle.visits.proofs.conflicts.later_conflict.Goals as goal
 
-pub loop-q-init : goal.loop-q-init
-loop-q-init c n S ts ec seen rest p l h b = absurd (omega arith)
-
-pub returns : goal.returns
-returns c =
-    let l = c.loop-q in
-    later_none c.args.state.now c.args.count l.q c.requires (omega arith) l.invariant
-
 pub returns-in-Some : goal.returns-in-Some
 returns-in-Some c =
     let l = c.loop-q in
