@@ -1,11 +1,9 @@
 -- `read_on` meets its contract: the head judged, then the wires and the end.
-use Rattle.std.proofs.Common.{◌≡◌, ℕ, Bool, true, false, refl, sym, ap, ◌∙◌, arith}
+use Rattle.std.proofs.Common.{◌≡◌, ℕ, Bool, true, false, refl, sym, ap, ◌∙◌}
 use Rattle.sheet.specs.Limits.{sizes_out}
-use Rattle.sheet.proofs.Sizes.{sizes_in}
 use Rattle.nodes.specs.declared.BoardKind.{BoardKind}
 use Rattle.nodes.specs.Counts.{most_inputs}
 use Rattle.diagram.specs.Forms.{form_of, drawing_of}
-use Rattle.nodes.proofs.Counts.{most_inputs_lem}
 use Rattle.diagram.proofs.Forms.{form_most}
 use Rattle.stage_reader.specs.Cases.{stage_reply}
 use Rattle.stage_reader.proofs.Exits.{exit_told}
@@ -48,13 +46,6 @@ returns-then-sizes_out c =
     let m = c.in_ok-m.ensures in
     let out : out_on k c.in_ok-n.n c.in_ok-m.m ≡ true = sym (tested k c.in_ok-n.n c.in_ok-m.m c.most_inputs.ensures c.sizes_out.ensures) ∙ c.if-sizes_out.true in
     replies_refused (drawing_of k) _ _ _ (head_out (form_of k) c.args.s.now _ c.in_ok-due.ensures _ n.0 n.1 _ m.0 m.1 out) c.at.ensures
-
-pub read_wires-requires : goal.read_wires-requires
-read_wires-requires c =
-    let k = c.args.kind in
-    let in_range = sym (tested k c.in_ok-n.n c.in_ok-m.m c.most_inputs.ensures c.sizes_out.ensures) ∙ c.if-sizes_out.false in
-    let z = sizes_in (form_of k).most c.in_ok-n.n c.in_ok-m.m in_range in
-    (omega (arith, z.n_most, form_most k, most_inputs_lem k), z.m_most)
 
 pub returns : goal.returns
 returns c =

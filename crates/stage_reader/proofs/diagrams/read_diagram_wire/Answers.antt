@@ -1,9 +1,6 @@
 -- `read_diagram_wire` meets its contract: its head judged, then the entries and the top.
-use Rattle.std.proofs.Common.{refl, ◌∙◌, ltb, arith}
-use borrow.Author.Tests.{ltb-false}
+use Rattle.std.proofs.Common.{refl, ◌∙◌, arith}
 use Rattle.stage.specs.Steps.{fault}
-use Rattle.stage.proofs.Steps.{turn_is}
-use Rattle.diagram.specs.Diagram.{most_entries}
 use Rattle.diagram.specs.Diagrams.{diagram_drawing}
 use Rattle.diagram.specs.Read.{diagram_known}
 use Rattle.stage_reader.proofs.Places.{judged_stops, judged_goes, due_within}
@@ -37,12 +34,6 @@ returns-in_err-turn c =
     let opens = wire_opens a.s.now a.n a.m a.j a.at _ c.in_ok-due.ensures i.0 count.0 in
     exit_refused diagram_drawing _ _ _ _ _ c.from_residual-in_err-turn.ensures.1
     (opens ∙ judged_stops a.at _ fault _ _ (rw (i.1, count.1) at c.in_err-turn.ensures)) refl
-
-pub read_diagram-requires : goal.read_diagram-requires
-read_diagram-requires c =
-    let a = c.args in
-    let own = turn_is a.m a.j _ (ltb most_entries c.in_ok-count.count) (judged_goes a.at _ _ c.in_ok-turn.ensures) in
-    (c.requires, ltb-false most_entries c.in_ok-count.count own.2)
 
 pub returns : goal.returns
 returns c =
