@@ -55,7 +55,7 @@ pub fn visit(
         return;
     }
     let Some((p, j)) = first_open(e, from, sets, state, low) else {
-        keep(state, low, sum_of(cells));
+        keep(state, low, u64::from(sum_of(cells)));
         return;
     };
     let at = Pattern {
@@ -65,7 +65,7 @@ pub fn visit(
         driven: driven_on(state, low, p),
     };
     split(e, sets, masks, state, low, cells, at, j, 0);
-    if sum_of(cells) < state.cells {
+    if u64::from(sum_of(cells)) < state.cells {
         split(e, sets, masks, state, low, cells, at, j, 1);
     }
     put_row(masks, p, at.row);

@@ -60,7 +60,7 @@ pub fn again(
         let found = pick_at(e, masks, j, state);
         low = put_lane(low, j, side_in(found));
         all = put_cells(all, j, cells_in(found));
-        if state.cells <= sum_of(all) {
+        if state.cells <= u64::from(sum_of(all)) {
             return None;
         }
         left = without_lowest(left);

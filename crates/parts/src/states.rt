@@ -17,11 +17,11 @@ pub const RESTS: usize = SECTIONS as usize - 1;
 pub struct Running {
     // The best tables so far, side by side on each section, and their cells.
     pub best: [u64; SECTIONS as usize],
-    pub cells: u32,
+    pub cells: u64,
     // The visits charged, whether a part was left, and the budget.
-    pub visits: u32,
+    pub visits: u64,
     pub left: bool,
-    pub budget: u32,
+    pub budget: u64,
     // The tables of the part at hand on the sections past the first, side by side.
     pub rest: [u64; RESTS],
     // The whole relation by value.

@@ -31,7 +31,7 @@ use table::wide::SECTION;
 use visits::states::{begin, joined, put_back, rest_of};
 
 // Above the cells of all wires together: with so many for the best, every pick is made.
-const NO_BEST: u32 = CELLS_1 as u32;
+const NO_BEST: u64 = CELLS_1;
 
 // The whole relation as the first part: the masks of its wires, its picks on the first section, and their cells.
 #[derive(Clone, Copy)]
@@ -72,7 +72,7 @@ fn keep_tables(tables: [u64; Sheet::WIRES], cells: u32, state: &mut Running)
         side_by_side(&tables, 2),
         side_by_side(&tables, 3),
     ];
-    state.cells = cells;
+    state.cells = u64::from(cells);
 }
 
 // The first answer is kept as the best so far. Its picks change the tables of the part at hand, which are put back.

@@ -71,7 +71,7 @@ fn search_whole(
 {
     let mut own = sets;
     let mut own_masks = masks;
-    if sum_of(cells) < state.cells {
+    if u64::from(sum_of(cells)) < state.cells {
         let from = first_conflict(e, state, low);
         branches::visit(e, &mut own, &mut own_masks, state, low, cells, from);
     }
@@ -82,8 +82,8 @@ fn reply(state: &Running, floor: u64) -> Answer
     ensures { (b : Board) → (R : Rel) → floor ≡ floor_of b R → answer_told result ≡ answer_of b R (state_of state.now) }
 {
     let tables = tables_in(state);
-    let cells = u64::from(state.cells);
-    let visits = u64::from(state.visits);
+    let cells = state.cells;
+    let visits = state.visits;
     if state.left {
         Answer {
             tables,
@@ -115,7 +115,7 @@ fn search_sets(e: &[u32; LENT], sets: [u16; Sheet::MAX_PATTERNS], budget: u32) -
         cells: 0,
         visits: 0,
         left: false,
-        budget,
+        budget: u64::from(budget),
         rest: [0; RESTS],
         whole: [0; VALUE_WORDS],
     };

@@ -36,7 +36,7 @@ pub fn charge(state: &mut Running) -> bool
 }
 
 // The best so far are the tables of the part at hand, with so many cells.
-pub fn keep(state: &mut Running, low: u64, cells: u32)
+pub fn keep(state: &mut Running, low: u64, cells: u64)
     ensures { state.new ≡ kept_best state.old low cells }
 {
     state.best = [low, state.rest[0], state.rest[1], state.rest[2]];
@@ -84,6 +84,6 @@ pub fn begin(state: &mut Running, budget: u32, whole: &[u64; by_value::VALUE_WOR
 {
     state.visits = 0;
     state.left = false;
-    state.budget = budget;
+    state.budget = u64::from(budget);
     state.whole = *whole;
 }

@@ -30,7 +30,7 @@ use Rattle.branches.proofs.Treated.{part_fewer, Tried, treated, not_made, split_
 use Rattle.branches.proofs.Ready.{driven_told, asked, ready}
 use Rattle.branches.proofs.Kept.{pattern_there, found_splittable, still_splittable, half_of, sets_are, masks_are, lost_told}
 use Rattle.branches.proofs.+split_visit.Goals as goal
-use Rattle.branches.proofs.+split_visit.Goals.{split-in-Some, split-in_default, visit-then-sum_of-state, visit-else-sum_of-state}
+use Rattle.branches.proofs.+split_visit.Goals.{split-in-Some, split-in_default, visit-then-from-state, visit-else-from-state}
 
 pub split-overflow_cast-e : goal.split-overflow_cast-e
 split-overflow_cast-e t c = omega (arith, board_small c.requires.0.part.lent)
@@ -132,7 +132,8 @@ visit-returns-in_default t c =
     let left = told_yes c.charge.ensures.0 c.if-not-charge.false in
     let one = was_charged s c.charge.ensures.1 left in
     let h = carried_back q.carried one.1 in
-    let f = c.sum_of.result in
+    let f = c.from.result in
+    let told = c.from.ensures ∙ c.sum_of.ensures.0 in
     let ts = tables_of (lent_kind a.e.now) (lent_inputs a.e.now) a.sets.now in
     let r : Ran (improved ts f) c.charge.new.state c.keep.new.state = rw c.keep.ensures (kept_ran c.charge.new.state ts a.low f h.tables (tables_long h) (tables_small h)) in
     let same : SameRest c.charge.new.state c.keep.new.state = rw c.keep.ensures (λ i _. refl) in (
@@ -140,8 +141,8 @@ visit-returns-in_default t c =
       refl,
       λ i li. same i li ∙ one.1 i li,
       record {
-        state = improves (lent_kind a.e.now) q.carried.sized q.carried.sets s.budget (state_of s) (carried_floor q.carried c.sum_of.ensures.0)
-            (rw c.sum_of.ensures.0 (lt→nleb _ _ q.under)) left (carried_tables q.carried) c.first_open.ensures c.in_default.is (r.state ∙ ap (improved ts f) one.0.state);
+        state = improves (lent_kind a.e.now) q.carried.sized q.carried.sets s.budget (state_of s) (carried_floor q.carried told)
+            (rw told (lt→nleb _ _ q.under)) left (carried_tables q.carried) c.first_open.ensures c.in_default.is (r.state ∙ ap (improved ts f) one.0.state);
         budget = r.budget ∙ one.0.budget;
         whole = r.whole ∙ one.0.whole;
       },
@@ -182,8 +183,8 @@ visit-split-requires t c =
 pub visit-sum_of-requires-2 : goal.visit-sum_of-requires-2
 visit-sum_of-requires-2 t c = carried_fit c.requires.carried
 
-pub visit-split-requires-then-sum_of-state : goal.visit-split-requires-then-sum_of-state
-visit-split-requires-then-sum_of-state t c =
+pub visit-split-requires-then-from-state : goal.visit-split-requires-then-from-state
+visit-split-requires-then-from-state t c =
     let a = c.args in
     let one = was_charged a.state.now c.charge.ensures.1 (told_yes c.charge.ensures.0 c.if-not-charge.false) in
     let q = found_splittable c.requires one.0 one.1 c.first_open.ensures c.in-Some.is in
@@ -240,22 +241,22 @@ visit-returns t c =
       side = omega arith;
       left = refl;
     } in
-    let second : SameRest before c.if-sum_of-state.state × Ran (search_part board l.budget (keep R p j 1)) l c.if-sum_of-state.state =
-    elim c.if-sum_of-state.branch [
-      | visit-then-sum_of-state w ↦
-          let g = w.split-then-sum_of-state.ensures in
+    let second : SameRest before c.if-from-state.state × Ran (search_part board l.budget (keep R p j 1)) l c.if-from-state.state =
+    elim c.if-from-state.branch [
+      | visit-then-from-state w ↦
+          let g = w.split-then-from-state.ensures in
           rw w.state-is (λ i li. g.2 i li ∙ first.2 i li, rw (← es, ← first.0) g.3)
-      | visit-else-sum_of-state w ↦ rw w.state-is (first.2, not_made half (omega (arith, c.sum_of-2.ensures.0, w.if-sum_of-state.false)))
+      | visit-else-from-state w ↦ rw w.state-is (first.2, not_made half (omega (arith, c.sum_of-2.ensures.0, w.if-from-state.false)))
     ] in
-    let set_back : set c.if-sum_of-state.sets p set_there ≡ set c.split.new.sets p set_there =
-    elim c.if-sum_of-state.branch [
-      | visit-then-sum_of-state w ↦ ap (λ x. set x p set_there) w.sets-is ∙ w.split-then-sum_of-state.ensures.0
-      | visit-else-sum_of-state w ↦ ap (λ x. set x p set_there) w.sets-is
+    let set_back : set c.if-from-state.sets p set_there ≡ set c.split.new.sets p set_there =
+    elim c.if-from-state.branch [
+      | visit-then-from-state w ↦ ap (λ x. set x p set_there) w.sets-is ∙ w.split-then-from-state.ensures.0
+      | visit-else-from-state w ↦ ap (λ x. set x p set_there) w.sets-is
     ] in
-    let row_put : with_lanes c.if-sum_of-state.masks k c.row_of.result ≡ with_lanes c.split.new.masks k c.row_of.result =
-    elim c.if-sum_of-state.branch [
-      | visit-then-sum_of-state w ↦ ap (λ x. with_lanes x k c.row_of.result) w.masks-is ∙ w.split-then-sum_of-state.ensures.1
-      | visit-else-sum_of-state w ↦ ap (λ x. with_lanes x k c.row_of.result) w.masks-is
+    let row_put : with_lanes c.if-from-state.masks k c.row_of.result ≡ with_lanes c.split.new.masks k c.row_of.result =
+    elim c.if-from-state.branch [
+      | visit-then-from-state w ↦ ap (λ x. with_lanes x k c.row_of.result) w.masks-is ∙ w.split-then-from-state.ensures.1
+      | visit-else-from-state w ↦ ap (λ x. with_lanes x k c.row_of.result) w.masks-is
     ] in
     let r = split_ran board R p j ran second.1 in (
       set_back ∙ first.0 ∙ es,

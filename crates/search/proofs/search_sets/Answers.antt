@@ -26,5 +26,5 @@ returns c = let a = c.args in
     let w = c.whole_part-whole.ensures in
     let k = c.keep_first.ensures in
     let s = c.begin_search.ensures in
-    c.reply.ensures b R (carried_floor w (c.from.ensures ∙ c.sum_of.ensures.0))
+    c.reply.ensures b R (carried_floor w (c.from-2.ensures ∙ c.sum_of.ensures.0))
     ∙ ap (answer_of b R) (ran b R c.search_whole.ensures s.0 (started b R (state_of c.keep_first.new.state) s.2 k.1 k.2))

@@ -1,4 +1,5 @@
 -- `search_whole` treats the whole relation as the first part.
+use mathlib.Core.Path.{◌∙◌}
 use native.Mathlib.Omega.{arith}
 use Rattle.parts.specs.Inner.Boards.{lent_wide}
 use Rattle.branches.proofs.Carrying.{carried_fit}
@@ -19,9 +20,9 @@ visit-requires c = let b = c in
       whole = whole_itself q.1 w q.2;
       inside = from_there q.1 w q.2 from;
       settled = from_settled q.1 w q.2 from;
-      under = omega (arith, c.sum_of.ensures.0, c.if-sum_of-state.true);
+      under = omega (arith, c.sum_of.ensures.0, c.if-from-state.true);
     }
 
-pub returns-else-sum_of-state : goal.returns-else-sum_of-state
-returns-else-sum_of-state c = let q = c.requires in
-    not_visited q.1 c.sum_of.ensures.0 c.if-sum_of-state.false
+pub returns-else-from-state : goal.returns-else-from-state
+returns-else-from-state c = let q = c.requires in
+    not_visited q.1 (c.from.ensures ∙ c.sum_of.ensures.0) c.if-from-state.false

@@ -29,8 +29,8 @@ sum_of-requires c =
     let h = wire_made _ _ _ _ _ _ q.0 q.5 l.invariant.0 (omega arith) c.lowest_wire-j.ensures.0 f.0 f.1 c.side_in.ensures.0 c.put_lane-low.ensures c.cells_in.ensures c.put_cells-all.ensures refl in
     now_fit _ _ _ _ _ _ q.0 q.5 h
 
-pub returns-then-state-sum_of : goal.returns-then-state-sum_of
-returns-then-state-sum_of c =
+pub returns-then-state-from : goal.returns-then-state-from
+returns-then-state-from c =
     let q = c.requires in
     let l = c.loop-left in
     let f = c.pick_at-found.ensures in

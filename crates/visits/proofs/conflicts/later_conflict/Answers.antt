@@ -1,6 +1,6 @@
 -- `later_conflict` meets its contract: a section without conflict is passed, the first conflict found.
 use native.Mathlib.Omega.{arith}
-use Rattle.visits.proofs.Clearing.{later_more, later_found, later_none}
+use Rattle.visits.proofs.Clearing.{later_more, later_found}
 use Rattle.visits.proofs.conflicts.later_conflict.Goals as goal
 
 pub returns-in-Some : goal.returns-in-Some
