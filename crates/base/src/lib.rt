@@ -4,7 +4,7 @@
 ghost use Rattle.std.specs.Prelude.{◌≡◌, get_or, set};
 ghost use Rattle.base.specs.Refusals.{refusal_at};
 
-// A refusal: document 01's number, and the place that it names.
+// A refusal: document 01's number, and the place that it names. A number and no enum, since `Refusal::at` answers for every number and the C interface hands them on.
 #[derive(Clone, Copy)]
 pub struct Refusal {
     pub number: u8,

@@ -1,14 +1,14 @@
 -- What is carried of a part tells its floor, its tables and the patterns that there are.
-use Prim.Native.Nat.{ℕ, ◌^◌, ◌<◌}
+use Prim.Native.Nat.{ℕ, zero, suc, ◌^◌, ◌<◌}
 use mathlib.Core.Path.{◌≡◌, sym, ap, subst, ◌∙◌}
 use mathlib.Core.Logic.{⊎_elim}
-use mathlib.Core.Bool.{cond}
 use mathlib.Core.List.{List}
 use native.Mathlib.Nat.{lt_of_lt_of_le}
 use native.Mathlib.Nat.{le_trans}
-use lib.Dec.{eqb, leb, leb→le, nleb→lt}
+use native.Mathlib.Omega.{arith}
+use lib.Dec.{leb, leb→le, nleb→lt}
 use lib.ListN.{length, get_or, get_or-eq_default}
-use Rattle.base.proofs.Tests.{decide, test_yes, test_no}
+use Rattle.base.proofs.Tests.{decide}
 use lib.Pow.{pow_mono, pow_pos}
 use Rattle.sheet.specs.Limits.{max_inputs, max_wires, max_patterns}
 use Rattle.table.proofs.Bits.{tabulate_length}
@@ -22,12 +22,14 @@ use Rattle.sheet.specs.Inner.Sized.{Sized}
 use Rattle.parts.specs.Inner.Cells.{cell_space, cells_sum}
 use Rattle.parts.specs.Inner.Picks.{table_of, tables_of}
 use Rattle.parts.specs.Inner.Parts.{Carried}
-use Rattle.parts.specs.Inner.States.{rest_place, side_at}
-use Rattle.parts.proofs.Keeping.{few, table_at, table_lt, cells_fit, kept_tables, kept_floor}
+use Rattle.parts.specs.declared.states.Running.{Running}
+use Rattle.table.specs.Inner.Wide.{sections}
+use Rattle.relation.specs.Inner.Side.{side_by_side}
+use Rattle.parts.specs.Inner.States.{side_at}
 use Rattle.visits.specs.Inner.States.{SameRest}
-use Rattle.halves.proofs.Making.{past_zero}
+use Rattle.parts.proofs.Keeping.{few, table_at, table_lt, cells_fit, kept_tables, kept_floor}
 
-module _ {kind : BoardKind} {n m : ℕ} {S ws l : List ℕ} {low c : ℕ} (h : Carried kind n m S ws l low c) where
+module _ {kind : BoardKind} {n m : ℕ} {S ws : List ℕ} {l : Running} {low c : ℕ} (h : Carried kind n m S ws l low c) where
   pub carried_floor : {f : ℕ} → f ≡ cells_sum c → f ≡ floor (board_of kind n m) (of_sets S)
   carried_floor e = e ∙ ap cells_sum h.cells ∙ kept_floor kind h.sized h.sets
 
@@ -51,7 +53,7 @@ module _ {kind : BoardKind} {n m : ℕ} {S ws l : List ℕ} {low c : ℕ} (h : C
       (decide (leb max_wires j))
 
   -- the same part, once the tables at hand are put back
-  pub carried_back : {l' : List ℕ} → SameRest l l' → Carried kind n m S ws l' low c
+  pub carried_back : {l' : Running} → SameRest l l' → Carried kind n m S ws l' low c
   unfolding side_at
   carried_back {l'} same =
       record {
@@ -60,15 +62,13 @@ module _ {kind : BoardKind} {n m : ℕ} {S ws l : List ℕ} {low c : ℕ} (h : C
         long = h.long;
         halved = h.halved;
         masks = h.masks;
-        tables = λ q lq.
-            ⊎_elim
-            (λ z. ap (λ y. cond y low (get_or l' (rest_place q) 0)) (test_yes (eqb q 0) z) ∙ sym (ap (λ y. cond y low (get_or l (rest_place q) 0)) (test_yes (eqb q 0) z)) ∙ h.tables q lq)
-            (λ z.
-            ap (λ y. cond y low (get_or l' (rest_place q) 0)) (test_no (eqb q 0) z) ∙ same q (past_zero q z) lq
-            ∙ sym (ap (λ y. cond y low (get_or l (rest_place q) 0)) (test_no (eqb q 0) z)) ∙ h.tables q lq)
-            (decide (eqb q 0));
+        tables = at_hand;
         cells = h.cells;
       }
+    where
+      at_hand : (q : ℕ) → q < sections → side_at low l' q ≡ side_by_side (tables_of kind n S) q
+      at_hand zero lq = h.tables zero lq
+      at_hand (suc i) lq = same i (omega arith) ∙ h.tables (suc i) lq
 
 pub pattern_lt : (kind : BoardKind) {n m p : ℕ} → Sized (most_inputs kind) n m → p < 2 ^ n → p < max_patterns
 pattern_lt kind {n} sz l = lt_of_lt_of_le l (pow_mono {i = n} {j = max_inputs} (le_trans sz.n_most (most_inputs_lem kind)))

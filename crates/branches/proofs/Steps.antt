@@ -14,8 +14,7 @@ use Rattle.nodes.specs.declared.BoardKind.{BoardKind}
 use Rattle.nodes.specs.Counts.{most_inputs}
 use Rattle.branch_bound.specs.Boards.{board_of}
 use Rattle.branch_bound.proofs.Depth.{search_step}
-use Rattle.visits.specs.declared.SplitPlace.{SplitPlace}
-use Rattle.visits.specs.declared.SplitPlace.TheVariants.{Pair, Nowhere}
+use Rattle.std.specs.Prelude.{Option, Some, None}
 use Rattle.parts.specs.Inner.Parts.{PartSets}
 use Rattle.visits.specs.Inner.Conflicts.{split_place}
 use Rattle.visits.proofs.Opening.{found_nowhere, place_told}
@@ -40,14 +39,14 @@ module _ (kind : BoardKind) {n m : ℕ} (sz : Sized (most_inputs kind) n m) {S :
       expands = rw (← ef, test_no (discarded s f) more, test_no (used_up budget s) left)
 
       -- where the code splits
-      module _ {ts : List ℕ} (et : ts ≡ picks (board_of kind n m) (of_sets S)) {found : SplitPlace} (ep : found ≡ split_place n m (of_sets S) (wires ts)) {u : State} where
-        pub improves : found ≡ Nowhere → u ≡ improved ts f (charged s) → u ≡ search_part (board_of kind n m) budget (of_sets S) s
+      module _ {ts : List ℕ} (et : ts ≡ picks (board_of kind n m) (of_sets S)) {found : Option (ℕ × ℕ)} (ep : found ≡ split_place n m (of_sets S) (wires ts)) {u : State} where
+        pub improves : found ≡ None → u ≡ improved ts f (charged s) → u ≡ search_part (board_of kind n m) budget (of_sets S) s
         unfolding expand board_of
         improves e eu =
             let t = test_yes (compatible n m (of_sets S) (wires ts)) (found_nowhere n m (of_sets S) (wires ts) (sym ep ∙ e)) in
             eu ∙ sym (step ∙ expands ∙ rw (← et, t, ← ef))
 
-        pub splits : {p j : ℕ} → found ≡ Pair p j → {v : State} → v ≡ charged s
+        pub splits : {p j : ℕ} → found ≡ Some (p, j) → {v : State} → v ≡ charged s
             → u ≡ split (board_of kind n m) budget (search_part (board_of kind n m) budget) (of_sets S) p j v → u ≡ search_part (board_of kind n m) budget (of_sets S) s
         unfolding expand board_of
         splits {p} {j} e ev eu =

@@ -13,7 +13,7 @@ use Rattle.base.proofs.Tests.{decide, eq_test}
 use Rattle.std.specs.Prelude.{Some, None}
 use borrow.Author.Tests.{lt-ltb}
 use Rattle.base.specs.Lowest.{lowest}
-use Rattle.base.proofs.Lowest.{lowest_at, lowest_or, lowest_is, first_none}
+use Rattle.base.proofs.Lowest.{lowest_at, lowest_or, lowest_is, first_none, some_lowest}
 use Rattle.table.specs.Bits.{bit}
 use Rattle.table.specs.Inner.Pairs.{narrow_patterns}
 use Rattle.table.specs.Inner.Ranks.{narrow_space}
@@ -64,6 +64,10 @@ pub all_fine : (fine : ℕ) → fine ≡ every → first_refused fine ≡ None
 all_fine fine e =
     first_none narrow_patterns (refuses fine)
     (λ p l. not_T (refuses fine p) (λ t. let z = eqb→eq (bit fine p) 0 t in omega (arith, every_bit p l, ap (λ x. bit x p) e)))
+
+-- one that is refused is a pattern of the section
+pub refused_inside : (fine i : ℕ) → first_refused fine ≡ Some i → i < narrow_patterns
+refused_inside fine i e = omega (arith, some_lowest narrow_patterns (refuses fine) i e)
 
 module _ (fine : ℕ) (lf : fine < narrow_space) (ne : fine ≡ every → ⊥) where
   -- some pattern is refused

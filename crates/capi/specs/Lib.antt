@@ -1,3 +1,2 @@
 -- What the exported calls tell: a refusal's number, and six numbers.
 pub mod Numbers
-pub mod Inner

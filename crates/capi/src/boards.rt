@@ -7,8 +7,8 @@ ghost use Rattle.quote.specs.Promised.{Promised};
 ghost use Rattle.quote.specs.Audit.{audited_of};
 ghost use Rattle.capi.specs.Numbers.{quote_numbers, search_handed, search_numbers, tables_after, audit_numbers};
 
-use crate::told::{audit_told, audited_cells, mark_told};
-use crate::{REPLY_NUMBERS, told};
+use crate::REPLY_NUMBERS;
+use crate::told::{REFUSED, audit_told, outcome_of, quote_told, tell_refusal};
 use nodes::BoardKind;
 use quote::{audit_on, quote_on};
 use relation::Relation;
@@ -30,22 +30,22 @@ pub fn search_numbers(
     ensures tables { tables.new ≡ tables_after (search_handed kind n m sets.now budget) tables.old }
 {
     let copy = *sets;
-    let answer = search_on(kind, Relation { n, m, sets: copy }, budget);
-    let mark = answer.mark;
-    let told = mark_told(mark);
-    let found = answer.tables;
-    if told.outcome < told::REFUSED {
-        *tables = found;
+    match search_on(kind, Relation { n, m, sets: copy }, budget) {
+        Ok(answer) => {
+            let found = answer.tables;
+            *tables = found;
+            *reply = [
+                outcome_of(answer.mark),
+                answer.cells,
+                answer.floor,
+                answer.visits,
+                0,
+                0,
+            ];
+            0
+        }
+        Err(refusal) => tell_refusal(REFUSED, refusal, reply),
     }
-    *reply = [
-        told.outcome,
-        answer.cells,
-        answer.floor,
-        answer.visits,
-        0,
-        told.place,
-    ];
-    told.number
 }
 
 // The quote of a unit sheet. A refusal leaves `buffer` as it was.
@@ -63,17 +63,7 @@ pub fn quote_numbers(
         buffer.new }
 {
     let quoted = quote_on(kind, sheet, budget, buffer);
-    let mark = quoted.mark;
-    let told = mark_told(mark);
-    *reply = [
-        told.outcome,
-        quoted.cells,
-        quoted.floor,
-        quoted.visits,
-        quoted.length as u64,
-        told.place,
-    ];
-    told.number
+    quote_told(quoted, reply)
 }
 
 // The audit of a stage sheet against a unit sheet.
@@ -87,8 +77,5 @@ pub fn audit_numbers(
     ensures numbers { reply.new ≡ audit_numbers (audited_of kind sheet.now stage.now) }
 {
     let audited = audit_on(kind, sheet, stage);
-    let told = audit_told(audited);
-    let cells = audited_cells(audited);
-    *reply = [told.outcome, cells as u64, 0, 0, 0, told.place];
-    told.number
+    audit_told(audited, reply)
 }

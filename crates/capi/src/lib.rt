@@ -19,10 +19,10 @@ use clean::clean;
 use joined::quote_joined;
 use nodes::BoardKind;
 use sheet::Sheet;
-use told::{joint_told, written_length, written_told};
+use told::{joint_told, written_told};
 
 mod boards; // what both boards have, as numbers
-mod told; // a case of an answer as numbers
+mod told; // a reply as numbers
 
 // The numbers of a reply: outcome, cells, floor, visits, length of what was written, place of the refusal; 0 where a call has no such number.
 pub const REPLY_NUMBERS: usize = 6;
@@ -106,17 +106,7 @@ pub fn dagmetzi_quote_joined(
         (joint_quoted first.now second.now budget (length buffer.old)) buffer.new }
 {
     let quoted = quote_joined(first, second, budget, buffer);
-    let mark = quoted.mark;
-    let told = joint_told(mark);
-    *reply = [
-        told.outcome,
-        quoted.cells,
-        quoted.floor,
-        quoted.visits,
-        quoted.length as u64,
-        told.place,
-    ];
-    told.number
+    joint_told(quoted, reply)
 }
 
 // The audit of a stage sheet against a unit sheet. The refusal's number, or 0.
@@ -143,8 +133,5 @@ pub fn dagmetzi_clean(sheet: &[u8], buffer: &mut [u8], reply: &mut [u64; REPLY_N
     ensures copy { CleanPromise sheet.now (cleaned_of sheet.now (length buffer.old)) buffer.new }
 {
     let written = clean(sheet, buffer);
-    let told = written_told(written);
-    let length = written_length(written);
-    *reply = [told.outcome, 0, 0, 0, length as u64, told.place];
-    told.number
+    written_told(written, reply)
 }

@@ -1,11 +1,10 @@
 -- Laws of a copy put into a buffer section by section.
-use Prim.Native.Nat.{ℕ, ◌+◌, ◌*◌, ◌^◌}
+use Prim.Native.Nat.{ℕ, ◌+◌, ◌^◌}
 use mathlib.Core.Path.{◌≡◌, refl}
 use mathlib.Core.List.{List, [], ◌∷◌, ◌++◌, append-nil}
 use native.Mathlib.Numerals.{add-one}
-use native.Mathlib.Omega.{arith}
 use lib.Seq.{sets}
-use Rattle.base.specs.Inner.Put.{Put, PutWithin}
+use Rattle.base.specs.Inner.Put.{Put}
 use Rattle.base.proofs.Stores.{put_none, put_then}
 use Rattle.sheet.specs.declared.Command.{Command}
 use Rattle.sheet.specs.declared.Command.TheVariants.{End, Sizes}
@@ -13,7 +12,6 @@ use Rattle.sheet.specs.declared.Sheet.{Sheet}
 use Rattle.sheet.specs.Bytes.{command_bytes, bytes_of}
 use Rattle.sheet.specs.Commands.{collect}
 use Rattle.sheet.proofs.Lists.{collect_append}
-use Rattle.writer.specs.Inner.Widths.{longest_command}
 use Rattle.clean.specs.Copy.{listed, copy_mark, copy_limit, copy_gate, copy_output, copy_commands, copy_bytes}
 use Rattle.clean.proofs.Saying.{to_sizes, to_marks, to_limits, to_gates, to_outputs}
 
@@ -32,14 +30,14 @@ then_put : {l b c : List ℕ} {at next r : ℕ} (xs ys : List Command) → Put l
 then_put xs ys p q = rw (collect_append command_bytes xs ys) (put_then p q)
 
 -- no piece yet, and one piece more
-pub no_pieces : (l : List ℕ) (at : ℕ) (f : ℕ → List Command) → PutWithin (longest_command * 0) l at (bytes_of (listed 0 f)) l at
+pub no_pieces : (l : List ℕ) (at : ℕ) (f : ℕ → List Command) → Put l at (bytes_of (listed 0 f)) l at
 unfolding listed collect
-no_pieces l at f = record { put = put_none; short = omega arith }
+no_pieces l at f = put_none
 
-pub one_more : {l b c : List ℕ} {at next r : ℕ} (f : ℕ → List Command) (i : ℕ) → PutWithin (longest_command * i) l at (bytes_of (listed i f)) b next
-    → PutWithin longest_command b next (bytes_of (f i)) c r → PutWithin (longest_command * (i + 1)) l at (bytes_of (listed (i + 1) f)) c r
+pub one_more : {l b c : List ℕ} {at next r : ℕ} (f : ℕ → List Command) (i : ℕ) → Put l at (bytes_of (listed i f)) b next
+    → Put b next (bytes_of (f i)) c r → Put l at (bytes_of (listed (i + 1) f)) c r
 unfolding listed
-one_more f i p q = record { put = rw (add-one i) (then_put (listed i f) (f i) p.put q.put); short = omega (arith, p.short, q.short) }
+one_more f i p q = rw (add-one i) (then_put (listed i f) (f i) p q)
 
 -- the sections of a copy, one after the other
 pub copy_put : {l b1 b2 b3 b4 b5 c : List ℕ} {r1 r2 r3 r4 r5 r : ℕ} (h : Sheet) (patterns : ℕ) → patterns ≡ 2 ^ h.n

@@ -2,7 +2,7 @@
 use Prim.Native.Nat.{ℕ, ◌+◌, ◌*◌, ◌/◌, ◌%◌, ◌-◌, ◌^◌, ◌<◌, ◌≤◌}
 use mathlib.Core.Path.{◌≡◌, refl, sym, ap, ap₂, subst, ◌∙◌}
 use mathlib.Core.Logic.{⊎_elim}
-use mathlib.Core.Bool.{not, cond}
+use mathlib.Core.Bool.{cond}
 use mathlib.Core.List.{List}
 use native.Mathlib.Omega.{arith}
 use native.Mathlib.Nat.{le_refl, le_trans, lt_of_lt_of_le, div-eq_of_lt, div-div-eq-div-mul, mod-eq_of_lt, mod-lt}
@@ -17,7 +17,6 @@ use Rattle.table.specs.Bits.{sum}
 use Rattle.table.proofs.Bits.{sum_cong}
 use Rattle.table.proofs.Sums.{sum_le, sum_bound}
 use Rattle.table.specs.Inner.Ranks.{narrow_space}
-use Rattle.table.specs.Inner.Wide.{sections}
 use Rattle.relation.specs.Inner.Side.{section}
 use Rattle.relation.proofs.Side.{section_lt}
 use Rattle.lanes.specs.Inner.Lanes.{lane_bits, lane_space, lanes_space, lane_of, lanes_of, put_lane, first_wire, LanesBelow}
@@ -26,13 +25,14 @@ use Rattle.lanes.proofs.First.{first_lt}
 use Rattle.parts.specs.Inner.Boards.{lent_kind, lent_inputs, lent_wide, Lent}
 use Rattle.parts.specs.Inner.Cells.{cell_space, byte_in, put_cells, packed, cells_sum}
 use Rattle.parts.specs.Inner.Picks.{pick_on, cells_on, side_rank}
-use Rattle.parts.specs.Inner.States.{cells_place, rest_place, SameBut, PutRest}
+use Rattle.parts.specs.declared.states.Running.{Running}
+use Rattle.parts.specs.Inner.States.{rest_count, SameBut, PutRest}
 use Rattle.parts.proofs.CellBytes.{packed_lt, packed_byte, packed_put}
 use Rattle.parts.proofs.Keeping.{count_few, count_byte}
 use Rattle.parts.proofs.LentPicks.{lent_few}
 use Rattle.visits.proofs.StateChanges.{but_trans}
-use Rattle.halves.specs.declared.Picks.{Picks}
-use Rattle.halves.specs.Inner.Remade.{marked, FewCells, cells_again, side_again, Remade}
+use Rattle.std.specs.Prelude.{Some, None}
+use Rattle.halves.specs.Inner.Remade.{marked, FewCells, cells_again, side_again, Kept, Remade}
 
 -- cells are what their bytes make: digit by digit
 digit : (x : ℕ) → x % cell_space + x / cell_space * cell_space ≡ x
@@ -69,7 +69,7 @@ pub lane_zero : (j : ℕ) → lane_of 0 j ≡ 0
 unfolding lane_of
 lane_zero j = ap (λ y. y % lane_space) (div-eq_of_lt (pow_pos (lane_bits * j)))
 
-module _ (e words : List ℕ) (wires tables cells : ℕ) (before : List ℕ) where
+module _ (e words : List ℕ) (wires tables cells : ℕ) (before : Running) where
   -- wire j's table on section q, and its cells, while the wires of `left` are not made yet
   abbrev side_now : (left side q j : ℕ) → ℕ
   side_now left side q j = cond (marked left j) (lane_of side j) (side_again e words wires side q j)
@@ -77,14 +77,13 @@ module _ (e words : List ℕ) (wires tables cells : ℕ) (before : List ℕ) whe
   abbrev cells_now : (left j : ℕ) → ℕ
   cells_now left j = cond (marked left j) (byte_in cells j) (cells_again e words wires cells j)
 
-  pub record Partly (state : List ℕ) (left low all : ℕ) : Type 0 where
+  pub record Partly (state : Running) (left low all : ℕ) : Type 0 where
     pub but : SameBut before state
     pub bits : LanesBelow 2 left
     pub within : left < lanes_space
     pub among : (j : ℕ) → j < max_wires → T (marked left j) → T (marked wires j)
     pub sides : low ≡ lanes_of (side_now left tables 0)
-    pub rest : (q : ℕ) → 1 ≤ q → q < sections
-        → get_or state (rest_place q) 0 ≡ cond (lent_wide e) (lanes_of (side_now left (get_or before (rest_place q) 0) q)) (get_or before (rest_place q) 0)
+    pub rest : (i : ℕ) → i < rest_count → get_or state.rest i 0 ≡ cond (lent_wide e) (lanes_of (side_now left (get_or before.rest i 0) (i + 1))) (get_or before.rest i 0)
     pub counts : all ≡ packed (cells_now left)
 
   side_small : (left side q j : ℕ) → side_now left side q j < lane_space
@@ -99,19 +98,20 @@ module _ (e words : List ℕ) (wires tables cells : ℕ) (before : List ℕ) whe
   cells_first : (j : ℕ) → byte_in cells j ≡ cells_now wires j
   cells_first j = cond_has (λ x. byte_in cells j ≡ x) (marked wires j) (λ _. refl) (λ t. sym (ap (λ y. cond y (cells_on e words j) (byte_in cells j)) (test_no (marked wires j) t)))
 
-  pub none_yet : LanesBelow 2 wires → wires < lanes_space → tables < lanes_space → FewCells cells → SameBut before before → ((q : ℕ) → 1 ≤ q → q < sections → get_or before (rest_place q) 0 < lanes_space)
+  pub none_yet : LanesBelow 2 wires → wires < lanes_space → tables < lanes_space → FewCells cells → ((i : ℕ) → i < rest_count → get_or before.rest i 0 < lanes_space)
       → Partly before wires tables cells
   unfolding packed
-  none_yet bits within lt few but fit =
+  none_yet bits within lt few fit =
       record {
-        but = but;
+        but = record { is = refl };
         bits = bits;
         within = within;
         among = λ j _ t. t;
         sides = sym (lanes_back tables lt) ∙ lanes_cong (lane_of tables) (side_now wires tables 0) (λ j _. side_first tables 0 j);
-        rest = λ q l1 lq.
-            let x = get_or before (rest_place q) 0 in
-            cond_has (λ y. x ≡ y) (lent_wide e) (λ _. sym (lanes_back x (fit q l1 lq)) ∙ lanes_cong (lane_of x) (side_now wires x q) (λ j _. side_first x q j)) (λ _. refl);
+        rest = λ i li.
+            let x = get_or before.rest i 0 in
+            let q = i + 1 in
+            cond_has (λ y. x ≡ y) (lent_wide e) (λ _. sym (lanes_back x (fit i li)) ∙ lanes_cong (lane_of x) (side_now wires x q) (λ j _. side_first x q j)) (λ _. refl);
         counts = sym (packed_back cells few.0)
             ∙ sum_cong max_wires (λ j. byte_in cells j * cell_space ^ j) (λ j. cells_now wires j * cell_space ^ j) (λ j _. ap (λ y. y * cell_space ^ j) (cells_first j));
       }
@@ -141,13 +141,13 @@ module _ (e words : List ℕ) (wires tables cells : ℕ) (before : List ℕ) whe
     unfolding cells_sum
     now_sum left = sum_cong max_wires (byte_in (packed (cells_now left))) (cells_now left) (packed_byte (cells_now left) (now_byte left))
 
-    pub now_fit : {state : List ℕ} {left low all : ℕ} → Partly state left low all → (all < cell_space ^ max_wires) × (cells_sum all < cell_space)
+    pub now_fit : {state : Running} {left low all : ℕ} → Partly state left low all → (all < cell_space ^ max_wires) × (cells_sum all < cell_space)
     now_fit {left = left} h =
         let s = sum_bound max_wires (2 ^ max_inputs - 1) (cells_now left) (λ j lj. omega (arith, now_few left j lj)) in
         (rw h.counts (packed_lt (cells_now left) (now_byte left)), rw h.counts (omega (arith, s, now_sum left)))
 
     -- the first wire that is left is made again
-    module _ {state : List ℕ} {left low all : ℕ} (h : Partly state left low all) (some : 0 < left) where
+    module _ {state : Running} {left low all : ℕ} (h : Partly state left low all) (some : 0 < left) where
       abbrev j : ℕ
       j = first_wire left
 
@@ -203,7 +203,7 @@ module _ (e words : List ℕ) (wires tables cells : ℕ) (before : List ℕ) whe
       found_side : {r : ℕ} → r ≡ side_rank e words j → r % narrow_space ≡ section (pick_on e words j) 0
       found_side er = ap (λ y. y % narrow_space) er ∙ digits_mod (cells_on e words j) (section_lt (pick_on e words j) 0)
 
-      pub one_more : {after : List ℕ} {r low' all' next' : ℕ} → r ≡ side_rank e words j → PutRest (lent_wide e) j (pick_on e words j) state after
+      pub one_more : {after : Running} {r low' all' next' : ℕ} → r ≡ side_rank e words j → PutRest (lent_wide e) j (pick_on e words j) state after
           → low' ≡ put_lane low j (r % narrow_space) → all' ≡ put_cells all j (r / narrow_space) → next' ≡ next → Partly after next' low' all'
       one_more {after} er put el ea en =
           rw en
@@ -218,17 +218,18 @@ module _ (e words : List ℕ) (wires tables cells : ℕ) (before : List ℕ) whe
                 (λ z. subst (λ y. T (eqb y 1)) (as_before i (λ d. T_not (eqb i j) z (eq_test d))) t)
                 (decide (eqb i j)));
             sides = el ∙ ap₂ (λ x y. put_lane x j y) h.sides (found_side er) ∙ lane_made tables 0;
-            rest = λ q l1 lq.
-                let x = get_or before (rest_place q) 0 in
-                put.rest q l1 lq
+            rest = λ i li.
+                let x = get_or before.rest i 0 in
+                let q = i + 1 in
+                put.rest i li
                 ∙ ⊎_elim
                 (λ t.
-                ap (λ y. cond y (put_lane (get_or state (rest_place q) 0) j (section (pick_on e words j) q)) (get_or state (rest_place q) 0)) (test_yes (lent_wide e) t)
-                ∙ ap (λ y. put_lane y j (section (pick_on e words j) q)) (h.rest q l1 lq ∙ ap (λ y. cond y (lanes_of (side_now left x q)) x) (test_yes (lent_wide e) t))
+                ap (λ y. cond y (put_lane (get_or state.rest i 0) j (section (pick_on e words j) q)) (get_or state.rest i 0)) (test_yes (lent_wide e) t)
+                ∙ ap (λ y. put_lane y j (section (pick_on e words j) q)) (h.rest i li ∙ ap (λ y. cond y (lanes_of (side_now left x q)) x) (test_yes (lent_wide e) t))
                 ∙ lane_made x q ∙ sym (ap (λ y. cond y (lanes_of (side_now next x q)) x) (test_yes (lent_wide e) t)))
                 (λ t.
-                ap (λ y. cond y (put_lane (get_or state (rest_place q) 0) j (section (pick_on e words j) q)) (get_or state (rest_place q) 0)) (test_no (lent_wide e) t)
-                ∙ h.rest q l1 lq ∙ ap (λ y. cond y (lanes_of (side_now left x q)) x) (test_no (lent_wide e) t)
+                ap (λ y. cond y (put_lane (get_or state.rest i 0) j (section (pick_on e words j) q)) (get_or state.rest i 0)) (test_no (lent_wide e) t)
+                ∙ h.rest i li ∙ ap (λ y. cond y (lanes_of (side_now left x q)) x) (test_no (lent_wide e) t)
                 ∙ sym (ap (λ y. cond y (lanes_of (side_now next x q)) x) (test_no (lent_wide e) t)))
                 (decide (lent_wide e));
             counts = ea ∙ ap₂ (λ x y. put_cells x j y) h.counts (found_cells er)
@@ -239,17 +240,20 @@ module _ (e words : List ℕ) (wires tables cells : ℕ) (before : List ℕ) whe
           none : T (eqb (lane_of next j) 1) → ⊥
           none t = let z : ◌≡◌ {A = ℕ} (lane_of next j) 1 = eqb→eq (lane_of next j) 1 t in absurd (omega (arith, z, now_made))
 
+      -- the same by the numbers that the code has, of the wire that it found
+      pub wire_made : {i : ℕ} → i ≡ j → {after : Running} {r side few low' all' next' : ℕ} → r ≡ side_rank e words i → PutRest (lent_wide e) i (pick_on e words i) state after
+          → side ≡ r % narrow_space → low' ≡ put_lane low i side → few ≡ r / narrow_space → all' ≡ put_cells all i few → next' ≡ next → Partly after next' low' all'
+      wire_made ei {after} er put es el ef ea en =
+          one_more (er ∙ ap (side_rank e words) ei) (subst (λ k. PutRest (lent_wide e) k (pick_on e words k) state after) ei put) (el ∙ ap₂ (put_lane low) ei es)
+          (ea ∙ ap₂ (put_cells all) ei ef) en
+
     -- a part whose cells are no longer below the best is not kept: with more wires made again it would have no fewer
-    pub not_kept : {state : List ℕ} {left low all : ℕ} → Partly state left low all → get_or before cells_place 0 ≤ cells_sum all → {r : Picks} → T (not r.kept)
-        → Remade e words wires tables cells before state r
-    not_kept {state} {left} h over {r} dropped =
+    pub not_kept : {state : Running} {left low all : ℕ} → Partly state left low all → before.cells ≤ cells_sum all → Remade e words wires tables cells before state None
+    not_kept {state} {left} h over =
         record {
           same = h.but;
-          low = λ k. absurd (T_not r.kept dropped k);
-          rest = λ k. absurd (T_not r.kept dropped k);
-          counts = λ k. absurd (T_not r.kept dropped k);
-          narrow = λ t q l1 lq. h.rest q l1 lq ∙ ap (λ y. cond y (lanes_of (side_now left (get_or before (rest_place q) 0) q)) (get_or before (rest_place q) 0)) (test_no (lent_wide e) t);
-          over = λ _ more.
+          narrow = λ t i li. h.rest i li ∙ ap (λ y. cond y (lanes_of (side_now left (get_or before.rest i 0) (i + 1))) (get_or before.rest i 0)) (test_no (lent_wide e) t);
+          told = λ more.
               le_trans over
               (rw (h.counts, now_sum left)
               (sum_le max_wires (cells_now left) (cells_again e words wires cells)
@@ -258,26 +262,31 @@ module _ (e words : List ℕ) (wires tables cells : ℕ) (before : List ℕ) whe
         }
 
     -- once none is left all are made
-    pub all_made : {state : List ℕ} {left low all : ℕ} → Partly state left low all → left ≡ 0 → cells_sum all < get_or before cells_place 0 → {r : Picks} → T r.kept → r.low ≡ low → r.cells ≡ all
-        → Remade e words wires tables cells before state r
+    kept : {state : Running} {left low all : ℕ} → Partly state left low all → left ≡ 0 → cells_sum all < before.cells
+        → Kept e words wires tables cells before state record { low = low; cells = all }
     unfolding packed
-    all_made {state} {left} {low} {all} h el under {r} held er ec =
+    kept {state} {left} {low} {all} h el under =
         record {
-          same = h.but;
-          low = λ _. er ∙ h.sides ∙ lanes_cong (side_now left tables 0) (side_again e words wires tables 0) (λ j _. none_left (lane_of tables j) (side_again e words wires tables 0 j) j);
-          rest = λ _ q l1 lq.
-              let x = get_or before (rest_place q) 0 in
-              h.rest q l1 lq
+          low = h.sides ∙ lanes_cong (side_now left tables 0) (side_again e words wires tables 0) (λ j _. none_left (lane_of tables j) (side_again e words wires tables 0 j) j);
+          rest = λ i li.
+              let x = get_or before.rest i 0 in
+              let q = i + 1 in
+              h.rest i li
               ∙ ap (λ y. cond (lent_wide e) y x) (lanes_cong (side_now left x q) (side_again e words wires x q) (λ j _. none_left (lane_of x j) (side_again e words wires x q j) j));
-          counts = λ _. (
-            ec ∙ h.counts
-                ∙ sum_cong max_wires (λ j. cells_now left j * cell_space ^ j) (λ j. cells_again e words wires cells j * cell_space ^ j)
-                (λ j _. ap (λ y. y * cell_space ^ j) (none_left (byte_in cells j) (cells_again e words wires cells j) j)),
-            rw ec under,
-          );
-          narrow = λ t q l1 lq. h.rest q l1 lq ∙ ap (λ y. cond y (lanes_of (side_now left (get_or before (rest_place q) 0) q)) (get_or before (rest_place q) 0)) (test_no (lent_wide e) t);
-          over = λ t. absurd (T_not r.kept t held);
+          counts = h.counts
+              ∙ sum_cong max_wires (λ j. cells_now left j * cell_space ^ j) (λ j. cells_again e words wires cells j * cell_space ^ j)
+              (λ j _. ap (λ y. y * cell_space ^ j) (none_left (byte_in cells j) (cells_again e words wires cells j) j));
+          under = under;
         }
       where
         none_left : (x y j : ℕ) → cond (marked left j) x y ≡ y
         none_left x y j = ap (λ z. cond (eqb (lane_of z j) 1) x y) el ∙ ap (λ z. cond (eqb z 1) x y) (lane_zero j)
+
+    pub all_made : {state : Running} {left low all : ℕ} → Partly state left low all → left ≡ 0 → cells_sum all < before.cells
+        → Remade e words wires tables cells before state (Some record { low = low; cells = all })
+    all_made {state} {left} {low} {all} h el under =
+        record {
+          same = h.but;
+          narrow = λ t i li. h.rest i li ∙ ap (λ y. cond y (lanes_of (side_now left (get_or before.rest i 0) (i + 1))) (get_or before.rest i 0)) (test_no (lent_wide e) t);
+          told = kept h el under;
+        }

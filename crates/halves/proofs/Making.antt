@@ -1,13 +1,12 @@
 -- One part of a split as the code makes it: its masks, its picks and their cells are those of the part.
-use Prim.Native.Nat.{ℕ, zero, suc, ◌*◌, ◌/◌, ◌%◌, ◌^◌, ◌<◌, ◌≤◌}
+use Prim.Native.Nat.{ℕ, zero, suc, ◌+◌, ◌*◌, ◌/◌, ◌%◌, ◌^◌, ◌<◌, ◌≤◌}
 use mathlib.Core.Path.{◌≡◌, refl, sym, ap, ap₂, subst, ◌∙◌}
 use mathlib.Core.Logic.{⊎_elim}
 use mathlib.Core.Bool.{not, cond}
 use mathlib.Core.List.{List}
 use native.Mathlib.Omega.{arith}
 use native.Mathlib.Nat.{lt_of_lt_of_le, div-eq_of_lt}
-use lib.Dec.{T, eqb, eqb→eq, nleb→lt}
-use borrow.Author.Tests.{ne_eqb}
+use lib.Dec.{T, eqb, nleb→lt}
 use lib.ListN.{get_or}
 use lib.Pow.{pow_mono}
 use Rattle.base.proofs.Tests.{decide, test_yes, test_no}
@@ -34,21 +33,22 @@ use Rattle.parts.specs.Inner.Masks.{row_patterns, words_of, mask_row, with_lanes
 use Rattle.parts.specs.Inner.Cells.{cell_space, byte_in, packed, cells_sum}
 use Rattle.parts.specs.Inner.Picks.{pick_between, pick_on, cells_on, table_of, tables_of, cells_of}
 use Rattle.parts.specs.Inner.Parts.{PartSets, Carried}
-use Rattle.parts.specs.Inner.States.{cells_place, rest_place, side_at}
+use Rattle.parts.specs.declared.states.Running.{Running}
+use Rattle.parts.specs.Inner.States.{rest_count, side_at}
 use Rattle.parts.proofs.MaskRows.{row_cut, with_long, with_small}
 use Rattle.parts.proofs.WordMasks.{pick_told, pairs_tell}
 use Rattle.parts.proofs.Keeping.{few, table_at, table_lt, table_few, cells_byte, cells_fit, pairs_cover}
 use Rattle.parts.proofs.LentPicks.{narrow_inputs_lem}
 use Rattle.parts.proofs.Narrowing.{with_sets, with_pairs, with_more_lem, still_pick}
 use Rattle.halves.specs.declared.Picks.{Picks}
-use Rattle.halves.specs.Inner.Remade.{marked, FewCells, cells_again, side_again, Remade}
+use Rattle.halves.specs.Inner.Remade.{marked, FewCells, cells_again, side_again, Kept, Over}
 
 pub past_zero : (q : ℕ) → T (not (eqb q 0)) → 1 ≤ q
 past_zero zero z = absurd z
 past_zero (suc q) z = omega arith
 
 -- the tables of a part, lane by lane
-pub side_lane : {kind : BoardKind} {n m : ℕ} {S ws l : List ℕ} {low c : ℕ} → Carried kind n m S ws l low c → (q i : ℕ) → q < sections → i < max_wires
+pub side_lane : {kind : BoardKind} {n m : ℕ} {S ws : List ℕ} {l : Running} {low c : ℕ} → Carried kind n m S ws l low c → (q i : ℕ) → q < sections → i < max_wires
     → lane_of (side_at low l q) i ≡ section (table_of kind n S i) q
 side_lane {kind} {n} {m} {S} h q i lq li =
     ap (λ x. lane_of x i) (h.tables q lq ∙ side_lanes (tables_of kind n S) q)
@@ -63,7 +63,7 @@ past_section t q lt lq =
     ap (λ x. x % narrow_space) (div-eq_of_lt (lt_of_lt_of_le lt big))
 
 -- one part of a split of a part at its open pair p, j: w is what is left of the pattern's set with wire j at b
-pub record Half (e : List ℕ) (m : ℕ) (S ws l : List ℕ) (low c p j b w : ℕ) : Type 0 where
+pub record Half (e : List ℕ) (m : ℕ) (S ws : List ℕ) (l : Running) (low c p j b w : ℕ) : Type 0 where
   pub lent : Lent e
   pub carried : Carried (lent_kind e) (lent_inputs e) m S ws l low c
   pub pattern : p < 2 ^ lent_inputs e
@@ -72,7 +72,7 @@ pub record Half (e : List ℕ) (m : ℕ) (S ws l : List ℕ) (low c p j b w : �
   pub side : b < 2
   pub left : w ≡ with_bit (get_or S p 0) j b
 
-module _ {e : List ℕ} {m : ℕ} {S ws l : List ℕ} {low c p j b w : ℕ} (h : Half e m S ws l low c p j b w) where
+module _ {e : List ℕ} {m : ℕ} {S ws : List ℕ} {l : Running} {low c p j b w : ℕ} (h : Half e m S ws l low c p j b w) where
   abbrev kind : BoardKind
   kind = lent_kind e
 
@@ -184,33 +184,30 @@ module _ {e : List ℕ} {m : ℕ} {S ws l : List ℕ} {low c p j b w : ℕ} (h :
         (λ i li. ap (λ t. section t q) (table_at kind n N i li) ∙ none_past narrow (table_of kind n N i) q (table_lt kind whole.sized ok i) lq ls)
 
     -- so what is made again and kept is the part's
-    module _ {after : List ℕ} {r : Picks} (made : Remade e (words_of part_masks) wires low c l after r) where
-      rest_side : T r.kept → (q : ℕ) → 1 ≤ q → q < sections → get_or after (rest_place q) 0 ≡ side_by_side (tables_of kind n part_sets) q
+    module _ {after : Running} {r : Picks} (made : Kept e (words_of part_masks) wires low c l after r) where
+      rest_side : (i : ℕ) → i < rest_count → get_or after.rest i 0 ≡ side_by_side (tables_of kind n part_sets) (suc i)
       unfolding side_at
-      rest_side k q l1 lq =
-          let before : side_at low l q ≡ get_or l (rest_place q) 0 = ap (λ y. cond y low (get_or l (rest_place q) 0)) (ne_eqb q 0 (λ d. omega arith)) in
-          made.rest k q l1 lq
+      rest_side i li =
+          let x = get_or l.rest i 0 in
+          let q : i + 1 ≡ suc i = omega arith in
+          let lq : suc i < sections = omega arith in
+          made.rest i li
           ∙ ⊎_elim
           (λ t.
-          ap (λ y. cond y (lanes_of (side_again e (words_of part_masks) wires (get_or l (rest_place q) 0) q)) (get_or l (rest_place q) 0)) (test_yes (lent_wide e) t)
-          ∙ ap (λ x. lanes_of (side_again e (words_of part_masks) wires x q)) (sym before) ∙ again_side q lq)
+          ap (λ y. cond y (lanes_of (side_again e (words_of part_masks) wires x (i + 1))) x) (test_yes (lent_wide e) t)
+          ∙ ap (λ k. lanes_of (side_again e (words_of part_masks) wires x k)) q ∙ again_side (suc i) lq)
           (λ t.
-          ap (λ y. cond y (lanes_of (side_again e (words_of part_masks) wires (get_or l (rest_place q) 0) q)) (get_or l (rest_place q) 0)) (test_no (lent_wide e) t)
-          ∙ sym before ∙ whole.tables q lq ∙ narrow_side t whole.sets q l1 lq ∙ sym (narrow_side t half_sets q l1 lq))
+          ap (λ y. cond y (lanes_of (side_again e (words_of part_masks) wires x (i + 1))) x) (test_no (lent_wide e) t)
+          ∙ whole.tables (suc i) lq ∙ narrow_side t whole.sets (suc i) (omega arith) lq ∙ sym (narrow_side t half_sets (suc i) (omega arith) lq))
           (decide (lent_wide e))
 
-      made_tables : T r.kept → (q : ℕ) → q < sections → side_at r.low after q ≡ side_by_side (tables_of kind n part_sets) q
+      made_tables : (q : ℕ) → q < sections → side_at r.low after q ≡ side_by_side (tables_of kind n part_sets) q
       unfolding side_at
-      made_tables k q lq =
-          ⊎_elim
-          (λ z.
-          let d = eqb→eq q 0 z in
-          ap (λ y. cond y r.low (get_or after (rest_place q) 0)) (test_yes (eqb q 0) z) ∙ made.low k ∙ again_side 0 (omega arith) ∙ ap (side_by_side (tables_of kind n part_sets)) (sym d))
-          (λ z. ap (λ y. cond y r.low (get_or after (rest_place q) 0)) (test_no (eqb q 0) z) ∙ rest_side k q (past_zero q z) lq)
-          (decide (eqb q 0))
+      made_tables zero lq = made.low ∙ again_side 0 lq
+      made_tables (suc i) lq = rest_side i (omega arith)
 
-      pub made_carried : T r.kept → {N M : List ℕ} → N ≡ part_sets → M ≡ part_masks → Carried kind n m N M after r.low r.cells
-      made_carried k eN eM =
+      pub made_carried : {N M : List ℕ} → N ≡ part_sets → M ≡ part_masks → Carried kind n m N M after r.low r.cells
+      made_carried eN eM =
           rw (eN, eM)
           record {
             sized = whole.sized;
@@ -218,10 +215,10 @@ module _ {e : List ℕ} {m : ℕ} {S ws l : List ℕ} {low c p j b w : ℕ} (h :
             long = with_long ws (p / row_patterns) (cut_row (mask_row ws (p / row_patterns)) p w);
             halved = with_small ws (p / row_patterns) (cut_row (mask_row ws (p / row_patterns)) p w) whole.halved;
             masks = half_words;
-            tables = made_tables k;
-            cells = (made.counts k).0 ∙ all_cells;
+            tables = made_tables;
+            cells = made.counts ∙ all_cells;
           }
 
-      -- and where it is not kept, the part would be discarded
-      pub made_over : T (not r.kept) → get_or l cells_place 0 ≤ cells_sum (cells_of kind n part_sets)
-      made_over k = rw (← all_sum) (made.over k half_more)
+    -- and where it is not kept, the part would be discarded
+    pub made_over : Over e (words_of part_masks) wires c l → l.cells ≤ cells_sum (cells_of kind n part_sets)
+    made_over over = rw (← all_sum) (over half_more)

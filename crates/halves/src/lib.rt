@@ -6,10 +6,9 @@
 pub mod remaking; // the picks that no longer fit, made again
 pub mod tables; // the tables of the part at hand, and where to look for its conflicts
 
-// The picks of a part: their tables on the first section, and their cells. Where they are not kept, the part has as many cells as the best so far at least.
+// The picks of a part: their tables on the first section, and their cells.
 #[derive(Clone, Copy)]
 pub struct Picks {
     pub low: u64,
     pub cells: u64,
-    pub kept: bool,
 }

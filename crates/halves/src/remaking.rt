@@ -11,7 +11,7 @@ ghost use Rattle.parts.specs.Inner.Boards.{lent_inputs, Lent};
 ghost use Rattle.parts.specs.Inner.Words.{Covers};
 ghost use Rattle.parts.specs.Inner.Masks.{row_patterns, mask_count, words_of, with_lanes, cut_row};
 ghost use Rattle.parts.specs.Inner.Cells.{cells_sum};
-ghost use Rattle.parts.specs.Inner.States.{cells_place, rest_place, state_length};
+ghost use Rattle.parts.specs.Inner.States.{rest_count};
 ghost use Rattle.halves.specs.Inner.Remade.{FewCells, Remade};
 
 use crate::Picks;
@@ -19,7 +19,7 @@ use lanes::{broken, lowest_wire, no_ones, no_zeros, put_lane, without_lowest};
 use parts::cells::{put_cells, sum_of};
 use parts::masks::{MASKS, cut_row, put_row};
 use parts::picks::{cells_in, pick_at, side_in};
-use parts::states::{CELLS, STATE};
+use parts::states::Running;
 use table::picks::LENT;
 
 // The wires whose bit no value of the set has.
@@ -32,24 +32,24 @@ pub fn lost_wires(driven: u64, set: u16) -> u64
 
 // The masks once pattern p has a set, where `row` is the pattern's row as it was.
 pub fn cut_at(masks: &mut [u16; MASKS], p: u8, row: u64, set: u16)
-    requires { (p < max_patterns) × (length masks.old ≡ mask_count) }
+    requires { p < max_patterns }
     ensures { masks.new ≡ with_lanes masks.old (p / row_patterns) (cut_row row p set) }
 {
     put_row(masks, p, cut_row(row, p, set));
 }
 
-// The picks of these wires made again, from the first on, as long as the cells of all wires are fewer than the best.
+// The picks of these wires made again, from the first on, as long as the cells of all wires are fewer than the best. None where the part has as many cells as the
+// best at least.
 pub fn again(
     e: &[u32; LENT],
     masks: &[u16; MASKS],
-    state: &mut [u64; STATE],
+    state: &mut Running,
     wires: u64,
     tables: u64,
     cells: u64,
-) -> Picks
-    requires { Lent e.now × ((j : ℕ) → j < max_wires → Covers (lent_inputs e.now) (words_of masks.now) j) × (length state.old ≡ state_length)
-        × ((q : ℕ) → 1 ≤ q → q < sections → get_or state.old (rest_place q) 0 < lanes_space) × LanesBelow 2 wires × (wires < lanes_space)
-        × FewCells cells × (cells_sum cells < get_or state.old cells_place 0) }
+) -> Option<Picks>
+    requires { Lent e.now × ((j : ℕ) → j < max_wires → Covers (lent_inputs e.now) (words_of masks.now) j)
+        × ((i : ℕ) → i < rest_count → get_or state.old.rest i 0 < lanes_space) × LanesBelow 2 wires × (wires < lanes_space) × FewCells cells × (cells_sum cells < state.old.cells) }
     ensures { Remade e.now (words_of masks.now) wires tables cells state.old state.new result }
 {
     let mut left = wires;
@@ -60,18 +60,10 @@ pub fn again(
         let found = pick_at(e, masks, j, state);
         low = put_lane(low, j, side_in(found));
         all = put_cells(all, j, cells_in(found));
-        if state[CELLS] <= sum_of(all) as u64 {
-            return Picks {
-                low,
-                cells: all,
-                kept: false,
-            };
+        if state.cells <= sum_of(all) {
+            return None;
         }
         left = without_lowest(left);
     }
-    Picks {
-        low,
-        cells: all,
-        kept: true,
-    }
+    Some(Picks { low, cells: all })
 }

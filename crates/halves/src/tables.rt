@@ -6,19 +6,19 @@ ghost use Rattle.table.specs.Bits.{bit};
 ghost use Rattle.table.specs.Inner.Pairs.{narrow_patterns};
 ghost use Rattle.lanes.specs.Inner.Lanes.{lane_of, LanesBelow};
 ghost use Rattle.parts.specs.Inner.Boards.{lent_inputs, lent_wide, Lent};
-ghost use Rattle.parts.specs.Inner.States.{state_length, side_at};
-ghost use Rattle.visits.specs.Inner.States.{saved_of, with_rest};
+ghost use Rattle.parts.specs.Inner.States.{side_at, with_rest};
+ghost use Rattle.visits.specs.Inner.States.{saved_of};
 ghost use Rattle.visits.specs.Inner.Conflicts.{AllowedBelow};
 
 use lanes::LANES;
-use parts::states::STATE;
+use parts::states::{RESTS, Running};
 use table::picks::LENT;
 use table::wide::SECTION;
 use visits::conflicts::{first_conflict, word_of};
-use visits::states::{RESTS, put_back, rest_of};
+use visits::states::{put_back, rest_of};
 
 // The bits of all wires' tables on pattern p.
-pub fn driven_on(state: &[u64; STATE], low: u64, p: u8) -> u64
+pub fn driven_on(state: &Running, low: u64, p: u8) -> u64
     requires { p < max_patterns }
     ensures { ((j : ℕ) → j < max_wires → lane_of result j ≡ bit (lane_of (side_at low state.now (p / narrow_patterns)) j) (p % narrow_patterns)) × LanesBelow 2 result }
 {
@@ -26,7 +26,7 @@ pub fn driven_on(state: &[u64; STATE], low: u64, p: u8) -> u64
 }
 
 // A pattern below which a part is without conflict. Where no pick was made again, the conflict stays where it was.
-pub fn begin_at(e: &[u32; LENT], state: &[u64; STATE], wires: u64, low: u64, p: u8) -> u8
+pub fn begin_at(e: &[u32; LENT], state: &Running, wires: u64, low: u64, p: u8) -> u8
     requires { Lent e.now }
     ensures { (wires ≡ 0 → result ≡ p) × (0 < wires → AllowedBelow (lent_wide e.now) (lent_inputs e.now) low state.now result) }
 {
@@ -37,15 +37,14 @@ pub fn begin_at(e: &[u32; LENT], state: &[u64; STATE], wires: u64, low: u64, p: 
 }
 
 // The tables on the sections past the first, where the board is wide; zeros where it is not.
-pub fn saved(wide: bool, state: &[u64; STATE]) -> [u64; RESTS]
+pub fn saved(wide: bool, state: &Running) -> [u64; RESTS]
     ensures { result ≡ saved_of wide state.now }
 {
     if wide { rest_of(state) } else { [0; RESTS] }
 }
 
 // They are put back where the board is wide.
-pub fn restore(wide: bool, state: &mut [u64; STATE], rest: [u64; RESTS])
-    requires { length state.old ≡ state_length }
+pub fn restore(wide: bool, state: &mut Running, rest: [u64; RESTS])
     ensures { state.new ≡ cond wide (with_rest state.old rest) state.old }
 {
     if wide {

@@ -21,8 +21,8 @@ use Rattle.table.specs.Inner.Wide.{sections}
 use Rattle.table.proofs.BitColumns.{is_one_lt_two}
 use Rattle.relation.specs.Tests.{occurs}
 use Rattle.relation.specs.Inner.Members.{member}
-use Rattle.lanes.specs.Inner.Lanes.{lane_space, lane_of, lanes_of}
-use Rattle.lanes.proofs.Lanes.{lane_lt, lane_lanes}
+use Rattle.lanes.specs.Inner.Lanes.{lane_space, lanes_space, lane_of, lanes_of}
+use Rattle.lanes.proofs.Lanes.{lane_lt, lane_lanes, lanes_cong, lanes_back}
 use Rattle.parts.specs.Inner.Pairs.{both_sides, lost_of, cut_pair, cut_pairs}
 use Rattle.parts.specs.Inner.Words.{word_count, word_place, row_of, with_row}
 use Rattle.parts.specs.Inner.Masks.{row_patterns, Halved, mask_count, mask_place, word_from, words_of, mask_row, with_lanes, cut_half, cut_row}
@@ -152,6 +152,12 @@ module _ (masks : List ℕ) (b row : ℕ) where
   with_other a j la lj ne =
       tabulate_at mask_count replaced (mask_place a j) (mask_lt a j la lj)
       ∙ eqb_not (mask_place a j / max_wires) b (lane_of row (mask_place a j % max_wires)) (get_or masks (mask_place a j) 0) (λ e. ne (sym (place_section a j lj) ∙ e))
+
+  -- the row that is put is there
+  pub row_there : b < 2 * sections → row < lanes_space → mask_row (with_lanes masks b row) b ≡ row
+  unfolding mask_row
+  row_there lb lr =
+      lanes_cong (λ j. get_or (with_lanes masks b row) (mask_place b j) 0) (lane_of row) (λ j l. with_at j lb l) ∙ lanes_back row lr
 
   -- a row that is put in place of another
   pub row_again : (other : ℕ) → with_lanes (with_lanes masks b other) b row ≡ with_lanes masks b row

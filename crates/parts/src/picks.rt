@@ -2,7 +2,7 @@
 // the result, in one number, which `cells_in` and `side_in` take apart, and its table on the other sections is put into the state of the search: so all that a
 // pick is handed stands in registers.
 // Inner functions: the search and the first answer meet what they require.
-ghost use Rattle.std.specs.Prelude.{◌≡◌, true, ◌/◌, ◌%◌, ◌<◌, ◌≤◌, ◌^◌, length};
+ghost use Rattle.std.specs.Prelude.{◌≡◌, true, ◌/◌, ◌%◌, ◌<◌, ◌≤◌, ◌^◌};
 ghost use Rattle.sheet.specs.Limits.{max_wires};
 ghost use Rattle.nodes.specs.Counts.{count_of};
 ghost use Rattle.table.specs.Inner.Ranks.{narrow_space, pick_of, rank};
@@ -12,11 +12,11 @@ ghost use Rattle.parts.specs.Inner.Boards.{wide_mark, board_in, lent_kind, lent_
 ghost use Rattle.parts.specs.Inner.Words.{Covers};
 ghost use Rattle.parts.specs.Inner.Masks.{words_of};
 ghost use Rattle.parts.specs.Inner.Picks.{pick_on, side_rank};
-ghost use Rattle.parts.specs.Inner.States.{state_length, PutRest};
+ghost use Rattle.parts.specs.Inner.States.{PutRest};
 
 use crate::boards::{BOARD_PLACE, SHARING, WIDE, is_wide};
 use crate::masks::{MASKS, pair_at};
-use crate::states::{STATE, put_rest};
+use crate::states::{Running, put_rest};
 use nodes::picks::pick_shared;
 use table::picks::{LENT, NARROW_INPUTS, NARROW_SPACE, pick};
 use table::wide::{SECTION_SPACE, wide_pick};
@@ -35,14 +35,8 @@ pub fn side_in(found: u32) -> u64
 }
 
 // The pick on a wide board, from the words of all sections.
-fn pick_wide(
-    e: &[u32; LENT],
-    board: u8,
-    masks: &[u16; MASKS],
-    j: u8,
-    state: &mut [u64; STATE],
-) -> u32
-    requires { Lent e.now × (board ≡ board_in e.now) × (wide_mark ≤ board) × (j < max_wires) × Covers (lent_inputs e.now) (words_of masks.now) j × (length state.old ≡ state_length) }
+fn pick_wide(e: &[u32; LENT], board: u8, masks: &[u16; MASKS], j: u8, state: &mut Running) -> u32
+    requires { Lent e.now × (board ≡ board_in e.now) × (wide_mark ≤ board) × (j < max_wires) × Covers (lent_inputs e.now) (words_of masks.now) j }
     ensures { (result ≡ side_rank e.now (words_of masks.now) j)
         × PutRest true j (pick_on e.now (words_of masks.now) j) state.old state.new }
 {
@@ -73,8 +67,8 @@ fn pick_narrow(e: &[u32; LENT], board: u8, x: u32) -> u32
 }
 
 // The pick of wire j. The board of trees with as many inputs as one word has is asked for first: it is the commonest, and its pick then needs no register saved.
-pub fn pick_at(e: &[u32; LENT], masks: &[u16; MASKS], j: u8, state: &mut [u64; STATE]) -> u32
-    requires { Lent e.now × (j < max_wires) × Covers (lent_inputs e.now) (words_of masks.now) j × (length state.old ≡ state_length) }
+pub fn pick_at(e: &[u32; LENT], masks: &[u16; MASKS], j: u8, state: &mut Running) -> u32
+    requires { Lent e.now × (j < max_wires) × Covers (lent_inputs e.now) (words_of masks.now) j }
     ensures { (result ≡ side_rank e.now (words_of masks.now) j)
         × PutRest (lent_wide e.now) j (pick_on e.now (words_of masks.now) j) state.old state.new }
 {

@@ -15,11 +15,10 @@ use Rattle.base.proofs.Tests.{decide}
 use Rattle.nodes.specs.declared.BoardKind.{BoardKind}
 use Rattle.diagram.proofs.DiagramForm.{longest_diagrams}
 use Rattle.diagram.proofs.Forms.{form_front}
-use Rattle.quote.specs.Cases.{QuoteReply}
+use Rattle.quote.specs.Cases.{QuoteReply, no_quote}
 use Rattle.quote.specs.Inner.Refused.{refused_quote}
 use Rattle.sheet.specs.Judged.{Reading, holds, refused}
 use Rattle.reader.specs.Reading.{reading_of}
-use Rattle.quote.specs.Cases.{no_quote}
 use Rattle.quote.specs.Quote.{buffer_quoted}
 use Rattle.joined.specs.Joint.{joint_quoted, joint_buffer}
 use Rattle.quote.specs.Audit.{audited_from, audited_of}

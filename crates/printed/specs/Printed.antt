@@ -6,8 +6,7 @@ use Rattle.base.specs.Refusals.{refusal_at, too_long}
 use Rattle.sheet.specs.Judged.{Reading, holds, refused}
 use Rattle.reader.specs.Reading.{reading_of}
 use Rattle.nodes.specs.declared.BoardKind.{BoardKind}
-use Rattle.quote.specs.Cases.{QuoteReply}
-use Rattle.quote.specs.Cases.{no_quote}
+use Rattle.quote.specs.Cases.{QuoteReply, no_quote}
 use Rattle.quote.specs.Quote.{quoted_of, buffer_quoted}
 use Rattle.joined.specs.Joint.{joint_quoted, joint_buffer}
 use Rattle.quote.specs.Audit.{audited_of}

@@ -3,20 +3,17 @@
 
 ghost use Rattle.std.specs.Prelude.{◌≡◌};
 ghost use Rattle.base.specs.Refusals.{refusal_at, too_long};
-ghost use Rattle.quote.specs.Cases.{quote_reply};
-ghost use Rattle.quote.specs.Inner.Refused.{refused_quote};
 ghost use Rattle.report.specs.Lines.{Printed, longest_report, longest_copy_line};
 ghost use Rattle.reader.specs.Reading.{reading_of};
 ghost use Rattle.joined.specs.Cases.{joint_case};
 ghost use Rattle.printed.specs.Printed.{longest_sheet, printed_of, audit_printed_of, clean_printed_of, before_too_long, joint_printed_of};
 
-use base::{Refusal, Verdict, Written};
+use base::Refusal;
 use clean::LONGEST_COPY;
 use diagram::LONGEST_WRITTEN;
-use joined::{JointMark, quote_joined, refused_joint};
+use joined::{JointRefusal, quote_joined};
 use nodes::BoardKind;
-use quote::{Audited, Quoted};
-use search::Mark;
+use quote::AuditRefusal;
 
 // The longest sheet that is taken, and the budget of a quote.
 pub const LONGEST_SHEET: usize = 4096;
@@ -30,26 +27,13 @@ fn too_long() -> Refusal
     Refusal::at(Refusal::TOO_LONG, LONGEST_SHEET)
 }
 
-// The same as a quote's reply.
-fn too_long_quote() -> Quoted
-    ensures { quote_reply result ≡ refused_quote (refusal_at too_long longest_sheet) }
-{
-    Quoted {
-        cells: 0,
-        floor: 0,
-        visits: 0,
-        length: 0,
-        mark: Mark::Refused(too_long()),
-    }
-}
-
 // The lines for a sheet, on either board.
 pub fn quote_reply(kind: BoardKind, sheet: &[u8], out: &mut [u8]) -> usize
     ensures { Printed longest_report (printed_of kind sheet.now) out.old out.new result }
 {
     let mut stage = [0u8; LONGEST_WRITTEN];
     if LONGEST_SHEET < sheet.len() {
-        return report::report(too_long_quote(), &stage, out);
+        return report::report(Err(too_long()), &stage, out);
     }
     let quoted = quote::quote_on(kind, sheet, BUDGET, &mut stage);
     report::report(quoted, &stage, out)
@@ -60,7 +44,7 @@ pub fn audit_reply(kind: BoardKind, sheet: &[u8], stage: &[u8], out: &mut [u8]) 
     ensures { Printed longest_report (audit_printed_of kind sheet.now stage.now) out.old out.new result }
 {
     if LONGEST_SHEET < sheet.len() {
-        return report::report_audit(Audited::SheetRefused(too_long()), out);
+        return report::report_audit(Err(AuditRefusal::Sheet(too_long())), out);
     }
     let audited = quote::audit_on(kind, sheet, stage);
     report::report_audit(audited, out)
@@ -72,21 +56,19 @@ pub fn clean_reply(sheet: &[u8], out: &mut [u8]) -> usize
 {
     let mut copy = [0u8; LONGEST_COPY];
     if LONGEST_SHEET < sheet.len() {
-        return report::report_copy(Written::Refused(too_long()), &copy, out);
+        return report::report_copy(Err(too_long()), &copy, out);
     }
     let written = clean::clean(sheet, &mut copy);
     report::report_copy(written, &copy, out)
 }
 
 // What is refused of two sheets where the second is too long: what reading refuses of the first comes before.
-fn second_too_long(first: &[u8]) -> JointMark
+fn second_too_long(first: &[u8]) -> JointRefusal
     ensures { joint_case result ≡ before_too_long (reading_of first.now) }
 {
-    let related = unit::relate(first);
-    let answer = related.answer;
-    match answer {
-        Verdict::Accepted => JointMark::SecondRefused(too_long()),
-        Verdict::Refused(refusal) => JointMark::FirstRefused(refusal),
+    match unit::relate(first) {
+        Ok(_) => JointRefusal::Second(too_long()),
+        Err(refusal) => JointRefusal::First(refusal),
     }
 }
 
@@ -96,12 +78,10 @@ pub fn joined_reply(first: &[u8], second: &[u8], out: &mut [u8]) -> usize
 {
     let mut written = [0u8; LONGEST_WRITTEN];
     if LONGEST_SHEET < first.len() {
-        let refused = refused_joint(JointMark::FirstRefused(too_long()));
-        return report::report_joint(refused, &written, out);
+        return report::report_joint(Err(JointRefusal::First(too_long())), &written, out);
     }
     if LONGEST_SHEET < second.len() {
-        let refused = refused_joint(second_too_long(first));
-        return report::report_joint(refused, &written, out);
+        return report::report_joint(Err(second_too_long(first)), &written, out);
     }
     let quoted = quote_joined(first, second, BUDGET, &mut written);
     report::report_joint(quoted, &written, out)

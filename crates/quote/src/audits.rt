@@ -42,10 +42,7 @@ pub fn audit_stage(kind: BoardKind, relation: Relation, s: &[u8]) -> Result<Audi
     let Ok(read) = reply else {
         return Err(AuditRefusal::Stage(reply.unwrap_err()));
     };
-    if read.n != relation.n {
-        return Err(AuditRefusal::Stage(Refusal::at(Refusal::SIZES_DIFFER, 0)));
-    }
-    if read.m != relation.m {
+    if read.n != relation.n || read.m != relation.m {
         return Err(AuditRefusal::Stage(Refusal::at(Refusal::SIZES_DIFFER, 0)));
     }
     if allowed_everywhere(read.n, relation.sets, read.tables) {

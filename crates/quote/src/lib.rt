@@ -59,6 +59,7 @@ pub fn quote_on(
     quotes::quote_relation(kind, relation, budget, buffer)
 }
 
+// The four calls below stay beside `quote_on` and `audit_on`, which are each of them: README names them, and callers know a board by the call.
 // The smallest stage for a unit sheet, written at the start of the lent buffer, or the best found under the budget; or the refusal, which writes nothing.
 pub fn quote(sheet: &[u8], budget: u32, buffer: &mut [u8]) -> Result<Quoted, Refusal>
     ensures reply { quote_reply result ≡ quoted_of Tree sheet.now budget (length buffer.old) }

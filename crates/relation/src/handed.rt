@@ -1,4 +1,5 @@
 // The lowest pattern at which a relation handed over as numbers is refused. Sets past the last pattern are not read.
+// Two loops and no one function over the test: with a test passed in, each caller would have to state again what it means, and both loops are as short.
 // Inner functions: the test of a relation handed in has tested the sizes before it calls them.
 ghost use Rattle.std.specs.Prelude.{◌≡◌, ◌≤◌, ◌^◌, eqb, get_or};
 ghost use Rattle.sheet.specs.Limits.{max_inputs, max_wires};

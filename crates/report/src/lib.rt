@@ -8,15 +8,14 @@ ghost use Rattle.quote.specs.Cases.{quote_reply, audited_case};
 ghost use Rattle.joined.specs.Cases.{joint_reply};
 ghost use Rattle.report.specs.Lines.{Printed, longest_report, longest_copy_line, lines_of, joint_lines, audit_line, copy_line};
 
-use base::Written;
+use base::Refusal;
 use clean::LONGEST_COPY;
 use diagram::LONGEST_WRITTEN;
-use joined::{JointMark, JointQuoted};
+use joined::JointRefusal;
 use line_parts::{put_refusal_line, put_shown_line};
 use lines::{put_judged, put_result};
-use quote::{Audited, Quoted};
-use search::Mark;
-use text::LONGEST_DECIMAL;
+use quote::{AuditRefusal, Audited, Quoted};
+use text::{LONGEST_DECIMAL, Page};
 
 pub mod line_parts; // what lines are made of
 mod lines; // the lines
@@ -40,48 +39,52 @@ pub const LONGEST_REPORT: usize = COUNT_NAMES
 pub const LONGEST_COPY_LINE: usize = PAIR * LONGEST_COPY + 1;
 
 // The lines for a reply of the quote and the bytes that it wrote its stage to.
-pub fn report(q: Quoted, stage: &[u8], out: &mut [u8]) -> usize
+pub fn report(q: Result<Quoted, Refusal>, stage: &[u8], out: &mut [u8]) -> usize
     ensures { Printed longest_report (lines_of (quote_reply q) stage.now) out.old out.new result }
 {
-    let mark = q.mark;
-    match mark {
-        Mark::Best => put_result(out, b" best\n", q, stage),
-        Mark::Stopped => put_result(out, b" stopped\n", q, stage),
-        Mark::Refused(refusal) => put_refusal_line(out, 0, b"", refusal),
+    let mut page = Page::new(out);
+    match q {
+        Ok(quoted) => put_result(&mut page, quoted, stage),
+        Err(refusal) => put_refusal_line(&mut page, b"", refusal),
     }
+    page.place
 }
 
 // The lines for a reply of the joint quote, as those of a quote; a refusal names the sheet (document 02, E6).
-pub fn report_joint(q: JointQuoted, stage: &[u8], out: &mut [u8]) -> usize
+pub fn report_joint(q: Result<Quoted, JointRefusal>, stage: &[u8], out: &mut [u8]) -> usize
     ensures { Printed longest_report (joint_lines (joint_reply q) stage.now) out.old out.new result }
 {
-    let mark = q.mark;
-    match mark {
-        JointMark::Best => report(q.unnamed(), stage, out),
-        JointMark::Stopped => report(q.unnamed(), stage, out),
-        JointMark::FirstRefused(refusal) => put_refusal_line(out, 0, b"first ", refusal),
-        JointMark::SecondRefused(refusal) => put_refusal_line(out, 0, b"second ", refusal),
+    let mut page = Page::new(out);
+    match q {
+        Ok(quoted) => put_result(&mut page, quoted, stage),
+        Err(JointRefusal::First(refusal)) => put_refusal_line(&mut page, b"first ", refusal),
+        Err(JointRefusal::Second(refusal)) => put_refusal_line(&mut page, b"second ", refusal),
     }
+    page.place
 }
 
 // The line for a reply of the audit.
-pub fn report_audit(audited: Audited, out: &mut [u8]) -> usize
+pub fn report_audit(audited: Result<Audited, AuditRefusal>, out: &mut [u8]) -> usize
     ensures { Printed longest_report (audit_line (audited_case audited)) out.old out.new result }
 {
+    let mut page = Page::new(out);
     match audited {
-        Audited::Fits(cells) => put_judged(out, b"fits ", cells),
-        Audited::Differs(cells) => put_judged(out, b"differs ", cells),
-        Audited::SheetRefused(refusal) => put_refusal_line(out, 0, b"sheet ", refusal),
-        Audited::StageRefused(refusal) => put_refusal_line(out, 0, b"stage ", refusal),
+        Ok(Audited::Fits(cells)) => put_judged(&mut page, b"fits ", cells),
+        Ok(Audited::Differs(cells)) => put_judged(&mut page, b"differs ", cells),
+        Err(AuditRefusal::Sheet(refusal)) => put_refusal_line(&mut page, b"sheet ", refusal),
+        Err(AuditRefusal::Stage(refusal)) => put_refusal_line(&mut page, b"stage ", refusal),
     }
+    page.place
 }
 
 // The line for a reply of the clean copy's call and the bytes that it wrote the copy to (document 02, E1).
-pub fn report_copy(written: Written, copy: &[u8], out: &mut [u8]) -> usize
+pub fn report_copy(written: Result<usize, Refusal>, copy: &[u8], out: &mut [u8]) -> usize
     ensures { Printed longest_copy_line (copy_line (written_case written) copy.now) out.old out.new result }
 {
+    let mut page = Page::new(out);
     match written {
-        Written::Length(k) => put_shown_line(out, 0, copy, k, LONGEST_COPY),
-        Written::Refused(refusal) => put_refusal_line(out, 0, b"", refusal),
+        Ok(k) => put_shown_line(&mut page, copy, k, LONGEST_COPY),
+        Err(refused) => put_refusal_line(&mut page, b"", refused),
     }
+    page.place
 }

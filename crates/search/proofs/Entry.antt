@@ -5,7 +5,7 @@ use mathlib.Core.Bool.{Bool, true, false}
 use mathlib.Core.List.{List}
 use native.Mathlib.Nat.{le_trans}
 use lib.Dec.{le→leb}
-use lib.ListN.{length, get_or}
+use lib.ListN.{length}
 use Rattle.sheet.specs.Limits.{max_inputs, max_patterns}
 use Rattle.base.specs.declared.Refusal.{Refusal}
 use Rattle.base.specs.Cases.{Case, accepting, accepted_case, refused_case}
@@ -24,13 +24,12 @@ use Rattle.nodes.specs.Counts.{most_inputs}
 use Rattle.nodes.proofs.Counts.{most_inputs_lem}
 use Rattle.branch_bound.specs.Boards.{board_of}
 use Rattle.sheet.specs.Inner.Sized.{Sized}
-use Rattle.parts.specs.Inner.Boards.{lent_kind, lent_inputs, lent_wires}
 use Rattle.parts.specs.Inner.Cells.{cells_sum}
 use Rattle.parts.specs.Inner.Parts.{PartSets, Carried}
 use Rattle.parts.specs.Inner.Picks.{tables_of}
-use Rattle.parts.specs.Inner.States.{cells_place}
+use Rattle.parts.specs.declared.states.Running.{Running}
 use Rattle.visits.specs.Inner.Conflicts.{Settled, Seen, AllowedBelow}
-use Rattle.visits.specs.Inner.States.{state_of, budget_in, Held, Ran}
+use Rattle.visits.specs.Inner.States.{state_of, Ran}
 use Rattle.halves.specs.Inner.Whole.{Whole}
 use Rattle.halves.proofs.Agreeing.{agrees_whole, settled_below}
 use Rattle.branches.proofs.Carrying.{carried_floor}
@@ -43,27 +42,26 @@ unfolding start
 started b R t e et ec = e ∙ rw (et, ec)
 
 -- what the parts of the run make together
-pub ran : (b : Board) (R : Rel) {budget : ℕ} {before after : List ℕ} → Ran (search_part b (budget_in before) R) before after → budget_in before ≡ budget → state_of before ≡ start b R
+pub ran : (b : Board) (R : Rel) {budget : ℕ} {before after : Running} → Ran (search_part b before.budget R) before after → before.budget ≡ budget → state_of before ≡ start b R
     → state_of after ≡ run b budget R
 unfolding run
 ran b R r eb es = r.state ∙ ap₂ (λ x s. search_part b x R s) eb es
 
 -- the whole relation as the first part
-module _ {kind : BoardKind} {n m : ℕ} {S ws l : List ℕ} {low c : ℕ} (h : Carried kind n m S ws l low c) where
+module _ {kind : BoardKind} {n m : ℕ} {S ws : List ℕ} {l : Running} {low c : ℕ} (h : Carried kind n m S ws l low c) where
   -- where its cells reach the best it is discarded, and the state stays
-  pub not_visited : {f : ℕ} → Held l → f ≡ cells_sum c → get_or l cells_place 0 ≤ f → Ran (search_part (board_of kind n m) (budget_in l) (of_sets S)) l l
+  pub not_visited : {f : ℕ} → f ≡ cells_sum c → l.cells ≤ f → Ran (search_part (board_of kind n m) l.budget (of_sets S)) l l
   unfolding state_of
-  not_visited {f} held ef le =
+  not_visited {f} ef le =
       record {
-        long = held.long;
-        state = discards kind h.sized h.sets (budget_in l) (state_of l) (carried_floor h ef) (le→leb (get_or l cells_place 0) f le);
+        state = discards kind h.sized h.sets l.budget (state_of l) (carried_floor h ef) (le→leb l.cells f le);
         budget = refl;
-        whole = λ i _. refl;
+        whole = refl;
       }
 
   -- where it is visited, its picks are allowed below the first conflict with the whole, which it is itself
-  module _ (wide : Bool) (seen : Seen wide n S l) where
-    pub whole_itself : Whole wide n S l
+  module _ (wide : Bool) (seen : Seen wide n S l.whole) where
+    pub whole_itself : Whole wide n S l.whole
     whole_itself = record { sets = S; seen = seen; agrees = agrees_whole n S }
 
     pub from_there : {from : ℕ} → AllowedBelow wide n low l from → from ≤ 2 ^ n
@@ -116,14 +114,3 @@ module _ (kind : BoardKind) (r : Relation) (long : length r.sets ≡ max_pattern
 pub turned_away_lem : (kind : BoardKind) (r : Relation) (budget : ℕ) (f : Refusal) → check_of (most_inputs kind) r ≡ refused_case f → search_of kind r budget ≡ refused_with (refused_case f)
 unfolding search_of search_tested
 turned_away_lem kind r budget f e = rw e
-
--- the board and the sizes that the lent table tells, in place of these themselves
-module _ (e : List ℕ) {kind : BoardKind} {n m : ℕ} (ek : lent_kind e ≡ kind) (en : lent_inputs e ≡ n) (em : lent_wires e ≡ m) where
-  pub entered : {sets : List ℕ} → Sized (most_inputs kind) n m → PartSets n m sets
-      → Sized (most_inputs (lent_kind e)) (lent_inputs e) (lent_wires e) × PartSets (lent_inputs e) (lent_wires e) sets
-  entered z s = rw (ek, en, em) (z, s)
-
-  pub answer_on : (budget : ℕ) (R : Rel) {r : SearchReply}
-      → r ≡ answer_of (board_of (lent_kind e) (lent_inputs e) (lent_wires e)) R (run (board_of (lent_kind e) (lent_inputs e) (lent_wires e)) budget R)
-      → r ≡ answer_of (board_of kind n m) R (run (board_of kind n m) budget R)
-  answer_on budget R h = h ∙ ap (λ b. answer_of b R (run b budget R)) (ap₂ (λ k x. board_of k x (lent_wires e)) ek en ∙ ap (board_of kind n) em)

@@ -13,14 +13,14 @@ use Rattle.base.proofs.Tests.{decide, test_yes, test_no, eqb_yes}
 use Rattle.sheet.specs.Limits.{max_inputs, max_wires, max_patterns}
 use Rattle.table.specs.Inner.Ranks.{narrow_space}
 use Rattle.table.specs.Inner.Pairs.{narrow_inputs, narrow_patterns}
-use Rattle.table.specs.Inner.Wide.{sections}
 use Rattle.relation.specs.Inner.Side.{section}
 use Rattle.relation.proofs.Side.{section_lt}
 use Rattle.lanes.specs.Inner.Lanes.{lane_of, put_lane}
 use Rattle.lanes.proofs.Lanes.{lane_lt, put_lane_at}
 use Rattle.parts.specs.Inner.Boards.{wide_mark, board_in, lent_inputs, lent_wide, Lent}
 use Rattle.parts.specs.Inner.Picks.{pick_on, cells_on, side_rank}
-use Rattle.parts.specs.Inner.States.{rest_place, PutRest}
+use Rattle.parts.specs.declared.states.Running.{Running}
+use Rattle.parts.specs.Inner.States.{rest_count, PutRest}
 use Rattle.parts.proofs.Lending.{inputs_few}
 use Rattle.parts.proofs.LentPicks.{narrow_inputs_lem}
 use Rattle.visits.specs.Inner.States.{joined_of}
@@ -55,20 +55,19 @@ module _ {e : List ℕ} (lent : Lent e) (words : List ℕ) (j : ℕ) (lj : j < m
       let f : lent_inputs e ≤ narrow_inputs = narrow_inputs_lem e lent (board_in e) refl (nleb→lt wide_mark (board_in e) h) in
       lt_of_lt_of_le fits (pow_mono {i = 2 ^ lent_inputs e} {j = narrow_patterns} (pow_mono {i = lent_inputs e} {j = narrow_inputs} f))
 
-  module _ {before after : List ℕ} (put : PutRest (lent_wide e) j t before after) where
-    put_lane_lem : T (lent_wide e) → (q : ℕ) → 1 ≤ q → q < sections → lane_of (get_or after (rest_place q) 0) j ≡ section t q
-    put_lane_lem h q l1 lq =
-        let x = get_or before (rest_place q) 0 in
-        ap (λ y. lane_of y j) (put.rest q l1 lq ∙ ap (λ w. cond w (put_lane x j (section t q)) x) (test_yes (lent_wide e) h))
-        ∙ put_lane_at x j (section t q) j (section_lt t q) lj ∙ eqb_yes j j (section t q) (lane_of x j) refl
+  module _ {before after : Running} (put : PutRest (lent_wide e) j t before after) where
+    put_lane_lem : T (lent_wide e) → (i : ℕ) → i < rest_count → lane_of (get_or after.rest i 0) j ≡ section t (i + 1)
+    put_lane_lem h i li =
+        let x = get_or before.rest i 0 in
+        ap (λ y. lane_of y j) (put.rest i li ∙ ap (λ w. cond w (put_lane x j (section t (i + 1))) x) (test_yes (lent_wide e) h))
+        ∙ put_lane_at x j (section t (i + 1)) j (section_lt t (i + 1)) lj ∙ eqb_yes j j (section t (i + 1)) (lane_of x j) refl
 
-    others : T (lent_wide e) → section t 0 + joined_of 0 (get_or after (rest_place 1) 0) (get_or after (rest_place 2) 0) (get_or after (rest_place 3) 0) j ≡ t
+    others : T (lent_wide e) → section t 0 + joined_of 0 (get_or after.rest 0 0) (get_or after.rest 1 0) (get_or after.rest 2 0) j ≡ t
     unfolding joined_of
     others h =
-        rw (lane_zero j, put_lane_lem h 1 (omega arith) (omega arith), put_lane_lem h 2 (omega arith) (omega arith), put_lane_lem h 3 (omega arith) (omega arith))
-        (omega (arith, sections_join t whole_fits))
+        rw (lane_zero j, put_lane_lem h 0 (omega arith), put_lane_lem h 1 (omega arith), put_lane_lem h 2 (omega arith)) (omega (arith, sections_join t whole_fits))
 
     pub table_told : {wide : Bool} → wide ≡ lent_wide e
-        → cond wide (r % narrow_space + joined_of 0 (get_or after (rest_place 1) 0) (get_or after (rest_place 2) 0) (get_or after (rest_place 3) 0) j) (r % narrow_space) ≡ t
+        → cond wide (r % narrow_space + joined_of 0 (get_or after.rest 0 0) (get_or after.rest 1 0) (get_or after.rest 2 0) j) (r % narrow_space) ≡ t
     table_told ew =
         ⊎_elim (λ h. rw (ew ∙ test_yes (lent_wide e) h, first_section) (others h)) (λ h. rw (ew ∙ test_no (lent_wide e) h, first_section) (narrow_section t (narrow_fits h))) (decide (lent_wide e))

@@ -1,6 +1,6 @@
 -- The picks of the whole relation: all wires are made, and none is stopped by a best, so that they are what is carried of the whole.
-use Prim.Native.Nat.{ℕ, zero, suc, ◌*◌, ◌-◌, ◌^◌, ◌<◌, ◌≤◌}
-use mathlib.Core.Path.{◌≡◌, refl, sym, ap, ◌∙◌}
+use Prim.Native.Nat.{ℕ, zero, suc, ◌+◌, ◌*◌, ◌-◌, ◌^◌, ◌<◌, ◌≤◌}
+use mathlib.Core.Path.{◌≡◌, refl, sym, ap, subst, ◌∙◌}
 use mathlib.Core.Logic.{⊎_elim}
 use mathlib.Core.Bool.{not, cond}
 use mathlib.Core.List.{List}
@@ -9,7 +9,7 @@ use native.Mathlib.Nat.{lt_of_lt_of_le}
 use lib.Dec.{T, nleb→lt}
 use lib.ListN.{length, get_or}
 use lib.Pow.{pow_mono}
-use Rattle.base.proofs.Tests.{decide, test_yes, test_no, eqb_not}
+use Rattle.base.proofs.Tests.{decide, test_yes, test_no}
 use Rattle.sheet.specs.Limits.{max_inputs, max_wires}
 use Rattle.sheet.specs.Inner.Sized.{Sized}
 use Rattle.table.specs.Bits.{sum}
@@ -29,12 +29,14 @@ use Rattle.parts.specs.Inner.Masks.{mask_count, Halved, words_of}
 use Rattle.parts.specs.Inner.Cells.{cell_space, byte_in, packed, cells_sum}
 use Rattle.parts.specs.Inner.Picks.{pick_between, pick_on, cells_on, table_of, tables_of, cells_of}
 use Rattle.parts.specs.Inner.Parts.{PartSets, Carried}
-use Rattle.parts.specs.Inner.States.{cells_place, rest_place, side_at}
+use Rattle.parts.specs.declared.states.Running.{Running}
+use Rattle.parts.specs.Inner.States.{rest_count, side_at}
 use Rattle.parts.proofs.Keeping.{few, table_at, table_lt, table_few, pairs_cover}
 use Rattle.parts.proofs.LentPicks.{narrow_inputs_lem}
 use Rattle.parts.proofs.WordMasks.{pick_told, pairs_tell}
+use Rattle.std.specs.Prelude.{Option, Some, None, IsSome}
 use Rattle.halves.specs.declared.Picks.{Picks}
-use Rattle.halves.specs.Inner.Remade.{marked, FewCells, cells_again, side_again, Remade}
+use Rattle.halves.specs.Inner.Remade.{marked, FewCells, cells_again, side_again, Kept, KeptOrOver, Remade}
 use Rattle.halves.proofs.Making.{past_section}
 
 -- every wire is marked
@@ -56,11 +58,6 @@ none_few = (omega arith, λ j l. omega (arith, no_cells j l))
 pub none_sum : cells_sum 0 ≡ 0
 unfolding cells_sum byte_in sum
 none_sum = refl
-
--- the tables of a section past the first stand in the state
-pub side_past : (low : ℕ) (l : List ℕ) (q : ℕ) → 1 ≤ q → side_at low l q ≡ get_or l (rest_place q) 0
-unfolding side_at
-side_past low l q lq = eqb_not q 0 low (get_or l (rest_place q) 0) (λ d. omega arith)
 
 module _ {e : List ℕ} (lent : Lent e) {m : ℕ} (sz : Sized (most_inputs (lent_kind e)) (lent_inputs e) m) {S : List ℕ} (ok : PartSets (lent_inputs e) m S) (masks : List ℕ)
     (ew : words_of masks ≡ pairs_of S) where
@@ -109,40 +106,53 @@ module _ {e : List ℕ} (lent : Lent e) {m : ℕ} (sz : Sized (most_inputs (lent
       ∙ lanes_cong (λ i. section (get_or (tables_of kind n S) i 0) q) (λ _. 0)
       (λ i li. ap (λ t. section t q) (table_at kind n S i li) ∙ past_section (table_of kind n S i) q (small i) lq)
 
-  module _ {before after : List ℕ} {r : Picks} (none : (q : ℕ) → 1 ≤ q → q < sections → get_or before (rest_place q) 0 ≡ 0) (space : get_or before cells_place 0 ≡ cell_space)
-      (made : Remade e (words_of masks) each_lane 0 0 before after r) where
+  module _ {before after : Running} {o : Option Picks} (none : (i : ℕ) → i < rest_count → get_or before.rest i 0 ≡ 0) (space : before.cells ≡ cell_space)
+      (made : Remade e (words_of masks) each_lane 0 0 before after o) where
     -- the cells of all wires together are below the space of a byte, so that every pick is made
     all_few : sum max_wires (cells_again e words each_lane 0) ≤ max_wires * (2 ^ max_inputs - 1)
     all_few =
         sum_bound max_wires (2 ^ max_inputs - 1) (cells_again e words each_lane 0)
         (λ j l. omega (arith, again_cells j l, table_few kind n (few kind sz) S j))
 
-    is_kept : T r.kept
-    is_kept =
-        ⊎_elim (λ t. t) (λ t. absurd (omega (arith, made.over t (λ j l. omega (arith, no_cells j l)), space, all_few))) (decide r.kept)
+    none_dropped : o ≡ None → ⊥
+    none_dropped d =
+        let over = subst (KeptOrOver e (words_of masks) each_lane 0 0 before after) d made.told in
+        absurd (omega (arith, over (λ j l. omega (arith, no_cells j l)), space, all_few))
 
-    rest_side : (q : ℕ) → 1 ≤ q → q < sections → get_or after (rest_place q) 0 ≡ side_by_side (tables_of kind n S) q
-    rest_side q l1 lq =
-        let x = get_or before (rest_place q) 0 in
-        made.rest is_kept q l1 lq
-        ∙ ⊎_elim
-        (λ t. ap (λ y. cond y (lanes_of (side_again e words each_lane x q)) x) (test_yes (lent_wide e) t) ∙ again_side x q)
-        (λ t. ap (λ y. cond y (lanes_of (side_again e words each_lane x q)) x) (test_no (lent_wide e) t) ∙ none q l1 lq ∙ sym (narrow_side t q l1))
-        (decide (lent_wide e))
+    pub is_some : IsSome o
+    is_some = go o refl
+      where
+        go : (x : Option Picks) → o ≡ x → IsSome x
+        go (Some r) d = refl
+        go None d = absurd (none_dropped d)
 
-    whole_tables : (q : ℕ) → q < sections → side_at r.low after q ≡ side_by_side (tables_of kind n S) q
-    unfolding side_at
-    whole_tables zero lq = made.low is_kept ∙ again_side 0 0
-    whole_tables (suc q) lq = side_past r.low after (suc q) (omega arith) ∙ rest_side (suc q) (omega arith) lq
+    module _ {r : Picks} (is : o ≡ Some r) where
+      kept : Kept e (words_of masks) each_lane 0 0 before after r
+      kept = subst (KeptOrOver e (words_of masks) each_lane 0 0 before after) is made.told
 
-    pub whole_carried : length masks ≡ mask_count → Halved masks → Carried (lent_kind e) (lent_inputs e) m S masks after r.low r.cells
-    whole_carried long halved =
-        record {
-          sized = sz;
-          sets = ok;
-          long = long;
-          halved = halved;
-          masks = ew;
-          tables = whole_tables;
-          cells = (made.counts is_kept).0 ∙ all_cells;
-        }
+      rest_side : (i : ℕ) → i < rest_count → get_or after.rest i 0 ≡ side_by_side (tables_of kind n S) (suc i)
+      rest_side i li =
+          let x = get_or before.rest i 0 in
+          let q : i + 1 ≡ suc i = omega arith in
+          kept.rest i li
+          ∙ ⊎_elim
+          (λ t. ap (λ y. cond y (lanes_of (side_again e words each_lane x (i + 1))) x) (test_yes (lent_wide e) t) ∙ again_side x (i + 1) ∙ ap (side_by_side (tables_of kind n S)) q)
+          (λ t. ap (λ y. cond y (lanes_of (side_again e words each_lane x (i + 1))) x) (test_no (lent_wide e) t) ∙ none i li ∙ sym (narrow_side t (suc i) (omega arith)))
+          (decide (lent_wide e))
+
+      whole_tables : (q : ℕ) → q < sections → side_at r.low after q ≡ side_by_side (tables_of kind n S) q
+      unfolding side_at
+      whole_tables zero lq = kept.low ∙ again_side 0 0
+      whole_tables (suc i) lq = rest_side i (omega arith)
+
+      pub whole_carried : length masks ≡ mask_count → Halved masks → Carried (lent_kind e) (lent_inputs e) m S masks after r.low r.cells
+      whole_carried long halved =
+          record {
+            sized = sz;
+            sets = ok;
+            long = long;
+            halved = halved;
+            masks = ew;
+            tables = whole_tables;
+            cells = kept.counts ∙ all_cells;
+          }

@@ -1,10 +1,9 @@
 // What the search begins with: the picks of the whole relation, the first answer as the best so far, and the relation by value.
 // Inner functions: `search_sets` meets what they require.
-ghost use Rattle.std.specs.Prelude.{◌≡◌, false, cond, ℕ, ◌<◌, ◌≤◌, List, length, get_or};
+ghost use Rattle.std.specs.Prelude.{◌≡◌, false, cond, ℕ, ◌<◌, get_or};
 ghost use Rattle.sheet.specs.Limits.{max_patterns};
 ghost use Rattle.sheet.specs.Inner.Sized.{Sized};
 ghost use Rattle.table.specs.Inner.Pairs.{narrow_patterns};
-ghost use Rattle.table.specs.Inner.Wide.{sections};
 ghost use Rattle.nodes.specs.Counts.{most_inputs};
 ghost use Rattle.relation.specs.Tests.{of_sets};
 ghost use Rattle.branch_bound.specs.Search.{start};
@@ -12,8 +11,8 @@ ghost use Rattle.branch_bound.specs.Boards.{board_of};
 ghost use Rattle.parts.specs.Inner.Boards.{lent_kind, lent_inputs, lent_wires, lent_wide, Lent};
 ghost use Rattle.parts.specs.Inner.Parts.{PartSets, Carried};
 ghost use Rattle.parts.specs.Inner.Picks.{tables_of, cells_of};
-ghost use Rattle.parts.specs.Inner.States.{rest_place, state_length, AtHand};
-ghost use Rattle.visits.specs.Inner.States.{state_of, budget_in, Held, SameRest, rest_of};
+ghost use Rattle.parts.specs.Inner.States.{rest_count, AtHand};
+ghost use Rattle.visits.specs.Inner.States.{state_of, SameRest};
 ghost use Rattle.visits.specs.Inner.Conflicts.{Seen};
 
 use crate::quick_solver::quick;
@@ -24,15 +23,15 @@ use parts::boards::{BOARD_PLACE, COUNT_PLACE, inputs_of, is_wide};
 use parts::cells::{CELLS_1, first_of};
 use parts::masks::{MASKS, masks_of};
 use parts::pairs::pairs_of;
-use parts::states::{CELLS, STATE};
+use parts::states::Running;
 use relation::patterns::side_by_side;
 use sheet::Sheet;
 use table::picks::LENT;
 use table::wide::SECTION;
-use visits::states::{RESTS, begin, joined, keep, put_back, rest_of};
+use visits::states::{begin, joined, put_back, rest_of};
 
 // Above the cells of all wires together: with so many for the best, every pick is made.
-const NO_BEST: u64 = CELLS_1;
+const NO_BEST: u32 = CELLS_1 as u32;
 
 // The whole relation as the first part: the masks of its wires, its picks on the first section, and their cells.
 #[derive(Clone, Copy)]
@@ -46,17 +45,16 @@ pub struct WholePart {
 pub fn whole_part(
     e: &[u32; LENT],
     sets: &[u16; Sheet::MAX_PATTERNS],
-    state: &mut [u64; STATE],
+    state: &mut Running,
 ) -> WholePart
     requires { Lent e.now × Sized (most_inputs (lent_kind e.now)) (lent_inputs e.now) (lent_wires e.now) × PartSets (lent_inputs e.now) (lent_wires e.now) sets.now
-        × (length state.old ≡ state_length) × ((q : ℕ) → 1 ≤ q → q < sections → get_or state.old (rest_place q) 0 ≡ 0) }
-    ensures { Carried (lent_kind e.now) (lent_inputs e.now) (lent_wires e.now) sets.now result.masks state.new result.low result.cells
-        × (length state.new ≡ state_length) }
+        × ((i : ℕ) → i < rest_count → get_or state.old.rest i 0 ≡ 0) }
+    ensures { Carried (lent_kind e.now) (lent_inputs e.now) (lent_wires e.now) sets.now result.masks state.new result.low result.cells }
 {
-    state[CELLS] = NO_BEST;
+    state.cells = NO_BEST;
     let words = pairs_of(inputs_of(e[BOARD_PLACE] as u8), sets);
     let masks = masks_of(&words);
-    let found = again(e, &masks, state, LANES, 0, 0);
+    let found = again(e, &masks, state, LANES, 0, 0).unwrap();
     WholePart {
         masks,
         low: found.low,
@@ -64,25 +62,17 @@ pub fn whole_part(
     }
 }
 
-// These tables are kept as the best so far: for that they stand where those of the part at hand do, which are put there again.
-fn keep_tables(
-    tables: [u64; Sheet::WIRES],
-    cells: u32,
-    rest: [u64; RESTS],
-    state: &mut [u64; STATE],
-)
-    requires { length state.old ≡ state_length }
-    ensures { ((l : List ℕ) → rest ≡ rest_of l → SameRest l state.new) × (length state.new ≡ state_length)
-        × ((state_of state.new).tables ≡ tables) × ((state_of state.new).cells ≡ cells) }
+// These tables are kept as the best so far.
+fn keep_tables(tables: [u64; Sheet::WIRES], cells: u32, state: &mut Running)
+    ensures { ((state_of state.new).tables ≡ tables) × ((state_of state.new).cells ≡ cells) }
 {
-    let sides = [
+    state.best = [
+        side_by_side(&tables, 0),
         side_by_side(&tables, 1),
         side_by_side(&tables, 2),
         side_by_side(&tables, 3),
     ];
-    put_back(state, sides);
-    keep(state, side_by_side(&tables, 0), cells as u64);
-    put_back(state, rest);
+    state.cells = cells;
 }
 
 // The first answer is kept as the best so far. Its picks change the tables of the part at hand, which are put back.
@@ -91,20 +81,19 @@ pub fn keep_first(
     sets: [u16; Sheet::MAX_PATTERNS],
     low: u64,
     cells: u64,
-    state: &mut [u64; STATE],
+    state: &mut Running,
 )
     requires { Lent e.now × Sized (most_inputs (lent_kind e.now)) (lent_inputs e.now) (lent_wires e.now) × PartSets (lent_inputs e.now) (lent_wires e.now) sets
-        × AtHand low state.old (tables_of (lent_kind e.now) (lent_inputs e.now) sets) × (cells ≡ cells_of (lent_kind e.now) (lent_inputs e.now) sets)
-        × (length state.old ≡ state_length) }
-    ensures { SameRest state.old state.new × (length state.new ≡ state_length)
+        × AtHand low state.old (tables_of (lent_kind e.now) (lent_inputs e.now) sets) × (cells ≡ cells_of (lent_kind e.now) (lent_inputs e.now) sets) }
+    ensures { SameRest state.old state.new
         × ((state_of state.new).tables ≡ (start (board_of (lent_kind e.now) (lent_inputs e.now) (lent_wires e.now)) (of_sets sets)).tables)
         × ((state_of state.new).cells ≡ (start (board_of (lent_kind e.now) (lent_inputs e.now) (lent_wires e.now)) (of_sets sets)).cells) }
 {
     let rest = rest_of(state);
     let table = joined(low, rest[0], rest[1], rest[2], 0);
     let first = quick(e, sets, table, first_of(cells), state);
-    let tables = first.tables;
-    keep_tables(tables, first.cells, rest, state);
+    keep_tables(first.tables, first.cells, state);
+    put_back(state, rest);
 }
 
 // The patterns of the relation by value: those of the first section, and on a wide board those of all.
@@ -123,12 +112,12 @@ pub fn begin_search(
     e: &[u32; LENT],
     sets: &[u16; Sheet::MAX_PATTERNS],
     budget: u32,
-    state: &mut [u64; STATE],
+    state: &mut Running,
 )
-    requires { Lent e.now × (length state.old ≡ state_length) }
-    ensures { Held state.new × (budget_in state.new ≡ budget) × SameRest state.old state.new
+    requires { Lent e.now }
+    ensures { (state.new.budget ≡ budget) × SameRest state.old state.new
         × (state_of state.new ≡ record { tables = (state_of state.old).tables; cells = (state_of state.old).cells; visits = 0; stopped = false })
-        × Seen (lent_wide e.now) (lent_inputs e.now) sets.now state.new }
+        × Seen (lent_wide e.now) (lent_inputs e.now) sets.now state.new.whole }
 {
     let seen = seen_of(is_wide(e[BOARD_PLACE] as u8));
     let whole = whole_of(e[COUNT_PLACE] as u8, seen, sets);

@@ -15,21 +15,23 @@ ghost use Rattle.sheet.specs.Inner.Sized.{Sized};
 ghost use Rattle.parts.specs.Inner.Boards.{lent_kind, lent_inputs, lent_wires, lent_wide, Lent};
 ghost use Rattle.parts.specs.Inner.Parts.{PartSets, Carried};
 ghost use Rattle.visits.specs.Inner.Conflicts.{Seen};
-ghost use Rattle.visits.specs.Inner.States.{state_of, budget_in, Held, Ran};
+ghost use Rattle.visits.specs.Inner.States.{state_of, Ran};
 
 use base::Refusal;
 use beginning::{begin_search, keep_first, whole_part};
+use by_value::VALUE_WORDS;
 use nodes::picks::tops;
 use nodes::{BoardKind, most_inputs};
 use parts::boards::{BOARD_PLACE, COUNT_PLACE, WIRES_PLACE, board_of};
 use parts::cells::sum_of;
 use parts::masks::MASKS;
-use parts::states::{CELLS, LEFT, STATE, VISITS};
+use parts::states::{RESTS, Running};
 use relation::Relation;
 use relation::patterns::clear_past;
 use sheet::Sheet;
 use sheet::limits::patterns_of;
 use table::picks::{LENT, blocks};
+use table::wide::SECTIONS;
 use visits::conflicts::first_conflict;
 use visits::states::tables_in;
 
@@ -60,29 +62,29 @@ fn search_whole(
     masks: [u16; MASKS],
     low: u64,
     cells: u64,
-    state: &mut [u64; STATE],
+    state: &mut Running,
 )
     requires { Lent e.now × Carried (lent_kind e.now) (lent_inputs e.now) (lent_wires e.now) sets masks state.old low cells
-        × Seen (lent_wide e.now) (lent_inputs e.now) sets state.old × Held state.old }
-    ensures { Ran (search_part (board_of (lent_kind e.now) (lent_inputs e.now) (lent_wires e.now)) (budget_in state.old) (of_sets sets))
+        × Seen (lent_wide e.now) (lent_inputs e.now) sets state.old.whole }
+    ensures { Ran (search_part (board_of (lent_kind e.now) (lent_inputs e.now) (lent_wires e.now)) state.old.budget (of_sets sets))
         state.old state.new }
 {
     let mut own = sets;
     let mut own_masks = masks;
-    if (sum_of(cells) as u64) < state[CELLS] {
+    if sum_of(cells) < state.cells {
         let from = first_conflict(e, state, low);
         branches::visit(e, &mut own, &mut own_masks, state, low, cells, from);
     }
 }
 
 // The reply from the state that the search ends in, and the floor of the relation.
-fn reply(state: &[u64; STATE], floor: u64) -> Answer
+fn reply(state: &Running, floor: u64) -> Answer
     ensures { (b : Board) → (R : Rel) → floor ≡ floor_of b R → answer_told result ≡ answer_of b R (state_of state.now) }
 {
     let tables = tables_in(state);
-    let cells = state[CELLS];
-    let visits = state[VISITS];
-    if state[LEFT] == 1 {
+    let cells = u64::from(state.cells);
+    let visits = u64::from(state.visits);
+    if state.left {
         Answer {
             tables,
             cells,
@@ -108,7 +110,15 @@ fn search_sets(e: &[u32; LENT], sets: [u16; Sheet::MAX_PATTERNS], budget: u32) -
     ensures { answer_told result ≡ answer_of (board_of (lent_kind e.now) (lent_inputs e.now) (lent_wires e.now)) (of_sets sets)
         (run (board_of (lent_kind e.now) (lent_inputs e.now) (lent_wires e.now)) budget (of_sets sets)) }
 {
-    let mut state = [0u64; STATE];
+    let mut state = Running {
+        best: [0; SECTIONS as usize],
+        cells: 0,
+        visits: 0,
+        left: false,
+        budget,
+        rest: [0; RESTS],
+        whole: [0; VALUE_WORDS],
+    };
     let whole = whole_part(e, &sets, &mut state);
     let masks = whole.masks;
     let low = whole.low;
@@ -116,7 +126,7 @@ fn search_sets(e: &[u32; LENT], sets: [u16; Sheet::MAX_PATTERNS], budget: u32) -
     keep_first(e, sets, low, cells, &mut state);
     begin_search(e, &sets, budget, &mut state);
     search_whole(e, sets, masks, low, cells, &mut state);
-    reply(&state, sum_of(cells) as u64)
+    reply(&state, u64::from(sum_of(cells)))
 }
 
 // The table that a board's picks are made from, with the numbers of the board, of its wires and of its patterns behind its entries.
@@ -159,6 +169,7 @@ pub fn search_on(kind: BoardKind, relation: Relation, budget: u32) -> Result<Ans
     Ok(search_tested(kind, n, relation.m, sets, budget))
 }
 
+// Two calls stay beside `search_on`, which is both of them: README names them.
 // The search on the board of trees.
 pub fn search(relation: Relation, budget: u32) -> Result<Answer, Refusal>
     ensures { search_reply result ≡ search_of Tree relation budget }

@@ -1,6 +1,6 @@
 // The first answer, one wire after the other (QuickSolver of source 001, section 6.2).
 // Inner functions: `keep_first` and `quick` meet what they require.
-ghost use Rattle.std.specs.Prelude.{◌≡◌, cond, ◌+◌, ◌%◌, ◌<◌, length, get_or, set as put};
+ghost use Rattle.std.specs.Prelude.{◌≡◌, cond, ◌+◌, ◌%◌, ◌<◌, get_or, set as put};
 ghost use Rattle.sheet.specs.Limits.{max_wires};
 ghost use Rattle.nodes.specs.Counts.{most_inputs, count_of};
 ghost use Rattle.relation.specs.Tests.{of_sets};
@@ -10,7 +10,6 @@ ghost use Rattle.parts.specs.Inner.Boards.{lent_kind, lent_inputs, lent_wires, L
 ghost use Rattle.sheet.specs.Inner.Sized.{Sized};
 ghost use Rattle.parts.specs.Inner.Parts.{PartSets};
 ghost use Rattle.parts.specs.Inner.Picks.{table_of};
-ghost use Rattle.parts.specs.Inner.States.{rest_place, state_length};
 ghost use Rattle.table.specs.Inner.Ranks.{narrow_space};
 ghost use Rattle.visits.specs.Inner.States.{joined_of};
 
@@ -19,22 +18,22 @@ use parts::boards::{BOARD_PLACE, WIRES_PLACE, inputs_of, is_wide};
 use parts::masks::masks_of;
 use parts::pairs::pair_of;
 use parts::picks::{cells_in, pick_at, side_in};
-use parts::states::{REST, STATE};
+use parts::states::Running;
 use relation::patterns::agreeing;
 use sheet::Sheet;
 use table::picks::LENT;
 use visits::states::joined;
 
 // Wire j's table, of which a pick has the first section: on a wide board the state has the others.
-fn table_at(wide: bool, found: u32, j: u8, state: &[u64; STATE]) -> u64
+fn table_at(wide: bool, found: u32, j: u8, state: &Running) -> u64
     requires { j < max_wires }
     ensures { result ≡ cond wide
-        (found % narrow_space + joined_of 0 (get_or state.now (rest_place 1) 0) (get_or state.now (rest_place 2) 0) (get_or state.now (rest_place 3) 0) j)
+        (found % narrow_space + joined_of 0 (get_or state.now.rest 0 0) (get_or state.now.rest 1 0) (get_or state.now.rest 2 0) j)
         (found % narrow_space) }
 {
     let low = side_in(found);
     if wide {
-        return low + joined(0, state[REST + 1], state[REST + 2], state[REST + 3], j);
+        return low + joined(0, state.rest[0], state.rest[1], state.rest[2], j);
     }
     low
 }
@@ -48,14 +47,12 @@ fn pick_left(
     table: u64,
     first: u32,
     tables: &mut [u64; Sheet::WIRES],
-    state: &mut [u64; STATE],
+    state: &mut Running,
 ) -> u32
     requires { Lent e.now × Sized (most_inputs (lent_kind e.now)) (lent_inputs e.now) (lent_wires e.now) × PartSets (lent_inputs e.now) (lent_wires e.now) left.now × (j < max_wires)
-        × (j ≡ 0 → (table ≡ table_of (lent_kind e.now) (lent_inputs e.now) left.now 0) × (first ≡ count_of (lent_kind e.now) (lent_inputs e.now) table))
-        × (length tables.old ≡ max_wires) × (length state.old ≡ state_length) }
+        × (j ≡ 0 → (table ≡ table_of (lent_kind e.now) (lent_inputs e.now) left.now 0) × (first ≡ count_of (lent_kind e.now) (lent_inputs e.now) table)) }
     ensures { (tables.new ≡ put tables.old j (table_of (lent_kind e.now) (lent_inputs e.now) left.now j))
-        × (result ≡ count_of (lent_kind e.now) (lent_inputs e.now) (table_of (lent_kind e.now) (lent_inputs e.now) left.now j))
-        × (length state.new ≡ state_length) }
+        × (result ≡ count_of (lent_kind e.now) (lent_inputs e.now) (table_of (lent_kind e.now) (lent_inputs e.now) left.now j)) }
 {
     if j == 0 {
         tables[0] = table;
@@ -74,11 +71,11 @@ pub fn quick(
     sets: [u16; Sheet::MAX_PATTERNS],
     table: u64,
     first: u32,
-    state: &mut [u64; STATE],
+    state: &mut Running,
 ) -> State
     requires { Lent e.now × Sized (most_inputs (lent_kind e.now)) (lent_inputs e.now) (lent_wires e.now) × PartSets (lent_inputs e.now) (lent_wires e.now) sets
-        × (table ≡ table_of (lent_kind e.now) (lent_inputs e.now) sets 0) × (first ≡ count_of (lent_kind e.now) (lent_inputs e.now) table) × (length state.old ≡ state_length) }
-    ensures { (result ≡ start (board_of (lent_kind e.now) (lent_inputs e.now) (lent_wires e.now)) (of_sets sets)) × (length state.new ≡ state_length) }
+        × (table ≡ table_of (lent_kind e.now) (lent_inputs e.now) sets 0) × (first ≡ count_of (lent_kind e.now) (lent_inputs e.now) table) }
+    ensures { result ≡ start (board_of (lent_kind e.now) (lent_inputs e.now) (lent_wires e.now)) (of_sets sets) }
 {
     let n = inputs_of(e[BOARD_PLACE] as u8);
     let m = e[WIRES_PLACE] as u8;

@@ -16,7 +16,8 @@ pub enum Command {
     Limit { p: u8, set: u16 },
 }
 
-// A gate of the second stage: its kind, and the numbers of its two signals.
+// A gate of the second stage: its kind, and the numbers of its two signals. A kind stays a number: what a gate makes is told by arithmetic on it, with no branch
+// (document 02, E3).
 #[derive(Clone, Copy)]
 pub struct LogicGate {
     pub kind: u8,

@@ -94,6 +94,7 @@ pub fn read_on(kind: BoardKind, s: &[u8]) -> Result<StageRead, Refusal>
     read_wires(kind, s, n, m)
 }
 
+// Two calls stay beside `read_on`, which is both of them: README names them.
 // A stage sheet of document 01's board, whose wires are trees.
 pub fn read_stage(s: &[u8]) -> Result<StageRead, Refusal>
     ensures { stage_reply result ≡ reply_to_stage tree_drawing (read_stage s.now) }

@@ -42,6 +42,7 @@ pub fn write_on(
     Ok(length)
 }
 
+// Two calls stay beside `write_on`, which is both of them: README names them.
 // A stage of trees.
 pub fn write_stage(
     n: u8,

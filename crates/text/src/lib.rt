@@ -18,8 +18,17 @@ pub struct Page<'a> {
     pub place: usize,
 }
 
-impl Page<'_> {
+impl<'a> Page<'a> {
     ghost use Rattle.text.specs.Inner.Page.{Adds, HasRoom};
+
+    // A page on which nothing is put yet.
+    pub fn new(bytes: &'a mut [u8]) -> Page<'a>
+        ensures same_buffer { result.bytes.ghost_name ≡ bytes.entry.ghost_name }
+        ensures untouched { result.bytes.now ≡ bytes.old }
+        ensures start { result.place ≡ 0 }
+    {
+        Page { bytes, place: 0 }
+    }
 
     // Puts one byte.
     pub fn put_byte(&mut self, b: u8)

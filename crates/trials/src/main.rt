@@ -6,7 +6,10 @@
 ghost use Rattle.std.specs.Prelude.{◌≤◌, length};
 ghost use Rattle.trials.specs.Inner.Window.{nearly_full, window};
 
+use replies::put_reply;
+use samples::records::any_record_length;
 use std::io::{Print, Read};
+use text::Page;
 
 mod replies; // the reply to a record
 
@@ -16,22 +19,24 @@ const WINDOW: usize = 65536;
 // Replies are written out once they come to this many bytes: a buffer of 65,536 then still has room for the longest.
 const NEARLY_FULL: usize = 60000;
 
-// Writes the first `count` bytes of a buffer. What is not written is missed where the output is compared.
-fn write_first(rt: &HostRuntime, out: &[u8], count: usize) {
-    if count <= out.len() {
-        let _ = rt.write_all(&out[0..count]);
+// The turns are bounded, since nothing says that an input ends.
+const MOST_TURNS: u32 = 1000000;
+
+// Writes what is put on a page. What is not written is missed where the output is compared.
+fn write_page(rt: &HostRuntime, page: &Page) {
+    if let Some(text) = page.bytes.get(..page.place) {
+        let _ = rt.write_all(text);
     }
 }
 
-// Writes the replies out where they nearly fill the buffer, and hands back the place for the next.
-fn make_room(rt: &HostRuntime, out: &[u8], used: usize) -> usize
-    ensures { result ≤ nearly_full }
+// Writes the replies out where they nearly fill the page, which is then put on anew.
+fn make_room(rt: &HostRuntime, page: &mut Page)
+    ensures { page.new.place ≤ nearly_full }
 {
-    if used < NEARLY_FULL {
-        return used;
+    if page.place >= NEARLY_FULL {
+        write_page(rt, page);
+        page.place = 0;
     }
-    write_first(rt, out, used);
-    0
 }
 
 // Answers the records that are whole, and hands back the place after them.
@@ -40,19 +45,18 @@ fn answer_whole(rt: &HostRuntime, s: &[u8]) -> usize
     ensures { result ≤ length s.now }
 {
     let mut space = [0u8; WINDOW];
-    let out: &mut [u8] = &mut space;
-    let mut used: usize = 0;
+    let mut page = Page::new(&mut space);
     let mut at: usize = 0;
     while at < s.len() {
-        let next = at + samples::records::any_record_length(s, at);
+        let next = at + any_record_length(s, at);
         if s.len() < next {
             break;
         }
-        let end = replies::put_any_reply(out, used, s, at);
-        used = make_room(rt, out, end);
+        put_reply(&mut page, &s[at..next]);
+        make_room(rt, &mut page);
         at = next;
     }
-    write_first(rt, out, used);
+    write_page(rt, &page);
     at
 }
 
@@ -85,25 +89,17 @@ fn move_to_front(window: &mut [u8], from: usize, end: usize) -> usize
     requires { (from ≤ end) × (end ≤ length window.old) }
     ensures { result ≤ length window.old }
 {
-    let count = end - from;
-    let mut i: usize = 0;
-    while i < count {
-        window[i] = window[from + i];
-        i += 1;
-    }
-    count
+    window.copy_within(from..end, 0);
+    end - from
 }
 
-// A turn takes what the window holds of the input; the turns are bounded, since nothing says that an input ends. It ends where no record is whole: a record
-// that is cut short, or longer than the window, has no reply.
+// A turn takes what the window holds of the input. It ends where no record is whole: a record that is cut short, or longer than the window, has no reply.
 fn main(rt: HostRuntime) {
     let mut window = [0u8; WINDOW];
     let mut held: usize = 0;
-    let mut turns: u32 = 1000000;
-    while turns > 0 {
-        turns -= 1;
+    for _ in 0..MOST_TURNS {
         let end = refill(&rt, &mut window, held);
-        let done = answer_whole(&rt, &window[0..end]);
+        let done = answer_whole(&rt, &window[..end]);
         if done == 0 {
             break;
         }

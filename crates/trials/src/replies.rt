@@ -1,263 +1,214 @@
-// The reply to a record: the library is called on what it holds, and its answer put as text into a lent buffer at a place; the place after it is handed back.
-// Inner functions: the main loop meets what `put_any_reply` requires, and the functions here what the others do: bounds that are there for the sums alone.
+// The reply to a record: the library is called on what it holds, and its answer put as text onto a page.
+// Inner functions: the main loop meets what `put_reply` requires, and the functions here what the others do: bounds that are there for the sums alone.
 ghost use Rattle.std.specs.Prelude.{◌+◌, ◌≤◌, length};
 ghost use Rattle.base.specs.Inner.Put.{last_place};
 ghost use Rattle.diagram.specs.Bytes.{longest_written};
 ghost use Rattle.report.specs.Lines.{longest_pairs, longest_word};
-ghost use Rattle.samples.specs.Inner.Lengths.{longest_any_record, longest_kept, longest_number_line, longest_record, longest_reply};
+ghost use Rattle.samples.specs.Inner.Lengths.{longest_kept, longest_number_line, longest_reply};
+ghost use Rattle.text.specs.Inner.Page.{AddsAtMost, HasRoom};
 ghost use Rattle.trials.specs.Inner.Window.{most_room};
 
-use base::{Refusal, Verdict, Written, byte_at};
+use base::{Refusal, byte_at};
 use clean::LONGEST_COPY;
 use diagram::LONGEST_WRITTEN;
-use joined::{JointMark, JointQuoted};
+use joined::JointRefusal;
 use nodes::BoardKind;
-use quote::{Audited, Quoted};
+use quote::{AuditRefusal, Audited, Quoted};
 use relation::Relation;
-use report::line_parts::{lower_of, put_counts, put_refusal, put_refusal_line, put_shown_pairs};
+use report::line_parts::{put_counts, put_mark, put_refusal, put_refusal_line, put_shown_pairs};
 use samples::lines::{FILL, put_kept, put_spaced, put_tables};
 use samples::records::{call_of, length_at, part, sets_at, tables_at, u32_at};
-use search::Mark;
-use sheet::Sheet;
 use stage_reader::{StageRead, read_on};
 use stage_writer::write_on;
-use text::{put_byte, put_named, put_text};
+use text::Page;
 
 // The most bytes of a buffer that is lent: above the longest stage and the longest copy. A larger number counts as this.
 const MOST_ROOM: usize = 800;
 
 // The first `k` bytes of a buffer, a stage or a copy of at most so many, as pairs, and the end of their line.
-fn put_shown(out: &mut [u8], at: usize, buffer: &[u8], k: usize, most: usize) -> usize
-    requires { at + longest_pairs most + longest_kept ≤ last_place }
-    ensures { result ≤ at + longest_pairs most + longest_kept }
+fn put_shown(page: &mut Page, buffer: &[u8], k: usize, most: usize)
+    requires { HasRoom (longest_pairs most + longest_kept) page.old }
+    ensures { AddsAtMost (longest_pairs most + longest_kept) page.old page.new }
 {
-    let next = put_shown_pairs(out, at, buffer, k, most);
-    put_kept(out, next, buffer, k)
+    put_shown_pairs(page, buffer, k, most);
+    put_kept(page, buffer, k);
 }
 
-// The line of a refusal by a call with a buffer.
-fn put_refused(out: &mut [u8], at: usize, refusal: Refusal, buffer: &[u8]) -> usize
-    requires { at + longest_reply ≤ last_place }
-    ensures { result ≤ at + longest_reply }
+// The line of a refusal by a call with a buffer, after the word for what is refused where two sheets were handed in.
+fn put_refused(page: &mut Page, whose: &[u8], refusal: Refusal, buffer: &[u8])
+    requires { (length whose.now ≤ longest_word) × HasRoom longest_reply page.old }
+    ensures { AddsAtMost longest_reply page.old page.new }
 {
-    let next = put_refusal(out, at, refusal);
-    put_kept(out, next, buffer, 0)
+    page.put_text(whose);
+    put_refusal(page, refusal);
+    put_kept(page, buffer, 0);
 }
 
 // Both lines of a quote with a stage.
-fn put_quote_line(out: &mut [u8], at: usize, q: Quoted, word: &[u8], buffer: &[u8]) -> usize
-    requires { (at + longest_reply ≤ last_place) × (length word.now ≤ longest_word) }
-    ensures { result ≤ at + longest_reply }
+fn put_quoted(page: &mut Page, quoted: Quoted, buffer: &[u8])
+    requires { HasRoom longest_reply page.old }
+    ensures { AddsAtMost longest_reply page.old page.new }
 {
-    let counts = put_counts(out, at, q.cells, q.floor, q.visits);
-    let line = put_text(out, counts, word);
-    put_shown(out, line, buffer, q.length, LONGEST_WRITTEN)
-}
-
-// The lines of a quote.
-fn put_quoted(out: &mut [u8], at: usize, q: Quoted, buffer: &[u8]) -> usize
-    requires { at + longest_reply ≤ last_place }
-    ensures { result ≤ at + longest_reply }
-{
-    let mark = q.mark;
-    match mark {
-        Mark::Best => put_quote_line(out, at, q, b" best\n", buffer),
-        Mark::Stopped => put_quote_line(out, at, q, b" stopped\n", buffer),
-        Mark::Refused(refusal) => put_refused(out, at, refusal, buffer),
-    }
-}
-
-// The lines of the quote for a sheet, with a buffer for its stage.
-fn put_quote_into(
-    kind: BoardKind,
-    out: &mut [u8],
-    at: usize,
-    sheet: &[u8],
-    budget: u32,
-    buffer: &mut [u8],
-) -> usize
-    requires { at + longest_reply ≤ last_place }
-    ensures { result ≤ at + longest_reply }
-{
-    let q = quote::quote_on(kind, sheet, budget, buffer);
-    put_quoted(out, at, q, buffer)
+    put_counts(page, quoted.cells, quoted.floor, quoted.visits);
+    put_mark(page, quoted.mark);
+    put_shown(page, buffer, quoted.length, LONGEST_WRITTEN);
 }
 
 // The bytes of a buffer that is to be lent, told by a number of two bytes.
-fn room_at(s: &[u8], at: usize) -> usize
+fn room_at(record: &[u8], at: usize) -> usize
     requires { at + 2 ≤ last_place }
     ensures { result ≤ most_room }
 {
-    lower_of(length_at(s, at), MOST_ROOM)
+    length_at(record, at).min(MOST_ROOM)
 }
 
 // Quote: budget (4 bytes), buffer length (2), sheet length (2), sheet.
-fn put_quote(kind: BoardKind, out: &mut [u8], at: usize, s: &[u8], from: usize) -> usize
-    requires { (at + longest_reply ≤ last_place) × (from + longest_record ≤ last_place) }
-    ensures { result ≤ at + longest_reply }
+fn put_quote(page: &mut Page, kind: BoardKind, record: &[u8])
+    requires { HasRoom longest_reply page.old }
+    ensures { AddsAtMost longest_reply page.old page.new }
 {
-    let budget = u32_at(s, from + 1);
-    let room = room_at(s, from + 5);
-    let sheet = part(s, from + 9, length_at(s, from + 7));
+    let budget = u32_at(record, 1);
+    let room = room_at(record, 5);
+    let sheet = part(record, 9, length_at(record, 7));
     let mut space = [FILL; MOST_ROOM];
-    put_quote_into(kind, out, at, sheet, budget, &mut space[0..room])
-}
-
-// The line of a stage that was judged: the word of the judgement, and the stage's cells.
-fn put_audit_line(out: &mut [u8], at: usize, word: &[u8], cells: u32) -> usize
-    requires { (at + longest_number_line ≤ last_place) × (length word.now ≤ longest_word) }
-    ensures { result ≤ at + longest_number_line }
-{
-    let next = put_named(out, at, word, cells as u64);
-    put_byte(out, next, b'\n')
-}
-
-// The line of an audit.
-fn put_audited(out: &mut [u8], at: usize, audited: Audited) -> usize
-    requires { at + longest_reply ≤ last_place }
-    ensures { result ≤ at + longest_reply }
-{
-    match audited {
-        Audited::Fits(cells) => put_audit_line(out, at, b"fits ", cells),
-        Audited::Differs(cells) => put_audit_line(out, at, b"differs ", cells),
-        Audited::SheetRefused(refusal) => put_refusal_line(out, at, b"sheet ", refusal),
-        Audited::StageRefused(refusal) => put_refusal_line(out, at, b"stage ", refusal),
+    let buffer: &mut [u8] = &mut space[..room];
+    match quote::quote_on(kind, sheet, budget, buffer) {
+        Ok(quoted) => put_quoted(page, quoted, buffer),
+        Err(refusal) => put_refused(page, b"", refusal, buffer),
     }
 }
 
-// Audit: sheet length (2), stage length (2), sheet, stage.
-fn put_audit(kind: BoardKind, out: &mut [u8], at: usize, s: &[u8], from: usize) -> usize
-    requires { (at + longest_reply ≤ last_place) × (from + longest_record ≤ last_place) }
-    ensures { result ≤ at + longest_reply }
+// The line of a stage that was judged: the word of the judgement, and the stage's cells.
+fn put_judged(page: &mut Page, word: &[u8], cells: u32)
+    requires { (length word.now ≤ longest_word) × HasRoom longest_number_line page.old }
+    ensures { AddsAtMost longest_number_line page.old page.new }
 {
-    let sheet_length = length_at(s, from + 1);
-    let sheet = part(s, from + 5, sheet_length);
-    let stage = part(s, from + 5 + sheet_length, length_at(s, from + 3));
-    put_audited(out, at, quote::audit_on(kind, sheet, stage))
+    page.put_named(word, u64::from(cells));
+    page.put_byte(b'\n');
+}
+
+// Audit: sheet length (2), stage length (2), sheet, stage.
+fn put_audit(page: &mut Page, kind: BoardKind, record: &[u8])
+    requires { HasRoom longest_reply page.old }
+    ensures { AddsAtMost longest_reply page.old page.new }
+{
+    let sheet_length = length_at(record, 1);
+    let sheet = part(record, 5, sheet_length);
+    let stage = part(record, 5 + sheet_length, length_at(record, 3));
+    match quote::audit_on(kind, sheet, stage) {
+        Ok(Audited::Fits(cells)) => put_judged(page, b"fits ", cells),
+        Ok(Audited::Differs(cells)) => put_judged(page, b"differs ", cells),
+        Err(AuditRefusal::Sheet(refusal)) => put_refusal_line(page, b"sheet ", refusal),
+        Err(AuditRefusal::Stage(refusal)) => put_refusal_line(page, b"stage ", refusal),
+    }
 }
 
 // The line of a search that found tables.
-fn put_found(out: &mut [u8], at: usize, answer: search::Answer, word: &[u8]) -> usize
-    requires { (at + longest_reply ≤ last_place) × (length word.now ≤ longest_word) }
-    ensures { result ≤ at + longest_reply }
+fn put_found(page: &mut Page, answer: search::Answer)
+    requires { HasRoom longest_reply page.old }
+    ensures { AddsAtMost longest_reply page.old page.new }
 {
-    let tables = answer.tables;
-    let counts = put_tables(out, at, tables);
-    let mark = put_counts(out, counts, answer.cells, answer.floor, answer.visits);
-    put_text(out, mark, word)
+    put_tables(page, answer.tables);
+    put_counts(page, answer.cells, answer.floor, answer.visits);
+    put_mark(page, answer.mark);
 }
 
 // Search: n (1), m (1), budget (4), 64 sets (2 each).
-fn put_search(kind: BoardKind, out: &mut [u8], at: usize, s: &[u8], from: usize) -> usize
-    requires { (at + longest_reply ≤ last_place) × (from + longest_record ≤ last_place) }
-    ensures { result ≤ at + longest_reply }
+fn put_search(page: &mut Page, kind: BoardKind, record: &[u8])
+    requires { HasRoom longest_reply page.old }
+    ensures { AddsAtMost longest_reply page.old page.new }
 {
-    let n = byte_at(s, from + 1);
-    let m = byte_at(s, from + 2);
-    let sets = sets_at(s, from + 7);
-    let answer = search::search_on(kind, Relation { n, m, sets }, u32_at(s, from + 3));
-    let mark = answer.mark;
-    match mark {
-        Mark::Best => put_found(out, at, answer, b" best\n"),
-        Mark::Stopped => put_found(out, at, answer, b" stopped\n"),
-        Mark::Refused(refusal) => put_refusal_line(out, at, b"", refusal),
+    let n = byte_at(record, 1);
+    let m = byte_at(record, 2);
+    let sets = sets_at(record, 7);
+    match search::search_on(kind, Relation { n, m, sets }, u32_at(record, 3)) {
+        Ok(answer) => put_found(page, answer),
+        Err(refusal) => put_refusal_line(page, b"", refusal),
     }
 }
 
 // The line of what was written to a buffer, a stage or a copy of at most so many bytes, or of the refusal.
-fn put_written(out: &mut [u8], at: usize, written: Written, buffer: &[u8], most: usize) -> usize
-    requires { (at + longest_reply ≤ last_place) × (most ≤ longest_written) }
-    ensures { result ≤ at + longest_reply }
+fn put_written(page: &mut Page, written: Result<usize, Refusal>, buffer: &[u8], most: usize)
+    requires { HasRoom longest_reply page.old × (most ≤ longest_written) }
+    ensures { AddsAtMost longest_reply page.old page.new }
 {
     match written {
-        Written::Length(k) => {
-            let next = put_spaced(out, at, k as u64);
-            put_shown(out, next, buffer, k, most)
+        Ok(k) => {
+            put_spaced(page, k as u64);
+            put_shown(page, buffer, k, most);
         }
-        Written::Refused(refusal) => put_refused(out, at, refusal, buffer),
+        Err(refusal) => put_refused(page, b"", refusal, buffer),
     }
-}
-
-// The line of a stage that is yet to be written.
-fn put_write_into(
-    kind: BoardKind,
-    out: &mut [u8],
-    at: usize,
-    n: u8,
-    m: u8,
-    tables: [u64; Sheet::WIRES],
-    buffer: &mut [u8],
-) -> usize
-    requires { at + longest_reply ≤ last_place }
-    ensures { result ≤ at + longest_reply }
-{
-    let written = write_on(kind, n, m, tables, buffer);
-    put_written(out, at, written, buffer, LONGEST_WRITTEN)
 }
 
 // Write a stage: n (1), m (1), buffer length (2), four tables (8 each).
-fn put_write(kind: BoardKind, out: &mut [u8], at: usize, s: &[u8], from: usize) -> usize
-    requires { (at + longest_reply ≤ last_place) × (from + longest_record ≤ last_place) }
-    ensures { result ≤ at + longest_reply }
+fn put_write(page: &mut Page, kind: BoardKind, record: &[u8])
+    requires { HasRoom longest_reply page.old }
+    ensures { AddsAtMost longest_reply page.old page.new }
 {
-    let room = room_at(s, from + 3);
-    let tables = tables_at(s, from + 5);
+    let n = byte_at(record, 1);
+    let m = byte_at(record, 2);
+    let room = room_at(record, 3);
+    let tables = tables_at(record, 5);
     let mut space = [FILL; MOST_ROOM];
-    put_write_into(
-        kind,
-        out,
-        at,
-        byte_at(s, from + 1),
-        byte_at(s, from + 2),
-        tables,
-        &mut space[0..room],
-    )
+    let buffer: &mut [u8] = &mut space[..room];
+    let written = write_on(kind, n, m, tables, buffer);
+    put_written(page, written, buffer, LONGEST_WRITTEN);
 }
 
 // The line of a stage that was read.
-fn put_stage_read(out: &mut [u8], at: usize, read: StageRead) -> usize
-    requires { at + longest_reply ≤ last_place }
-    ensures { result ≤ at + longest_reply }
+fn put_stage_read(page: &mut Page, read: StageRead)
+    requires { HasRoom longest_reply page.old }
+    ensures { AddsAtMost longest_reply page.old page.new }
 {
-    let tables = read.tables;
-    let inputs = put_spaced(out, at, read.n as u64);
-    let wires = put_spaced(out, inputs, read.m as u64);
-    let line = put_tables(out, wires, tables);
-    put_audit_line(out, line, b"cells ", read.cells as u32)
+    put_spaced(page, u64::from(read.n));
+    put_spaced(page, u64::from(read.m));
+    put_tables(page, read.tables);
+    put_judged(page, b"cells ", u32::from(read.cells));
 }
 
 // Read a stage: length (2), stage.
-fn put_read(kind: BoardKind, out: &mut [u8], at: usize, s: &[u8], from: usize) -> usize
-    requires { (at + longest_reply ≤ last_place) × (from + longest_record ≤ last_place) }
-    ensures { result ≤ at + longest_reply }
+fn put_read(page: &mut Page, kind: BoardKind, record: &[u8])
+    requires { HasRoom longest_reply page.old }
+    ensures { AddsAtMost longest_reply page.old page.new }
 {
-    let stage = part(s, from + 3, length_at(s, from + 1));
-    let read = read_on(kind, stage);
-    let answer = read.answer;
-    match answer {
-        Verdict::Accepted => put_stage_read(out, at, read),
-        Verdict::Refused(refusal) => put_refusal_line(out, at, b"", refusal),
+    let stage = part(record, 3, length_at(record, 1));
+    match read_on(kind, stage) {
+        Ok(read) => put_stage_read(page, read),
+        Err(refusal) => put_refusal_line(page, b"", refusal),
     }
 }
 
-// The line of a clean copy that is yet to be written.
-fn put_clean_into(out: &mut [u8], at: usize, sheet: &[u8], buffer: &mut [u8]) -> usize
-    requires { at + longest_reply ≤ last_place }
-    ensures { result ≤ at + longest_reply }
+// Clean a sheet: buffer length (2), sheet length (2), sheet.
+fn put_clean(page: &mut Page, record: &[u8])
+    requires { HasRoom longest_reply page.old }
+    ensures { AddsAtMost longest_reply page.old page.new }
 {
+    let room = room_at(record, 1);
+    let sheet = part(record, 5, length_at(record, 3));
+    let mut space = [FILL; MOST_ROOM];
+    let buffer: &mut [u8] = &mut space[..room];
     let written = clean::clean(sheet, buffer);
-    put_written(out, at, written, buffer, LONGEST_COPY)
+    put_written(page, written, buffer, LONGEST_COPY);
 }
 
-// Clean a sheet: buffer length (2), sheet length (2), sheet.
-fn put_clean(out: &mut [u8], at: usize, s: &[u8], from: usize) -> usize
-    requires { (at + longest_reply ≤ last_place) × (from + longest_record ≤ last_place) }
-    ensures { result ≤ at + longest_reply }
+// Joint quote: budget (4 bytes), buffer length (2), first sheet's length (2), second sheet's length (2), first sheet, second sheet. A refusal names the sheet.
+fn put_joined(page: &mut Page, record: &[u8])
+    requires { HasRoom longest_reply page.old }
+    ensures { AddsAtMost longest_reply page.old page.new }
 {
-    let room = room_at(s, from + 1);
-    let sheet = part(s, from + 5, length_at(s, from + 3));
+    let budget = u32_at(record, 1);
+    let room = room_at(record, 5);
+    let first_length = length_at(record, 7);
+    let first = part(record, 11, first_length);
+    let second = part(record, 11 + first_length, length_at(record, 9));
     let mut space = [FILL; MOST_ROOM];
-    put_clean_into(out, at, sheet, &mut space[0..room])
+    let buffer: &mut [u8] = &mut space[..room];
+    match joined::quote_joined(first, second, budget, buffer) {
+        Ok(quoted) => put_quoted(page, quoted, buffer),
+        Err(JointRefusal::First(refusal)) => put_refused(page, b"first ", refusal, buffer),
+        Err(JointRefusal::Second(refusal)) => put_refused(page, b"second ", refusal, buffer),
+    }
 }
 
 // The board that a record is for, by its letter.
@@ -269,87 +220,21 @@ fn kind_of(letter: u8) -> BoardKind {
     }
 }
 
-// The reply to the record at a place.
-pub fn put_reply(out: &mut [u8], at: usize, s: &[u8], from: usize) -> usize
-    requires { (at + longest_reply ≤ last_place) × (from + longest_record ≤ last_place) }
-    ensures { result ≤ at + longest_reply }
+// The reply to a record.
+pub fn put_reply(page: &mut Page, record: &[u8])
+    requires { HasRoom longest_reply page.old }
+    ensures { AddsAtMost longest_reply page.old page.new }
 {
-    let letter = byte_at(s, from);
+    let letter = byte_at(record, 0);
     let kind = kind_of(letter);
-    let call = call_of(letter);
-    match call {
-        b'Q' => put_quote(kind, out, at, s, from),
-        b'A' => put_audit(kind, out, at, s, from),
-        b'S' => put_search(kind, out, at, s, from),
-        b'W' => put_write(kind, out, at, s, from),
-        b'R' => put_read(kind, out, at, s, from),
-        b'C' => put_clean(out, at, s, from),
-        _ => put_text(out, at, b"unknown letter\n"),
-    }
-}
-
-// The line of a refusal by a call with a buffer, after the word for what is refused.
-fn put_refused_of(out: &mut [u8], at: usize, whose: &[u8], refusal: Refusal, buffer: &[u8]) -> usize
-    requires { (at + longest_reply ≤ last_place) × (length whose.now ≤ longest_word) }
-    ensures { result ≤ at + longest_reply }
-{
-    let start = put_text(out, at, whose);
-    let next = put_refusal(out, start, refusal);
-    put_kept(out, next, buffer, 0)
-}
-
-// The lines of a joint quote: a refusal names the sheet.
-fn put_joint(out: &mut [u8], at: usize, q: JointQuoted, buffer: &[u8]) -> usize
-    requires { at + longest_reply ≤ last_place }
-    ensures { result ≤ at + longest_reply }
-{
-    let mark = q.mark;
-    match mark {
-        JointMark::Best => put_quoted(out, at, q.unnamed(), buffer),
-        JointMark::Stopped => put_quoted(out, at, q.unnamed(), buffer),
-        JointMark::FirstRefused(refusal) => put_refused_of(out, at, b"first ", refusal, buffer),
-        JointMark::SecondRefused(refusal) => put_refused_of(out, at, b"second ", refusal, buffer),
-    }
-}
-
-// The lines of the joint quote for two sheets, with a buffer for its stage.
-fn put_joined_into(
-    out: &mut [u8],
-    at: usize,
-    first: &[u8],
-    second: &[u8],
-    budget: u32,
-    buffer: &mut [u8],
-) -> usize
-    requires { at + longest_reply ≤ last_place }
-    ensures { result ≤ at + longest_reply }
-{
-    let q = joined::quote_joined(first, second, budget, buffer);
-    put_joint(out, at, q, buffer)
-}
-
-// Joint quote: budget (4 bytes), buffer length (2), first sheet's length (2), second sheet's length (2), first sheet, second sheet.
-fn put_joined(out: &mut [u8], at: usize, s: &[u8], from: usize) -> usize
-    requires { (at + longest_reply ≤ last_place) × (from + longest_any_record ≤ last_place) }
-    ensures { result ≤ at + longest_reply }
-{
-    let budget = u32_at(s, from + 1);
-    let room = room_at(s, from + 5);
-    let first_length = length_at(s, from + 7);
-    let first = part(s, from + 11, first_length);
-    let second = part(s, from + 11 + first_length, length_at(s, from + 9));
-    let mut space = [FILL; MOST_ROOM];
-    put_joined_into(out, at, first, second, budget, &mut space[0..room])
-}
-
-// The reply to the record at a place, which may be that of a joint quote.
-pub fn put_any_reply(out: &mut [u8], at: usize, s: &[u8], from: usize) -> usize
-    requires { (at + longest_reply ≤ last_place) × (from + longest_any_record ≤ last_place) }
-    ensures { result ≤ at + longest_reply }
-{
-    let letter = byte_at(s, from);
-    match letter {
-        b'J' => put_joined(out, at, s, from),
-        _ => put_reply(out, at, s, from),
+    match call_of(letter) {
+        b'Q' => put_quote(page, kind, record),
+        b'A' => put_audit(page, kind, record),
+        b'S' => put_search(page, kind, record),
+        b'W' => put_write(page, kind, record),
+        b'R' => put_read(page, kind, record),
+        b'C' => put_clean(page, record),
+        b'J' => put_joined(page, record),
+        _ => page.put_text(b"unknown letter\n"),
     }
 }

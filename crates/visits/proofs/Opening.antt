@@ -22,8 +22,7 @@ use Rattle.relation.proofs.Decide.{compatible_at, compatible_test, conflict_is, 
 use Rattle.relation.proofs.Members.{member_sets}
 use Rattle.relation.proofs.AllWires.{free_all_wires, value_all_wires}
 use Rattle.relation.proofs.Side.{side_value}
-use Rattle.visits.specs.declared.SplitPlace.{SplitPlace}
-use Rattle.visits.specs.declared.SplitPlace.TheVariants.{Pair, Nowhere}
+use Rattle.std.specs.Prelude.{Option, Some, None}
 use Rattle.branch_bound.specs.Search.{reply_tables, pick, picks}
 use Rattle.nodes.specs.declared.BoardKind.{BoardKind}
 use Rattle.nodes.specs.Counts.{most_inputs}
@@ -46,27 +45,28 @@ tables_past m X j l =
     (decide (ltb j max_wires))
 
 -- what a pair found tells
-pub place_told : (n m : ℕ) (R : Rel) (X : Tables) (p j : ℕ) → split_place n m R X ≡ Pair p j
+pub place_told : (n m : ℕ) (R : Rel) (X : Tables) (p j : ℕ) → split_place n m R X ≡ Some (p, j)
     → T (not (compatible n m R X)) × (conflict n m R X ≡ p) × (open_wire m (R p) ≡ j)
 unfolding split_place
 place_told n m R X p j e =
     ⊎_elim
-    (λ t. let z : Nowhere ≡ Pair p j = rw (test_yes (compatible n m R X) t) at e in let y : ◌≡◌ {A = ℕ} 0 1 = cc in absurd (omega arith))
+    (λ t. let z : None ≡ Some (p, j) = rw (test_yes (compatible n m R X) t) at e in let y : ◌≡◌ {A = ℕ} 0 1 = cc in absurd (omega arith))
     (λ t.
-    let z : Pair (conflict n m R X) (open_wire m (R (conflict n m R X))) ≡ Pair p j = rw (test_no (compatible n m R X) t) at e in
-    let ep : conflict n m R X ≡ p = cc in
-    let ej : open_wire m (R (conflict n m R X)) ≡ j = cc in
+    let z : Some (conflict n m R X, open_wire m (R (conflict n m R X))) ≡ Some (p, j) = rw (test_no (compatible n m R X) t) at e in
+    let y : ◌≡◌ {A = ℕ × ℕ} (conflict n m R X, open_wire m (R (conflict n m R X))) (p, j) = cc in
+    let ep = ap (λ (x : ℕ × ℕ). x.0) y in
+    let ej = ap (λ (x : ℕ × ℕ). x.1) y in
     (t, ep, rw ep at ej))
     (decide (compatible n m R X))
 
 -- what no pair found tells
-pub found_nowhere : (n m : ℕ) (R : Rel) (X : Tables) → split_place n m R X ≡ Nowhere → T (compatible n m R X)
+pub found_nowhere : (n m : ℕ) (R : Rel) (X : Tables) → split_place n m R X ≡ None → T (compatible n m R X)
 unfolding split_place
 found_nowhere n m R X e =
     ⊎_elim (λ t. t)
     (λ t.
     let c = conflict n m R X in
-    let z : Pair c (open_wire m (R c)) ≡ Nowhere = rw (test_no (compatible n m R X) t) at e in
+    let z : Some (c, open_wire m (R c)) ≡ None = rw (test_no (compatible n m R X) t) at e in
     let y : ◌≡◌ {A = ℕ} 0 1 = cc in absurd (omega arith))
     (decide (compatible n m R X))
 
@@ -95,13 +95,13 @@ module _ (kind : BoardKind) {n m : ℕ} (sz : Sized (most_inputs kind) n m) {set
       (λ j l. rw (are, wires_tables n m sz.m_most (pick (board_of kind n m) R) j l) (pick_fits (board_of kind n m) R ok.defined j)) p lp t in
       T_not (is_open m (R p) (open_wire m (R p))) (h (open_wire m (R p)) w.0) w.1
 
-  pub none_open : ((p : ℕ) → p < 2 ^ n → T (of_sets sets p (value m (wires tables) p))) → split_place n m (of_sets sets) (wires tables) ≡ Nowhere
+  pub none_open : ((p : ℕ) → p < 2 ^ n → T (of_sets sets p (value m (wires tables) p))) → split_place n m (of_sets sets) (wires tables) ≡ None
   unfolding split_place
   none_open h = rw (test_yes (compatible n m (of_sets sets) (wires tables)) (compatible_test n m (of_sets sets) (wires tables) h))
 
   pub pair_open : (p j : ℕ) → p < 2 ^ n → j < m → ((q : ℕ) → q < p → T (of_sets sets q (value m (wires tables) q)))
       → T (not (of_sets sets p (value m (wires tables) p))) → ((i : ℕ) → i < j → T (not (is_open m (of_sets sets p) i))) → T (is_open m (of_sets sets p) j)
-      → split_place n m (of_sets sets) (wires tables) ≡ Pair p j
+      → split_place n m (of_sets sets) (wires tables) ≡ Some (p, j)
   unfolding split_place conflict open_wire
   pair_open p j lp lj before here below free-here =
       let R = of_sets sets in
@@ -114,7 +114,7 @@ module _ (kind : BoardKind) {n m : ℕ} (sz : Sized (most_inputs kind) n m) {set
       rw (no, at, wire)
 
   -- what is found is an open pair
-  pub found_open : {f : SplitPlace} → f ≡ split_place n m (of_sets sets) (wires tables) → {p j : ℕ} → f ≡ Pair p j
+  pub found_open : {f : Option (ℕ × ℕ)} → f ≡ split_place n m (of_sets sets) (wires tables) → {p j : ℕ} → f ≡ Some (p, j)
       → (p < 2 ^ n) × (j < m) × T (is_open m (of_sets sets p) j)
   unfolding picks board_of
   found_open ef {p} {j} e =
@@ -126,7 +126,7 @@ module _ (kind : BoardKind) {n m : ℕ} (sz : Sized (most_inputs kind) n m) {set
       let v = rw told.2 at w in (at.0, v.0, v.1)
 
   -- and below it nothing is in conflict
-  pub found_below : {f : SplitPlace} → f ≡ split_place n m (of_sets sets) (wires tables) → {p j : ℕ} → f ≡ Pair p j → p < 2 ^ n → Settled m sets tables p
+  pub found_below : {f : Option (ℕ × ℕ)} → f ≡ split_place n m (of_sets sets) (wires tables) → {p j : ℕ} → f ≡ Some (p, j) → p < 2 ^ n → Settled m sets tables p
   unfolding conflict
   found_below ef {p} {j} e lp q l =
       let R = of_sets sets in

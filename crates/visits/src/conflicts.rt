@@ -1,6 +1,6 @@
 // The pattern and wire to split at.
 // Inner functions: the cycle and the entry of the search meet what they require.
-ghost use Rattle.std.specs.Prelude.{◌≡◌, ◌<◌, ◌≤◌, ◌^◌};
+ghost use Rattle.std.specs.Prelude.{◌≡◌, ◌<◌, ◌≤◌, ◌^◌, IfSome};
 ghost use Rattle.sheet.specs.Limits.{max_patterns};
 ghost use Rattle.table.specs.Cells.{wires};
 ghost use Rattle.table.specs.Inner.Wide.{sections};
@@ -14,10 +14,9 @@ ghost use Rattle.parts.specs.Inner.Picks.{tables_of};
 ghost use Rattle.parts.specs.Inner.States.{side_at, AtHand};
 ghost use Rattle.visits.specs.Inner.Conflicts.{Settled, split_place, ClearedBy, AllowedLater, AllowedBelow};
 
-use crate::SplitPlace;
-use by_value::{SECTION_WORDS, allowing, first_refused};
+use by_value::{SECTION_WORDS, VALUE_WORDS, allowing, first_refused};
 use parts::boards::{BOARD_PLACE, COUNT_PLACE, WIRES_PLACE, is_wide};
-use parts::states::{REST, STATE, WHOLE};
+use parts::states::Running;
 use relation::patterns::value_in;
 use relation::values::{contains, is_open};
 use sheet::Sheet;
@@ -25,57 +24,54 @@ use table::picks::LENT;
 use table::wide::{SECTION, SECTIONS};
 
 // The tables of the part at hand on section q.
-pub fn word_of(state: &[u64; STATE], low: u64, q: u8) -> u64
+pub fn word_of(state: &Running, low: u64, q: u8) -> u64
     requires { q < sections }
     ensures { result ≡ side_at low state.now q }
 {
     if q == 0 {
         low
     } else {
-        state[REST + q as usize]
+        state.rest[q as usize - 1]
     }
 }
 
-// A pattern of section q below which the tables' value is allowed by the whole relation: the lowest on which it is not, or SECTION. Whoever calls needs no more
-// than that it is allowed below, and `first_open` goes on from there.
-fn refused_on(state: &[u64; STATE], q: u8, tables: u64) -> u8
+// The lowest pattern of section q on which the tables' value is not allowed by the whole relation. Whoever calls needs no more than that it is allowed below,
+// and `first_open` goes on from there.
+fn refused_on(whole: &[u64; VALUE_WORDS], q: u8, tables: u64) -> Option<u8>
     requires { q < sections }
-    ensures { (result ≤ narrow_patterns) × ClearedBy state.now q tables result }
+    ensures inside { IfSome result (λ p. p < narrow_patterns) }
+    ensures cleared { ClearedBy whole.now q tables result }
 {
-    let at = WHOLE + SECTION_WORDS * q as usize;
+    let at = SECTION_WORDS * q as usize;
     first_refused(allowing(
-        state[at],
-        state[at + 1],
-        state[at + 2],
-        state[at + 3],
+        whole[at],
+        whole[at + 1],
+        whole[at + 2],
+        whole[at + 3],
         tables,
     ))
 }
 
 // A pattern below which the later sections are without conflict: the lowest in conflict there, or the number of patterns.
-fn later_conflict(state: &[u64; STATE], count: u8) -> u8
+fn later_conflict(state: &Running, count: u8) -> u8
     requires { count ≤ max_patterns }
     ensures { AllowedLater state.now count result }
 {
-    let mut q: u8 = 1;
-    while q < SECTIONS {
-        let p = refused_on(state, q, state[REST + q as usize]);
-        if p < SECTION {
+    for q in 1..SECTIONS {
+        if let Some(p) = refused_on(&state.whole, q, state.rest[q as usize - 1]) {
             return SECTION * q + p;
         }
-        q += 1;
     }
     count
 }
 
 // A pattern below which the tables of the part at hand are without conflict: the lowest in conflict with the whole relation, or the number of patterns. What a split dropped of
 // the whole is no value of the picks, so that it is the lowest in conflict with the part too.
-pub fn first_conflict(e: &[u32; LENT], state: &[u64; STATE], low: u64) -> u8
+pub fn first_conflict(e: &[u32; LENT], state: &Running, low: u64) -> u8
     requires { Lent e.now }
     ensures { AllowedBelow (lent_wide e.now) (lent_inputs e.now) low state.now result }
 {
-    let p = refused_on(state, 0, low);
-    if p < SECTION {
+    if let Some(p) = refused_on(&state.whole, 0, low) {
         return p;
     }
     let count = e[COUNT_PLACE] as u8;
@@ -85,15 +81,15 @@ pub fn first_conflict(e: &[u32; LENT], state: &[u64; STATE], low: u64) -> u8
     count
 }
 
-// The lowest pattern on which the picks' value is not allowed, and the lowest wire open there. A pattern in conflict has an open wire, since every pick
+// Where to split: the lowest pattern on which the picks' value is not allowed, and the lowest wire open there. None without a conflict. A pattern in conflict has an open wire, since every pick
 // fits its projection. Patterns below `from` are known to be without conflict. The two nested loops, left by a label, are the form that document 01 names for this.
 pub fn first_open(
     e: &[u32; LENT],
     from: u8,
     sets: &[u16; Sheet::MAX_PATTERNS],
-    state: &[u64; STATE],
+    state: &Running,
     low: u64,
-) -> SplitPlace
+) -> Option<(u8, u8)>
     requires { Lent e.now × Sized (most_inputs (lent_kind e.now)) (lent_inputs e.now) (lent_wires e.now) × PartSets (lent_inputs e.now) (lent_wires e.now) sets.now
         × AtHand low state.now (tables_of (lent_kind e.now) (lent_inputs e.now) sets.now) × (from ≤ 2 ^ lent_inputs e.now)
         × Settled (lent_wires e.now) sets.now (tables_of (lent_kind e.now) (lent_inputs e.now) sets.now) from }
@@ -102,24 +98,17 @@ pub fn first_open(
 {
     let count = e[COUNT_PLACE] as u8;
     let m = e[WIRES_PLACE] as u8;
-    let mut p: u8 = from;
-    let mut j: u8 = 0;
-    'patterns: while p < count {
+    let mut found = None;
+    'patterns: for p in from..count {
         let set = sets[p as usize];
         if !contains(set, value_in(word_of(state, low, p / SECTION), p % SECTION)) {
-            j = 0;
-            while j < m {
+            for j in 0..m {
                 if is_open(set, j) {
+                    found = Some((p, j));
                     break 'patterns;
                 }
-                j += 1;
             }
         }
-        p += 1;
     }
-    if p < count {
-        SplitPlace::Pair(p, j)
-    } else {
-        SplitPlace::Nowhere
-    }
+    found
 }

@@ -4,10 +4,3 @@
 
 pub mod states; // the state that is lent down
 pub mod conflicts; // where to split: the first conflict
-
-// Where to split: the lowest pattern in conflict with its lowest open wire; nowhere without a conflict.
-#[derive(Clone, Copy)]
-pub enum SplitPlace {
-    Pair(u8, u8),
-    Nowhere,
-}

@@ -1,17 +1,14 @@
-// The changes of the state that the search lends down. What stands where is of `parts`.
+// The changes of the state that the search lends down, which is of `parts`.
 // Inner functions: the cycle and the entry of the search meet what they require.
-ghost use Rattle.std.specs.Prelude.{◌≡◌, not, cond, ◌+◌, ◌<◌, length, get_or, set};
+ghost use Rattle.std.specs.Prelude.{◌≡◌, not, cond, ◌<◌};
 ghost use Rattle.sheet.specs.Limits.{max_wires};
-ghost use Rattle.parts.specs.Inner.States.{left_place, visits_place, state_length};
-ghost use Rattle.visits.specs.Inner.States.{joined_of, state_of, spent_in, Held, kept_best, rest_of, with_rest, Begun};
+ghost use Rattle.parts.specs.Inner.States.{with_rest};
+ghost use Rattle.visits.specs.Inner.States.{joined_of, state_of, spent_in, stopped_at, charged_once, kept_best, begun};
 
 use lanes::lane;
-use parts::states::{BUDGET, CELLS, LEFT, REST, STATE, VISITS, WHOLE};
+use parts::states::{RESTS, Running};
 use sheet::Sheet;
-use table::wide::{SECTION_SPACE, SECTIONS};
-
-// The sections past the first.
-pub const RESTS: usize = SECTIONS as usize - 1;
+use table::wide::SECTION_SPACE;
 
 // What the lowest bit of the second, the third and the fourth section counts for.
 const SECOND: u64 = SECTION_SPACE;
@@ -21,57 +18,43 @@ const THIRD: u64 = SECOND * SECTION_SPACE;
 const FOURTH: u64 = THIRD * SECTION_SPACE;
 
 // A part is left: the search is stopped.
-pub fn leave(state: &mut [u64; STATE])
-    requires { length state.old ≡ state_length }
-    ensures { state.new ≡ set state.old left_place 1 }
+pub fn leave(state: &mut Running)
+    ensures { state.new ≡ stopped_at state.old }
 {
-    state[LEFT] = 1;
+    state.left = true;
 }
 
 // One visit more, if the budget has one; whether it has.
-pub fn charge(state: &mut [u64; STATE]) -> bool
-    requires { Held state.old }
-    ensures { (result ≡ not (spent_in state.old))
-        × (state.new ≡ cond (spent_in state.old) state.old (set state.old visits_place (get_or state.old visits_place 0 + 1))) }
+pub fn charge(state: &mut Running) -> bool
+    ensures { (result ≡ not (spent_in state.old)) × (state.new ≡ cond (spent_in state.old) state.old (charged_once state.old)) }
 {
-    let visits = state[VISITS];
-    if state[BUDGET] <= visits {
+    if state.budget <= state.visits {
         return false;
     }
-    state[VISITS] = visits + 1;
+    state.visits += 1;
     true
 }
 
 // The best so far are the tables of the part at hand, with so many cells.
-pub fn keep(state: &mut [u64; STATE], low: u64, cells: u64)
-    requires { length state.old ≡ state_length }
+pub fn keep(state: &mut Running, low: u64, cells: u32)
     ensures { state.new ≡ kept_best state.old low cells }
 {
-    let second = state[REST + 1];
-    let third = state[REST + 2];
-    let fourth = state[REST + 3];
-    state[0] = low;
-    state[1] = second;
-    state[2] = third;
-    state[3] = fourth;
-    state[CELLS] = cells;
+    state.best = [low, state.rest[0], state.rest[1], state.rest[2]];
+    state.cells = cells;
 }
 
-// The tables of the part at hand on the sections past the first.
-pub fn rest_of(state: &[u64; STATE]) -> [u64; RESTS]
-    ensures { result ≡ rest_of state.now }
+// The tables of the part at hand on the sections past the first, number by number: as one copy they go through the stack, and a visit is slower.
+pub fn rest_of(state: &Running) -> [u64; RESTS]
+    ensures { result ≡ state.now.rest }
 {
-    [state[REST + 1], state[REST + 2], state[REST + 3]]
+    [state.rest[0], state.rest[1], state.rest[2]]
 }
 
 // These put back.
-pub fn put_back(state: &mut [u64; STATE], rest: [u64; RESTS])
-    requires { length state.old ≡ state_length }
+pub fn put_back(state: &mut Running, rest: [u64; RESTS])
     ensures { state.new ≡ with_rest state.old rest }
 {
-    state[REST + 1] = rest[0];
-    state[REST + 2] = rest[1];
-    state[REST + 3] = rest[2];
+    state.rest = [rest[0], rest[1], rest[2]];
 }
 
 // Wire j's table from its lanes on the four sections.
@@ -83,13 +66,10 @@ pub fn joined(a: u64, b: u64, c: u64, d: u64, j: u8) -> u64
 }
 
 // The best tables so far.
-pub fn tables_in(state: &[u64; STATE]) -> [u64; Sheet::WIRES]
+pub fn tables_in(state: &Running) -> [u64; Sheet::WIRES]
     ensures { result ≡ (state_of state.now).tables }
 {
-    let a = state[0];
-    let b = state[1];
-    let c = state[2];
-    let d = state[3];
+    let [a, b, c, d] = state.best;
     [
         joined(a, b, c, d, 0),
         joined(a, b, c, d, 1),
@@ -99,14 +79,11 @@ pub fn tables_in(state: &[u64; STATE]) -> [u64; Sheet::WIRES]
 }
 
 // The search begins: no visit was charged and no part left, and the budget and the relation by value are these.
-pub fn begin(state: &mut [u64; STATE], budget: u32, whole: &[u64; by_value::VALUE_WORDS])
-    requires { length state.old ≡ state_length }
-    ensures { Begun budget whole.now state.old state.new }
+pub fn begin(state: &mut Running, budget: u32, whole: &[u64; by_value::VALUE_WORDS])
+    ensures { state.new ≡ begun state.old budget whole.now }
 {
-    state[VISITS] = 0;
-    state[LEFT] = 0;
-    state[BUDGET] = budget as u64;
-    for i in 0..by_value::VALUE_WORDS {
-        state[WHOLE + i] = whole[i];
-    }
+    state.visits = 0;
+    state.left = false;
+    state.budget = budget;
+    state.whole = *whole;
 }

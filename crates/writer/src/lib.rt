@@ -28,7 +28,7 @@ pub const LIMIT_WIDTH: usize = 4;
 // No command has more.
 const LONGEST_COMMAND: usize = 4;
 
-// A command as bytes: its own at the front, and how many they are.
+// A command as bytes: its own at the front, and how many they are. An array with its length, since a list of its own would need memory, and so could fail.
 #[derive(Clone, Copy)]
 struct Encoded {
     bytes: [u8; LONGEST_COMMAND],

@@ -1,14 +1,7 @@
--- The sections of a copy between its first and its last command, as the code goes through them.
-use Rattle.std.specs.Prelude.{ℕ, List}
+-- What a section of a copy says of a pattern, a gate or an output, as the code has it: a command or none.
+use Rattle.std.specs.Prelude.{List, [], ◌∷◌, Option, Some, None}
 use Rattle.sheet.specs.declared.Command.{Command}
-use Rattle.sheet.specs.declared.Sheet.{Sheet}
-use Rattle.clean.specs.declared.sections.Section.{Section}
-use Rattle.clean.specs.declared.sections.Section.TheVariants.{Marks, Limits, Gates, Outputs}
-use Rattle.clean.specs.Copy.{copy_mark, copy_limit, copy_gate, copy_output}
 
--- what a section has for a pattern, a gate or an output
-abbrev pub piece_of : Section → Sheet → ℕ → List Command
-piece_of Marks = copy_mark
-piece_of Limits = copy_limit
-piece_of Gates = copy_gate
-piece_of Outputs = copy_output
+abbrev pub commands_in : Option Command → List Command
+commands_in None = []
+commands_in (Some c) = c ∷ []

@@ -9,6 +9,7 @@ use Rattle.relation.specs.Tests.{of_sets}
 use Rattle.relation.specs.Inner.Narrowed.{NonePast}
 use Rattle.parts.specs.Inner.Words.{pairs_of}
 use Rattle.parts.specs.Inner.Masks.{mask_count, Halved, words_of}
+use Rattle.parts.specs.declared.states.Running.{Running}
 use Rattle.parts.specs.Inner.States.{AtHand}
 use Rattle.parts.specs.Inner.Picks.{tables_of, cells_of}
 
@@ -20,7 +21,7 @@ pub record PartSets (n m : ℕ) (sets : List ℕ) : Type 0 where
   pub defined : WellDefined n m (of_sets sets)
 
 -- sets s, masks w, tables (those of the first section and, in the state l, of the others) and cells c are those of one part
-pub record Carried (kind : BoardKind) (n m : ℕ) (s w l : List ℕ) (low c : ℕ) : Type 0 where
+pub record Carried (kind : BoardKind) (n m : ℕ) (s w : List ℕ) (l : Running) (low c : ℕ) : Type 0 where
   pub sized : Sized (most_inputs kind) n m
   pub sets : PartSets n m s
   pub long : length w ≡ mask_count

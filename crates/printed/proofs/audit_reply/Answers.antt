@@ -7,14 +7,11 @@ use Rattle.printed.proofs.audit_reply.Goals as goal
 
 pub returns-then-sheet-gt-LONGEST_SHEET : goal.returns-then-sheet-gt-LONGEST_SHEET
 returns-then-sheet-gt-LONGEST_SHEET c =
-    let t = c in
-    let a = t.args in
-    let e = audit_too_long a.kind a.sheet.now _ a.stage.now (ap (refusing refused_outcome) t.too_long.ensures) t.if-sheet-gt-LONGEST_SHEET.true in
-    printed _ _ _ c.report_audit.ensures e
+    let a = c.args in
+    let e = ap (refusing refused_outcome) c.too_long.ensures in
+    printed _ _ _ c.report_audit.ensures (audit_too_long a.kind a.sheet.now _ a.stage.now e c.if-sheet-gt-LONGEST_SHEET.true)
 
 pub returns : goal.returns
 returns c =
-    let t = c in
-    let a = t.args in
-    let e = audit_line_lem a.kind a.sheet.now _ a.stage.now t.audit_on-audited.ensures t.if-sheet-gt-LONGEST_SHEET.false in
-    printed _ _ _ c.report_audit-2.ensures e
+    let a = c.args in
+    printed _ _ _ c.report_audit-2.ensures (audit_line_lem a.kind a.sheet.now _ a.stage.now c.audit_on-audited.ensures c.if-sheet-gt-LONGEST_SHEET.false)

@@ -7,15 +7,9 @@ use Rattle.printed.proofs.clean_reply.Goals as goal
 
 pub returns-then-sheet-gt-LONGEST_SHEET : goal.returns-then-sheet-gt-LONGEST_SHEET
 returns-then-sheet-gt-LONGEST_SHEET c =
-    let t = c in
-    let a = t.args in
-    let e = clean_too_long a.sheet.now _ _ (ap refused_case t.too_long.ensures) t.if-sheet-gt-LONGEST_SHEET.true in
-    printed _ _ _ c.report_copy.ensures e
+    printed _ _ _ c.report_copy.ensures (clean_too_long c.args.sheet.now _ _ (ap refused_case c.too_long.ensures) c.if-sheet-gt-LONGEST_SHEET.true)
 
 pub returns : goal.returns
 returns c =
-    let t = c in
-    let a = t.args in
-    let w = t.clean-written.ensures in
-    let e = clean_line a.sheet.now _ _ w.reply w.bytes t.if-sheet-gt-LONGEST_SHEET.false in
-    printed _ _ _ c.report_copy-2.ensures e
+    let w = c.clean-written.ensures in
+    printed _ _ _ c.report_copy-2.ensures (clean_line c.args.sheet.now _ _ w.reply w.bytes c.if-sheet-gt-LONGEST_SHEET.false)

@@ -1,32 +1,27 @@
 -- `joined_reply` meets its contract: the first sheet is too long, or the second, or the joint quote says it.
-use mathlib.Core.Path.{ap, ◌∙◌}
+use mathlib.Core.Path.{ap}
 use Rattle.base.specs.Cases.{refusing, refused_outcome}
 use Rattle.quote.specs.Cases.{no_quote}
-
 use Rattle.report.proofs.Reports.{printed}
 use Rattle.printed.proofs.Printing.{joined_first_long, joined_second_long, joined_lines}
 use Rattle.printed.proofs.joined_reply.Goals as goal
 
 pub returns-then-first-gt-LONGEST_SHEET : goal.returns-then-first-gt-LONGEST_SHEET
 returns-then-first-gt-LONGEST_SHEET c =
-    let j = c in
-    let i = j in
-    let a = i.args in
-    let e = j.refused_joint-refused.ensures ∙ ap (λ f. no_quote (refusing refused_outcome f)) j.too_long.ensures in
-    printed _ _ _ c.report_joint.ensures (joined_first_long a.first.now a.second.now _ _ e i.if-first-gt-LONGEST_SHEET.true)
+    let a = c.args in
+    let e = ap (λ f. no_quote (refusing refused_outcome f)) c.too_long.ensures in
+    printed _ _ _ c.report_joint.ensures (joined_first_long a.first.now a.second.now _ _ e c.if-first-gt-LONGEST_SHEET.true)
 
 pub returns-then-second-gt-LONGEST_SHEET : goal.returns-then-second-gt-LONGEST_SHEET
 returns-then-second-gt-LONGEST_SHEET c =
-    let j = c in
-    let i = j in
-    let a = i.args in
-    let e = j.refused_joint-refused-then-second-gt-LONGEST_SHEET.ensures ∙ ap no_quote j.second_too_long.ensures in
-    printed _ _ _ c.report_joint-then-second-gt-LONGEST_SHEET.ensures (joined_second_long a.first.now a.second.now i.if-first-gt-LONGEST_SHEET.false _ _ e i.if-second-gt-LONGEST_SHEET.true)
+    let a = c.args in
+    let e = ap no_quote c.second_too_long.ensures in
+    printed _ _ _ c.report_joint-then-second-gt-LONGEST_SHEET.ensures
+    (joined_second_long a.first.now a.second.now c.if-first-gt-LONGEST_SHEET.false _ _ e c.if-second-gt-LONGEST_SHEET.true)
 
 pub returns : goal.returns
 returns c =
-    let q = c in
-    let i = q in
-    let a = i.args in
-    let w = q.quote_joined-quoted.ensures in
-    printed _ _ _ c.report_joint-2.ensures (joined_lines a.first.now a.second.now i.if-first-gt-LONGEST_SHEET.false _ _ w.reply w.bytes i.if-second-gt-LONGEST_SHEET.false)
+    let a = c.args in
+    let w = c.quote_joined-quoted.ensures in
+    printed _ _ _ c.report_joint-2.ensures
+    (joined_lines a.first.now a.second.now c.if-first-gt-LONGEST_SHEET.false _ _ w.reply w.bytes c.if-second-gt-LONGEST_SHEET.false)

@@ -5,17 +5,12 @@ use Rattle.unit.proofs.Relating.{related_held, related_turned}
 use Rattle.printed.specs.Printed.{before_too_long}
 use Rattle.printed.proofs.second_too_long.Goals as goal
 
-pub returns-in-Accepted : goal.returns-in-Accepted
+pub returns-in-Ok : goal.returns-in-Ok
 unfolding before_too_long
-returns-in-Accepted c =
-    let x = c.relate-related in
-    let a = c.args in
-    let h = related_held a.first.now x.result x.ensures c.in-Accepted.is in
+returns-in-Ok c =
+    let h = related_held c.args.first.now c.in-Ok.field-0 c.in-Ok.ensures in
     ap (refusing second_refused_outcome) c.too_long.ensures ∙ sym (ap before_too_long h.1)
 
-pub returns-in-Refused : goal.returns-in-Refused
+pub returns-in-Err : goal.returns-in-Err
 unfolding before_too_long
-returns-in-Refused c =
-    let x = c.relate-related in
-    let a = c.args in
-    sym (ap before_too_long (related_turned a.first.now x.result x.ensures c.in-Refused.refusal c.in-Refused.is))
+returns-in-Err c = sym (ap before_too_long (related_turned c.args.first.now c.in-Err.refusal c.in-Err.ensures))

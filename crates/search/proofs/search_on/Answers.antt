@@ -1,6 +1,5 @@
 -- `search_on` meets its contract: what the relation's test accepts is searched, and what it refuses is refused.
 use borrow.Author.Rules.{rules}
-use Rattle.nodes.proofs.Counts.{most_inputs_lem}
 use mathlib.Core.Path.{◌≡◌, ap, sym, subst, ◌∙◌}
 use lib.ListN.{length}
 use Rattle.sheet.specs.Limits.{max_patterns}
@@ -13,9 +12,6 @@ use Rattle.search.specs.Cases.{search_reply}
 use Rattle.parts.specs.Inner.Parts.{PartSets}
 use Rattle.search.proofs.Entry.{tested, sizes_held, few_held, sets_held, as_held, answered, turned_away_lem}
 use Rattle.search.proofs.search_on.Goals as goal
-
-pub check-requires : goal.check-requires
-check-requires c = rw c.most_inputs.ensures (most_inputs_lem c.args.kind)
 
 pub returns-in_err-check : goal.returns-in_err-check
 returns-in_err-check c =

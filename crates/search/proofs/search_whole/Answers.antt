@@ -13,8 +13,15 @@ visit-requires c = let b = c in
     let q = b.requires in
     let w = lent_wide b.args.e.now in
     let from = c.first_conflict-from.ensures in
-    (q.0, q.1, whole_itself q.1 w q.2, from_there q.1 w q.2 from, from_settled q.1 w q.2 from, q.3, omega (arith, c.sum_of.ensures.0, c.if-sum_of-state.true))
+    record {
+      lent = q.0;
+      carried = q.1;
+      whole = whole_itself q.1 w q.2;
+      inside = from_there q.1 w q.2 from;
+      settled = from_settled q.1 w q.2 from;
+      under = omega (arith, c.sum_of.ensures.0, c.if-sum_of-state.true);
+    }
 
 pub returns-else-sum_of-state : goal.returns-else-sum_of-state
 returns-else-sum_of-state c = let q = c.requires in
-    not_visited q.1 q.3 c.sum_of.ensures.0 c.if-sum_of-state.false
+    not_visited q.1 c.sum_of.ensures.0 c.if-sum_of-state.false

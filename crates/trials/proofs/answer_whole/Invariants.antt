@@ -4,7 +4,7 @@ use Rattle.trials.specs.Inner.Window.{nearly_full}
 use Rattle.trials.proofs.answer_whole.Given as goal
 
 abbrev pub invariant-loop-at : goal.invariant-loop-at
-invariant-loop-at l = (l.at ≤ length l.s) × (l.used ≤ nearly_full)
+invariant-loop-at l = (l.at ≤ length l.s) × (l.page.place ≤ nearly_full)
 
 abbrev pub decreases-loop-at : goal.decreases-loop-at
 decreases-loop-at l = length l.s - l.at

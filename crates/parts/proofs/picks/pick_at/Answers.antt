@@ -40,13 +40,13 @@ returns-then-board-eq-NARROW_INPUTS c =
     let low : board_in e < wide_mark = omega (arith, c.if-board-eq-NARROW_INPUTS.true) in
     let few = narrow_inputs_lem e i.requires.0 (board_in e) refl low in
     let ex = c.pair_at.ensures ∙ sym (words_told masks 0 j (omega arith) i.requires.1) in
-    (rank_side e i.requires.0 (words_of masks) j _ few i.requires.2 ex c.pick_narrow.ensures, rest_kept i.args.state.now j _ i.requires.3 e low)
+    (rank_side e i.requires.0 (words_of masks) j _ few i.requires.2 ex c.pick_narrow.ensures, rest_kept i.args.state.now j _ e low)
 
 pub pick_wide-requires : goal.pick_wide-requires
 unfolding board_in
 pick_wide-requires c =
     let i = c in
-    (i.requires.0, refl, leb→le wide_mark _ (told_yes c.is_wide.ensures c.if-is_wide.true), i.requires.1, i.requires.2, i.requires.3)
+    (i.requires.0, refl, leb→le wide_mark _ (told_yes c.is_wide.ensures c.if-is_wide.true), i.requires.1, i.requires.2)
 
 pub returns-then-is_wide : goal.returns-then-is_wide
 unfolding board_in
@@ -78,4 +78,4 @@ returns c =
     let low : board_in e < wide_mark = nleb→lt wide_mark _ (told_no c.is_wide.ensures c.if-is_wide.false) in
     let few = narrow_inputs_lem e i.requires.0 (board_in e) refl low in
     let ex = c.pair_at-2.ensures ∙ sym (words_told masks 0 j (omega arith) i.requires.1) in
-    (rank_side e i.requires.0 (words_of masks) j _ few i.requires.2 ex c.pick_narrow-2.ensures, rest_kept i.args.state.now j _ i.requires.3 e low)
+    (rank_side e i.requires.0 (words_of masks) j _ few i.requires.2 ex c.pick_narrow-2.ensures, rest_kept i.args.state.now j _ e low)

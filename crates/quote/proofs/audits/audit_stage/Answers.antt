@@ -6,6 +6,7 @@ use Rattle.quote.specs.Cases.{audited_case}
 use Rattle.quote.specs.declared.AuditRefusal.TheVariants.{Stage as StageRefused}
 use Rattle.quote.proofs.Auditing.{stage_refused, inputs_differ, wires_differ, few_inputs, tested}
 use Rattle.quote.proofs.audits.audit_stage.Goals as goal
+use Rattle.quote.proofs.audits.audit_stage.Goals.{then-read-relation-via-then-read-relation, then-read-relation-via-else-read-relation+then-read-relation-2}
 
 pub returns-in_default : goal.returns-in_default
 returns-in_default c =
@@ -15,13 +16,12 @@ returns-in_default c =
 pub returns-then-read-relation : goal.returns-then-read-relation
 returns-then-read-relation c =
     let a = c.args in
-    ap (λ f. audited_case (Err (StageRefused f))) c.at.ensures ∙ inputs_differ a.kind a.relation a.s.now c.in-Ok.read c.in-Ok.ensures c.if-read-relation.true
-
-pub returns-then-read-relation-2 : goal.returns-then-read-relation-2
-returns-then-read-relation-2 c =
-    let a = c.args in
-    ap (λ f. audited_case (Err (StageRefused f))) c.at-then-read-relation-2.ensures
-    ∙ wires_differ a.kind a.relation a.s.now c.in-Ok.read c.in-Ok.ensures c.if-read-relation.false c.if-read-relation-2.true
+    let told = ap (λ f. audited_case (Err (StageRefused f))) c.at.ensures in
+    elim c.then-read-relation.branch [
+      then-read-relation-via-then-read-relation w ↦ told ∙ inputs_differ a.kind a.relation a.s.now c.in-Ok.read c.in-Ok.ensures w.if-read-relation.true
+    | then-read-relation-via-else-read-relation+then-read-relation-2 w ↦
+      told ∙ wires_differ a.kind a.relation a.s.now c.in-Ok.read c.in-Ok.ensures w.if-read-relation.false w.if-read-relation-2.true
+    ]
 
 pub allowed_everywhere-requires : goal.allowed_everywhere-requires
 allowed_everywhere-requires c = let a = c.args in few_inputs a.kind a.relation a.s.now c.in-Ok.read c.in-Ok.ensures

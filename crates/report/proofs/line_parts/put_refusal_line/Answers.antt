@@ -1,11 +1,8 @@
 -- `put_refusal_line` meets its contract: the word for what is refused, the refusal, and the end of the line.
-use native.Mathlib.Omega.{arith}
-use Rattle.report.specs.Lines.{longest_word, refusal_line}
-use Rattle.base.proofs.Stores.{puts, at_most}
+use Rattle.report.specs.Lines.{refusal_line}
+use Rattle.text.proofs.Pages.{adds_then, adds_widened}
 use Rattle.report.proofs.line_parts.put_refusal_line.Goals as goal
 
 pub returns : goal.returns
 unfolding refusal_line
-returns c =
-    let word = at_most longest_word c.put_text-start.ensures c.requires.0 in
-    puts (puts word c.put_refusal-end.ensures) (at_most 1 c.put_byte.ensures (omega arith))
+returns c = adds_then (adds_then (adds_widened c.put_text.ensures c.requires.0) c.put_refusal.ensures) c.put_byte.ensures

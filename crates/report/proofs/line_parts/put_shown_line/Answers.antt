@@ -1,10 +1,8 @@
 -- `put_shown_line` meets its contract: the pairs, and the end of their line.
-use native.Mathlib.Omega.{arith}
 use Rattle.report.specs.Lines.{shown_line}
-use Rattle.base.proofs.Stores.{puts, at_most}
+use Rattle.text.proofs.Pages.{adds_then}
 use Rattle.report.proofs.line_parts.put_shown_line.Goals as goal
 
 pub returns : goal.returns
 unfolding shown_line
-returns c =
-    puts c.put_shown_pairs-next.ensures (at_most 1 c.put_byte.ensures (omega arith))
+returns c = adds_then c.put_shown_pairs.ensures c.put_text.ensures

@@ -1,18 +1,13 @@
 -- `whole_part` makes the picks of all wires: what is carried of the whole relation.
 use borrow.Author.Rules.{rules}
-use Prim.Native.Nat.{ℕ, ◌<◌, ◌≤◌}
-use Rattle.table.specs.Inner.Wide.{sections}
-use mathlib.Core.Path.{◌≡◌, ◌∙◌}
+use mathlib.Core.Path.{refl, ◌∙◌}
 use native.Mathlib.Omega.{arith}
-use lib.ListN.{get_or, set, length-set}
-use lib.Seq.{get_or-set_same, get_or-set_other}
+use lib.ListN.{get_or}
 use mir.Val.{Fits}
 use mir.Syntax.{w16}
-use Rattle.parts.specs.Inner.Cells.{cell_space}
 use Rattle.parts.specs.Inner.Masks.{Halved}
-use Rattle.parts.specs.Inner.States.{cells_place, rest_place}
 use Rattle.parts.proofs.Lending.{board_small, inputs_told, inputs_few}
-use Rattle.search.proofs.WholePicks.{all_below, none_few, none_sum, whole_cover, whole_carried}
+use Rattle.search.proofs.WholePicks.{all_below, none_few, none_sum, whole_cover, is_some, whole_carried}
 use Rattle.search.proofs.beginning.whole_part.Goals as goal
 
 pub overflow_cast-e : goal.overflow_cast-e
@@ -23,32 +18,20 @@ pairs_of-words-requires c = let q = c.requires in
     let en = inputs_told c.args.e.now c.inputs_of.ensures in
     (rw en (inputs_few q.0), rw en q.2.past)
 
-pub again-found-requires : goal.again-found-requires
-again-found-requires c = let b = c in
-    let q = b.requires in
-    let l = b.args.state.now in
+pub again-requires : goal.again-requires
+again-requires c =
+    let q = c.requires in
     let w = c.masks_of-masks.ensures.0 ∙ c.pairs_of-words.ensures in
-    let at : get_or (set l cells_place cell_space) cells_place 0 ≡ cell_space = get_or-set_same l cells_place cell_space 0 (rw q.3 (omega arith)) in
-    let none : (k : ℕ) → 1 ≤ k → k < sections → get_or (set l cells_place cell_space) (rest_place k) 0 ≡ 0 =
-    λ k l1 lk. get_or-set_other l cells_place (rest_place k) cell_space 0 (λ d. omega arith) ∙ q.4 k l1 lk in (
-      q.0,
-      whole_cover q.0 q.1 q.2 c.masks_of-masks.result w,
-      length-set l cells_place cell_space ∙ q.3,
-      λ k l1 lk. omega (arith, none k l1 lk),
-      all_below,
-      omega arith,
-      none_few,
-      rw (at, none_sum) (omega arith),
-    )
+    (q.0, whole_cover q.0 q.1 q.2 c.masks_of-masks.result w, λ i l. omega (arith, q.3 i l), all_below, omega arith, none_few, rw none_sum (omega arith))
+
+pub unwrap-found-requires : goal.unwrap-found-requires
+unwrap-found-requires c =
+    let q = c.requires in
+    is_some q.0 q.1 q.2 c.masks_of-masks.result (c.masks_of-masks.ensures.0 ∙ c.pairs_of-words.ensures) q.3 refl c.again.ensures
 
 pub returns : goal.returns
-returns c = let b = c in
-    let q = b.requires in
-    let l = b.args.state.now in
+returns c =
+    let q = c.requires in
     let m = c.masks_of-masks in
-    let w = m.ensures.0 ∙ c.pairs_of-words.ensures in
-    let at : get_or (set l cells_place cell_space) cells_place 0 ≡ cell_space = get_or-set_same l cells_place cell_space 0 (rw q.3 (omega arith)) in
-    let halved : Halved m.result = λ i. let h : Fits w16 (get_or m.result i 0) = search rules in h.fits in (
-      whole_carried q.0 q.1 q.2 m.result w (λ k l1 lk. get_or-set_other l cells_place (rest_place k) cell_space 0 (λ d. omega arith) ∙ q.4 k l1 lk) at c.again-found.ensures m.ensures.1 halved,
-      c.again-found.ensures.same.long,
-    )
+    let halved : Halved m.result = λ i. let h : Fits w16 (get_or m.result i 0) = search rules in h.fits in
+    whole_carried q.0 q.1 q.2 m.result (m.ensures.0 ∙ c.pairs_of-words.ensures) q.3 refl c.again.ensures c.unwrap-found.ensures m.ensures.1 halved

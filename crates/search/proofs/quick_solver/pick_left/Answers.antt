@@ -1,5 +1,5 @@
 use Prim.Native.Nat.{◌<◌, ◌^◌}
-use mathlib.Core.Path.{◌≡◌, ap, ◌∙◌}
+use mathlib.Core.Path.{ap, ◌∙◌}
 use native.Mathlib.Omega.{arith}
 use lib.ListN.{set}
 use Rattle.nodes.specs.Counts.{count_of}
@@ -12,13 +12,6 @@ use Rattle.parts.proofs.WordMasks.{pick_told, alone_tells}
 use Rattle.parts.proofs.Lending.{board_small, inputs_told, inputs_few}
 use Rattle.search.proofs.PickTables.{cells_told, table_told}
 use Rattle.search.proofs.quick_solver.pick_left.Goals as goal
-
-pub returns-then-j-eq0 : goal.returns-then-j-eq0
-returns-then-j-eq0 c = let a = c.args in
-    let q = c.requires in
-    let e : a.j ≡ 0 = c.if-j-eq0.true in
-    let t = q.4 e in
-    rw e (ap (set a.tables.now 0) t.0, t.1 ∙ ap (count_of (lent_kind a.e.now) (lent_inputs a.e.now)) t.0, q.6)
 
 pub overflow_cast-board : goal.overflow_cast-board
 overflow_cast-board c = omega (arith, board_small c.requires.0)
@@ -33,7 +26,7 @@ pick_at-found-requires c = let b = c in
     let a = b.args in
     let q = b.requires in
     let w = c.masks_of-masks.ensures.0 ∙ c.pair_of-words.ensures in
-    (q.0, q.3, rw w (alone_cover (lent_kind a.e.now) q.1 q.2 a.j q.3), q.6)
+    (q.0, q.3, rw w (alone_cover (lent_kind a.e.now) q.1 q.2 a.j q.3))
 
 pub returns : goal.returns
 unfolding board_in
@@ -49,5 +42,4 @@ returns c = let b = c in
     let fits : pick_on e words a.j < 2 ^ (2 ^ lent_inputs e) = rw picked (table_lt (lent_kind e) q.1 q.2 a.j) in (
       ap (set a.tables.now a.j) (c.table_at.ensures ∙ table_told q.0 words a.j q.3 fits r.0 r.1 c.is_wide.ensures ∙ picked),
       c.cells_in.ensures ∙ cells_told q.0 words a.j q.3 fits r.0 ∙ ap (count_of (lent_kind e) (lent_inputs e)) picked,
-      r.1.same.long,
     )

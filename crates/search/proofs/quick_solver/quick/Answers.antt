@@ -1,11 +1,9 @@
 use Rattle.parts.proofs.Keeping.{count_few}
 use mathlib.Core.Path.{refl, ap, sym, ◌∙◌}
 use native.Mathlib.Omega.{arith}
-use lib.ListN.{length}
 use Rattle.parts.specs.Inner.Boards.{lent_kind, lent_inputs, lent_wires}
 use Rattle.parts.specs.Inner.Picks.{table_of}
 use Rattle.parts.proofs.Lending.{board_small, wires_small, inputs_told, wires_told, inputs_few}
-use Rattle.branch_bound.proofs.Picks.{tables_long}
 use Rattle.search.proofs.FirstAnswer.{none_taken, next_taken, all_taken}
 use Rattle.search.proofs.quick_solver.quick.Goals as goal
 
@@ -19,7 +17,7 @@ pub loop-j-init : goal.loop-j-init
 loop-j-init c =
     let e = c.args.e.now in
     let q = c.requires in
-    (none_taken (lent_kind e) (lent_inputs e) (lent_wires e) c.args.sets q.2, λ _. refl, q.5)
+    (none_taken (lent_kind e) (lent_inputs e) (lent_wires e) c.args.sets q.2, λ _. refl)
 
 pub pick_left-cells-requires : goal.pick_left-cells-requires
 pick_left-cells-requires c =
@@ -31,8 +29,6 @@ pick_left-cells-requires c =
       l.0.kept,
       omega (arith, wires_small e q.1),
       λ z. (q.3 ∙ ap (λ s. table_of (lent_kind e) (lent_inputs e) s 0) (sym (l.1 z)), q.4),
-      ap length l.0.are_chosen ∙ tables_long c.loop-j.j _,
-      l.2,
     )
 
 pub overflow_add-cells : goal.overflow_add-cells
@@ -42,9 +38,6 @@ overflow_add-cells c =
     let l = c.loop-j in
     let k = count_few (lent_kind e) (lent_inputs e) (table_of (lent_kind e) (lent_inputs e) l.left l.j) (inputs_few q.0) in
     omega (arith, q.1.m_most, l.invariant.0.few, l.invariant.0.reached, c.pick_left-cells.ensures.1, k)
-
-pub offset_bounds-tables-j : goal.offset_bounds-tables-j
-offset_bounds-tables-j c = omega (arith, wires_small c.args.e.now c.requires.1)
 
 pub bounds-tables-j : goal.bounds-tables-j
 bounds-tables-j c = omega (arith, wires_small c.args.e.now c.requires.1)
@@ -62,11 +55,11 @@ loop-j-preserved c =
     let q = c.requires in
     let l = c.loop-j.invariant in
     let r = c.pick_left-cells.ensures in
-    (next_taken q.1 l.0 c.loop-j-test.true r.0 r.1 c.agreeing-next.ensures, λ z. absurd (omega arith), r.2)
+    (next_taken q.1 l.0 c.loop-j-test.true r.0 r.1 c.agreeing-next.ensures, λ z. absurd (omega arith))
 
 pub returns : goal.returns
 returns c =
     let e = c.args.e.now in
     let q = c.requires in
     let l = c.loop-j.invariant in
-    (all_taken q.1 (omega (arith, l.0.reached, c.loop-j-test.false, wires_told e)) l.0, l.2)
+    all_taken q.1 (omega (arith, l.0.reached, c.loop-j-test.false, wires_told e)) l.0

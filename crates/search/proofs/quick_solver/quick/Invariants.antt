@@ -1,13 +1,7 @@
-use Prim.Native.Nat.{◌-◌}
 use mathlib.Core.Path.{◌≡◌}
-use lib.ListN.{length}
 use Rattle.parts.specs.Inner.Boards.{lent_kind, lent_inputs, lent_wires}
-use Rattle.parts.specs.Inner.States.{state_length}
 use Rattle.search.proofs.FirstAnswer.{ChosenBelow}
 use Rattle.search.proofs.quick_solver.quick.Given as goal
 
 abbrev pub invariant-loop-j : goal.invariant-loop-j
-invariant-loop-j l = ChosenBelow (lent_kind l.e) (lent_inputs l.e) (lent_wires l.e) l.initial.left l.j l.left l.tables l.cells × (l.j ≡ 0 → l.left ≡ l.initial.left) × (length l.state ≡ state_length)
-
-abbrev pub decreases-loop-j : goal.decreases-loop-j
-decreases-loop-j l = l.m - l.j
+invariant-loop-j l = ChosenBelow (lent_kind l.e) (lent_inputs l.e) (lent_wires l.e) l.initial.left l.j l.left l.tables l.cells × (l.j ≡ 0 → l.left ≡ l.initial.left)

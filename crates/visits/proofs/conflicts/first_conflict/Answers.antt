@@ -5,10 +5,10 @@ use Rattle.parts.proofs.Lending.{board_small}
 use Rattle.visits.proofs.Clearing.{first_here, first_later, first_narrow, narrow_few, count_told, count_most}
 use Rattle.visits.proofs.conflicts.first_conflict.Goals as goal
 
-pub returns-then-p-lt-SECTION : goal.returns-then-p-lt-SECTION
-returns-then-p-lt-SECTION c =
+pub returns-in-Some : goal.returns-in-Some
+returns-in-Some c =
     let a = c.args in
-    first_here (lent_wide a.e.now) (lent_inputs a.e.now) a.low a.state.now c.refused_on-p.result c.refused_on-p.ensures.1 c.if-p-lt-SECTION.true
+    first_here (lent_wide a.e.now) (lent_inputs a.e.now) a.low a.state.now c.in-Some.p c.in-Some.ensures.cleared c.in-Some.ensures.inside
 
 pub overflow_cast-count : goal.overflow_cast-count
 overflow_cast-count c = omega (arith, count_told c.args.e.now c.requires, count_most c.requires)
@@ -23,12 +23,12 @@ pub returns-then-is_wide : goal.returns-then-is_wide
 unfolding board_in
 returns-then-is_wide c =
     let a = c.args in
-    first_later (lent_wide a.e.now) (lent_inputs a.e.now) a.low a.state.now c.refused_on-p.result c.refused_on-p.ensures.1 c.if-p-lt-SECTION.false
+    first_later (lent_wide a.e.now) (lent_inputs a.e.now) a.low a.state.now c.in_default.ensures.cleared
     (told_yes c.is_wide.ensures c.if-is_wide.true) (count_told a.e.now c.requires) c.later_conflict.ensures
 
 pub returns : goal.returns
 unfolding board_in
 returns c =
     let a = c.args in
-    first_narrow (lent_wide a.e.now) (lent_inputs a.e.now) a.low a.state.now c.refused_on-p.result c.refused_on-p.ensures.1 c.if-p-lt-SECTION.false
+    first_narrow (lent_wide a.e.now) (lent_inputs a.e.now) a.low a.state.now c.in_default.ensures.cleared
     (narrow_few a.e.now c.requires (told_no c.is_wide.ensures c.if-is_wide.false)) (count_told a.e.now c.requires)

@@ -1,6 +1,9 @@
-use Prim.Native.Nat.{ℕ, ◌-◌, ◌<◌, ◌≤◌}
+-- `first_open`: nothing is found yet, and below p nothing is in conflict; in it no wire below j is open.
+use Prim.Native.Nat.{ℕ, ◌<◌}
+use mathlib.Core.Path.{◌≡◌}
 use mathlib.Core.Bool.{not}
 use lib.Dec.{T}
+use Rattle.std.specs.Prelude.{None}
 use Rattle.relation.specs.Tests.{of_sets, is_open}
 use Rattle.parts.specs.Inner.Boards.{lent_kind, lent_inputs, lent_wires}
 use Rattle.parts.specs.Inner.Picks.{tables_of}
@@ -8,13 +11,7 @@ use Rattle.visits.specs.Inner.Conflicts.{Settled}
 use Rattle.visits.proofs.conflicts.first_open.Given as goal
 
 abbrev pub invariant-loop-j : goal.invariant-loop-j
-invariant-loop-j l = (l.j ≤ l.m) × ((i : ℕ) → i < l.j → T (not (is_open (lent_wires l.e) (of_sets l.sets l.p) i)))
-
-abbrev pub decreases-loop-j : goal.decreases-loop-j
-decreases-loop-j l = l.m - l.j
+invariant-loop-j l = (l.found ≡ None) × ((i : ℕ) → i < l.j → T (not (is_open (lent_wires l.e) (of_sets l.sets l.p) i)))
 
 abbrev pub invariant-patterns : goal.invariant-patterns
-invariant-patterns l = (l.p ≤ l.count) × Settled (lent_wires l.e) l.sets (tables_of (lent_kind l.e) (lent_inputs l.e) l.sets) l.p
-
-abbrev pub decreases-patterns : goal.decreases-patterns
-decreases-patterns l = l.count - l.p
+invariant-patterns l = (l.found ≡ None) × Settled (lent_wires l.e) l.sets (tables_of (lent_kind l.e) (lent_inputs l.e) l.sets) l.p

@@ -1,13 +1,15 @@
-use Prim.Native.Nat.{◌+◌, ◌*◌}
-use Rattle.by_value.specs.Inner.ByValue.{section_words}
-use Rattle.parts.specs.Inner.States.{whole_place}
+-- `refused_on` meets its contract: the lowest pattern that the section's words refuse.
+use Prim.Native.Nat.{◌*◌}
 use native.Mathlib.Omega.{arith}
-use Rattle.visits.proofs.Clearing.{clear}
+use Rattle.by_value.specs.Inner.ByValue.{section_words}
+use Rattle.visits.proofs.Clearing.{clear, inside_section}
 use Rattle.visits.proofs.conflicts.refused_on.Goals as goal
 
 pub returns : goal.returns
 returns c =
     let a = c.args in
     let r = c.allowing.result in
-    let refused = c.first_refused.ensures in
-    (refused.1, rw refused.0 (clear a.state.now a.q (whole_place + section_words * a.q) a.tables r c.requires (omega arith) c.allowing.ensures.1 (omega (arith, refused.0, refused.1))))
+    record {
+      inside = inside_section r c.first_refused.result c.first_refused.ensures;
+      cleared = clear a.whole.now a.q (section_words * a.q) a.tables r c.requires (omega arith) c.allowing.ensures.1 c.first_refused.result c.first_refused.ensures;
+    }

@@ -1,0 +1,3 @@
+-- What only inner functions are told by.
+pub mod Parts
+pub mod Split

@@ -1,0 +1,2 @@
+-- What the cycle asks of a part.
+pub mod Inner

@@ -1,2 +1,0 @@
--- What only inner functions are told by.
-pub mod Told
