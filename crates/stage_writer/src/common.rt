@@ -19,7 +19,8 @@ pub fn halves(v: u8, t: u64) -> (u64, u64)
 }
 
 // Writes bytes one after the other, and hands back the place after them.
-// The bound on the place is only there for the sums: no stage of either board is longer.
+// The bound on the place is only there for the sums: no stage of either board is longer. Buffer and place stay two parameters, here and in all that writes: as
+// one struct each contract would have to say besides that the buffer is still the one that was lent.
 pub fn put_bytes(buffer: &mut [u8], at: usize, bytes: &[u8]) -> usize
     requires { at + length bytes.now ≤ longest_written }
     ensures { Put buffer.old at bytes.now buffer.new result }

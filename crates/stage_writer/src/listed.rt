@@ -115,15 +115,13 @@ impl Listing {
         }
         let v = w - 1;
         let (low, high) = halves(v, t);
-        if low == high {
-            return self.list(v, low);
-        }
         let node = Node { after: v, table: t };
-        if node_number(self.nodes(), node).is_some() {
-            return;
+        if low == high {
+            self.list(v, low)
+        } else if node_number(self.nodes(), node).is_none() {
+            self.list(v, low);
+            self.list(v, high);
+            self.push(node);
         }
-        self.list(v, low);
-        self.list(v, high);
-        self.push(node);
     }
 }
