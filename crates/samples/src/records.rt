@@ -82,6 +82,7 @@ pub fn part(s: &[u8], from: usize, count: usize) -> &[u8]
 }
 
 // The call that a record is for, whichever the board: the records of the board that shares selectors have the small letters.
+// The letters stand one by one, since a guard with `to_ascii_uppercase` would name all five too.
 pub fn call_of(letter: u8) -> u8
     ensures { result ≡ call_of letter }
 {

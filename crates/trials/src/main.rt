@@ -39,7 +39,7 @@ fn make_room(rt: &HostRuntime, page: &mut Page)
     }
 }
 
-// Answers the records that are whole, and hands back the place after them.
+// Answers the records that are whole, and hands back the place after them. A turn goes on by the length of a record, so no range has its places.
 fn answer_whole(rt: &HostRuntime, s: &[u8]) -> usize
     requires { length s.now ≤ window }
     ensures { result ≤ length s.now }
