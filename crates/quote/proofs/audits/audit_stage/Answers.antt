@@ -18,9 +18,9 @@ returns-then-read-relation c =
     let a = c.args in
     let told = ap (λ f. audited_case (Err (StageRefused f))) c.at.ensures in
     elim c.then-read-relation.branch [
-      then-read-relation-via-then-read-relation w ↦ told ∙ inputs_differ a.kind a.relation a.s.now c.in-Ok.read c.in-Ok.ensures w.if-read-relation.true
-    | then-read-relation-via-else-read-relation+then-read-relation-2 w ↦
-      told ∙ wires_differ a.kind a.relation a.s.now c.in-Ok.read c.in-Ok.ensures w.if-read-relation.false w.if-read-relation-2.true
+      | then-read-relation-via-then-read-relation w ↦ told ∙ inputs_differ a.kind a.relation a.s.now c.in-Ok.read c.in-Ok.ensures w.if-read-relation.true
+      | then-read-relation-via-else-read-relation+then-read-relation-2 w ↦
+          told ∙ wires_differ a.kind a.relation a.s.now c.in-Ok.read c.in-Ok.ensures w.if-read-relation.false w.if-read-relation-2.true
     ]
 
 pub allowed_everywhere-requires : goal.allowed_everywhere-requires
