@@ -17,9 +17,13 @@ refused_accepted f e = absurd (omega (arith, ap (λ (c : Case). c.outcome) e))
 pub same_refusal : (o : ℕ) (f g : Refusal) → refusing o f ≡ refusing o g → f ≡ g
 same_refusal o f g e = ap₂ refusal_at (ap (λ (c : Case). c.number) e) (ap (λ (c : Case). c.place) e)
 
--- answers that can be had back from their cases are the same where their cases are
+-- answers that can be had back from what is told of them are the same where they are told alike
+pub told_one : {A B : Type 0} (told : A → B) (back : B → A) → ((a : A) → back (told a) ≡ a) → (a b : A) → told a ≡ told b → a ≡ b
+told_one told back undo a b e = sym (undo a) ∙ ap back e ∙ undo b
+
+-- and those that can be had back from their cases, where their cases are
 pub case_one : {A : Type 0} (case : A → Case) (back : Case → A) → ((a : A) → back (case a) ≡ a) → (a b : A) → case a ≡ case b → a ≡ b
-case_one case back undo a b e = sym (undo a) ∙ ap back e ∙ undo b
+case_one = told_one
 
 -- the case of a verdict tells the verdict
 abbrev verdict_of : Case → Result Unit Refusal

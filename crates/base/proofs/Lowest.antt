@@ -7,7 +7,8 @@ use native.Mathlib.Omega.{arith}
 use native.Mathlib.Nat.{not-suc-le-zero, le_antisymm}
 use lib.Dec.{T, T_not, not_T, ltb, ltb→lt, nltb→le}
 use Rattle.std.specs.Prelude.{None, Some}
-use Rattle.base.specs.Lowest.{lowest, first_below}
+use Rattle.base.specs.Lowest.{lowest}
+use Rattle.base.specs.Inner.Lowest.{first_below}
 use borrow.Author.Tests.{lt-ltb, le-ltb, ltb-true, ltb-false}
 use Rattle.base.proofs.Tests.{decide, cond_has, below_suc}
 

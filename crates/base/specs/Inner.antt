@@ -1,2 +1,3 @@
 -- What only inner functions are told by.
 pub mod Put
+pub mod Lowest

@@ -14,7 +14,8 @@ use Rattle.reader.specs.declared.Reader.{Reader}
 use Rattle.std.specs.Prelude.{Some, None, Result, Ok, Err}
 use Rattle.base.specs.declared.Refusal.{Refusal}
 use Rattle.sheet.specs.Commands.{is_empty, collect, is_sizes, inputs_in, wires_in}
-use Rattle.reader.specs.Reader.{width_known, width_of, command_of, is_out_of_turn, is_out_of_range, reader_at, moved_past, next_of}
+use Rattle.reader.specs.Inner.Widths.{width_known}
+use Rattle.reader.specs.Reader.{width_of, command_of, is_out_of_turn, is_out_of_range, reader_at, moved_past, next_of}
 use Rattle.sheet.proofs.Lists.{collect_snoc, is_empty_nil, is_empty_append}
 
 -- the command c with the reader t moved past it, handed back by the reader r

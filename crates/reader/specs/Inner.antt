@@ -1,3 +1,4 @@
 -- What only inner functions use.
 pub mod Turns
 pub mod WasRead
+pub mod Widths

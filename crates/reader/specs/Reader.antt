@@ -4,7 +4,7 @@ use Rattle.base.specs.Refusals.{refusal_at, cut_short, unknown, out_of_turn, out
 use Rattle.sheet.specs.declared.Command.{Command}
 use Rattle.sheet.specs.declared.Command.TheVariants.{End, Sizes, Row, DontCare, Gate, Output, Limit}
 use Rattle.reader.specs.declared.Reader.{Reader}
-use Rattle.std.specs.Prelude.{Option, Some, None, Result, Ok, Err}
+use Rattle.std.specs.Prelude.{Result, Ok, Err}
 use Rattle.base.specs.declared.Refusal.{Refusal}
 use Rattle.sheet.specs.Limits.{max_inputs, sizes_out, is_beyond}
 use Rattle.sheet.specs.Commands.{is_empty, is_sizes, inputs_in, wires_in, inputs_of, wires_of}
@@ -19,10 +19,6 @@ width_of b =
     (cond (eqb b 4) 4
     (cond (eqb b 5) 2
     (cond (eqb b 6) 4 0))))))
-
--- the same where the first byte is known
-abbrev pub width_known : ℕ → Option ℕ
-width_known b = cond (eqb (width_of b) 0) None (Some (width_of b))
 
 -- the command that starts with b, a known byte, and has the operand bytes x y z, as many as it needs; the set of 06 takes two, the lower first
 abbrev pub command_of : ℕ → ℕ → ℕ → ℕ → Command

@@ -1,6 +1,7 @@
 // The reader of a unit sheet, by value: one call reads one command and gives the reader that stands behind it.
 ghost use Rattle.std.specs.Prelude.{◌≡◌, ◌+◌, ◌*◌, ◌^◌, [], ◌||◌};
-ghost use Rattle.reader.specs.Reader.{width_known, command_of, is_out_of_turn, is_out_of_range, reader_at, moved_past, next_of};
+ghost use Rattle.reader.specs.Inner.Widths.{width_known};
+ghost use Rattle.reader.specs.Reader.{command_of, is_out_of_turn, is_out_of_range, reader_at, moved_past, next_of};
 ghost use Rattle.sheet.specs.Limits.{is_beyond};
 
 use crate::Reader;

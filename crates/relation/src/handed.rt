@@ -3,7 +3,7 @@
 // Inner functions: the test of a relation handed in has tested the sizes before it calls them.
 ghost use Rattle.std.specs.Prelude.{◌≡◌, ◌≤◌, ◌^◌, eqb, get_or};
 ghost use Rattle.sheet.specs.Limits.{max_inputs, max_wires};
-ghost use Rattle.base.specs.Lowest.{first_below};
+ghost use Rattle.base.specs.Inner.Lowest.{first_below};
 ghost use Rattle.sheet.specs.Limits.{is_beyond};
 
 use sheet::Sheet;

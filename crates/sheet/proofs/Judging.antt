@@ -10,7 +10,8 @@ use Rattle.std.specs.Prelude.{Ok, Err, Some, None}
 use Rattle.base.specs.declared.Refusal.{Refusal}
 use Rattle.base.specs.Refusals.{refusal_at, no_signal, repeated, too_many, trailing, missing_row}
 use Rattle.sheet.specs.Limits.{max_inputs, max_patterns, max_gates, max_outputs}
-use Rattle.base.specs.Lowest.{lowest, first_below}
+use Rattle.base.specs.Lowest.{lowest}
+use Rattle.base.specs.Inner.Lowest.{first_below}
 use Rattle.sheet.specs.declared.Command.{Command}
 use Rattle.sheet.specs.declared.Command.TheVariants.{End, Sizes, Row, DontCare, Gate, Output, Limit}
 use Rattle.sheet.specs.declared.Sheet.{Sheet}

@@ -10,3 +10,4 @@ pub mod Fields
 pub mod Judging
 pub mod Permitted
 pub mod SayingSame
+pub mod Cases

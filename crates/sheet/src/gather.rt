@@ -2,7 +2,7 @@
 // `Sheet::add` and `Sheet::finish` are inner functions for the reader, which meets what they speak of: a sheet gathered from the commands
 // before, and a command whose pattern was tested.
 ghost use Rattle.std.specs.Prelude.{◌≡◌, ◌||◌, [], ◌∷◌, ◌+◌, ◌<◌, ◌≤◌, get_or, leb, eqb};
-ghost use Rattle.base.specs.Lowest.{first_below};
+ghost use Rattle.base.specs.Inner.Lowest.{first_below};
 ghost use Rattle.sheet.specs.Gathered.{gathered, no_mark};
 ghost use Rattle.sheet.specs.Limits.{max_patterns};
 ghost use Rattle.sheet.specs.Inner.Gathering.{pattern_of, fault_of, Takes, Judges, Adds, Ends};

@@ -12,3 +12,4 @@ pub mod Numbering
 pub mod Judging
 pub mod Entries
 pub mod Replies
+pub mod Cases

@@ -4,7 +4,8 @@ use lib.Dec.{T}
 use lib.Seq.{get_or-take, length-take-le}
 use Rattle.std.specs.List.{position, position_or_len}
 use Rattle.std.proofs.lemmas.List.Sums.{position_or_len_is}
-use Rattle.base.specs.Lowest.{lowest, first_below}
+use Rattle.base.specs.Lowest.{lowest}
+use Rattle.base.specs.Inner.Lowest.{first_below}
 use Rattle.base.proofs.Lowest.{lowest_le, lowest_is, lowest_below}
 
 true_of : (b : Bool) → T b → b ≡ true

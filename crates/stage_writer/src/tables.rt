@@ -2,7 +2,7 @@
 ghost use Rattle.std.specs.Prelude.{◌≡◌, ℕ, ◌+◌, ◌*◌, ◌^◌, ◌<◌, ◌≤◌, get_or, length, MatchResult};
 ghost use Rattle.base.specs.Cases.{refused_case};
 ghost use Rattle.base.specs.Buffers.{fitted};
-ghost use Rattle.base.specs.Lowest.{first_below};
+ghost use Rattle.base.specs.Inner.Lowest.{first_below};
 ghost use Rattle.sheet.specs.Limits.{max_wires, is_beyond};
 ghost use Rattle.nodes.specs.Counts.{most_inputs};
 ghost use Rattle.table.specs.Cells.{wires, total};

@@ -12,3 +12,4 @@ pub mod Relating
 pub mod Rivals
 pub mod Rows
 pub mod Alike
+pub mod Cases

@@ -1,7 +1,7 @@
 -- Sets the other way round: for each value the patterns where it can stand, so that the values which tables drive are looked up for a whole section of
 -- patterns at once. A value has a lane of a word, one bit for each pattern of the section.
 use Rattle.std.specs.Prelude.{ℕ, ◌+◌, ◌*◌, ◌-◌, ◌/◌, ◌%◌, ◌^◌, ◌<◌, ◌≤◌, ◌≡◌, Bool, cond, Option, List, [], ◌∷◌, ltb, eqb, get_or, set}
-use Rattle.base.specs.Lowest.{first_below}
+use Rattle.base.specs.Inner.Lowest.{first_below}
 use Rattle.sheet.specs.Limits.{max_wires, max_patterns, max_values}
 use Rattle.table.specs.Bits.{bit, tabulate, of_bits, is_one}
 use Rattle.table.specs.Cells.{wires}

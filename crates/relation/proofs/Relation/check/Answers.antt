@@ -6,7 +6,8 @@ use native.Mathlib.Omega.{arith}
 use lib.Dec.{eqb}
 use lib.ListN.{get_or}
 use Rattle.std.specs.Prelude.{Some, None}
-use Rattle.base.specs.Lowest.{lowest, first_below}
+use Rattle.base.specs.Lowest.{lowest}
+use Rattle.base.specs.Inner.Lowest.{first_below}
 use Rattle.base.proofs.Lowest.{some_lowest, none_lowest}
 use Rattle.sheet.specs.Limits.{max_inputs, sizes_out, is_beyond}
 use Rattle.sheet.specs.Inner.Sized.{Sized}

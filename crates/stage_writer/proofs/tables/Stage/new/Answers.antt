@@ -2,7 +2,7 @@
 use Rattle.std.proofs.Common.{◌≡◌, ℕ, ◌≤◌, ◌<◌, ◌^◌, List, Bool, true, false, get_or, Some, None, refl, sym, ap, ◌∙◌}
 use borrow.Author.Tests.{le-ltb}
 use Rattle.base.specs.Buffers.{fitted}
-use Rattle.base.specs.Lowest.{first_below}
+use Rattle.base.specs.Inner.Lowest.{first_below}
 use Rattle.base.proofs.Lowest.{some_lowest, none_lowest}
 use Rattle.sheet.specs.Limits.{sizes_out, is_beyond}
 use Rattle.sheet.specs.Inner.Sized.{Sized}
