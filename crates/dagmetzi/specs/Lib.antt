@@ -1,2 +1,2 @@
 -- What the program's inner functions are told by.
-pub mod Lengths
+pub mod Inner

@@ -1,7 +1,7 @@
 // What the program says on standard error: one line each, which begins with its name. The calls hand nothing back and change nothing that is lent; their
 // text is held to what is expected by the tests of the program as a process.
 ghost use Rattle.std.specs.Prelude.{◌≤◌};
-ghost use Rattle.dagmetzi.specs.Lengths.{longest_line};
+ghost use Rattle.dagmetzi.specs.Inner.Lengths.{longest_line};
 
 use std::io;
 use std::io::Print;

@@ -1,4 +1,4 @@
--- Lengths that the program's inner functions are told by.
+-- Lengths that the program's functions are told by.
 use Rattle.std.specs.Prelude.{ℕ}
 
 -- room for a line on standard error: as many bytes as `LONGEST_LINE` of src/messages.rt says

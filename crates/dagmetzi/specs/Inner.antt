@@ -1,0 +1,2 @@
+-- What only inner functions are told by.
+pub mod Lengths
