@@ -5,7 +5,7 @@ ghost use Rattle.std.specs.Prelude.{◌≡◌, ◌||◌, [], ◌∷◌, ◌+◌,
 ghost use Rattle.base.specs.Inner.Lowest.{first_below};
 ghost use Rattle.sheet.specs.Gathered.{gathered, no_mark};
 ghost use Rattle.sheet.specs.Limits.{max_patterns};
-ghost use Rattle.sheet.specs.Inner.Gathering.{pattern_of, fault_of, Takes, Judges, Adds, Ends};
+ghost use Rattle.sheet.specs.Inner.Gathering.{pattern_of, fault_of, Takes, Judges, Adds, Ends, TellsBlank};
 
 use crate::limits::{all_ones, patterns_of};
 use crate::{Command, LogicGate, Sheet};
@@ -162,7 +162,8 @@ impl Sheet {
 
     // The end, 00 being read up to a place: 4, 9, or the sheet stands.
     pub fn finish(self, to: usize, len: usize) -> Result<Sheet, Refusal>
-        ensures { Ends self to len result }
+        ensures verdict { Ends self to len result }
+        ensures blank { TellsBlank result }
     {
         if to < len {
             return Err(Refusal::at(Refusal::TRAILING, to));

@@ -14,7 +14,7 @@ returns-in_err-whole c before s e f g l =
     let a = c.args in
     let cs = before ++ a.c ∷ [] in
     let h = c.in_err-whole in
-    let ended : c.finish.result ≡ gathered_reply (ending s a.next.at cs) = c.finish.ensures cs s e (subst (λ (x : Reader). x.n ≤ max_inputs) f g) l in
+    let ended : c.finish.result ≡ gathered_reply (ending s a.next.at cs) = c.finish.ensures.verdict cs s e (subst (λ (x : Reader). x.n ≤ max_inputs) f g) l in
     passed_on c.from_residual.result h.field-0.0 c.from_residual.ensures.1
     ∙ follow_short cs a.c s a.next.at h.field-0.0 (sym c.is_end.ensures ∙ c.if-is_end.true) (sym ended ∙ h.was)
 
@@ -23,7 +23,7 @@ returns-then-is_end c before s e f g l =
     let a = c.args in
     let cs = before ++ a.c ∷ [] in
     let h = c.in_ok-whole in
-    let ended : c.finish.result ≡ gathered_reply (ending s a.next.at cs) = c.finish.ensures cs s e (subst (λ (x : Reader). x.n ≤ max_inputs) f g) l in
+    let ended : c.finish.result ≡ gathered_reply (ending s a.next.at cs) = c.finish.ensures.verdict cs s e (subst (λ (x : Reader). x.n ≤ max_inputs) f g) l in
     follow_end cs a.c s a.next.at h.whole (sym c.is_end.ensures ∙ c.if-is_end.true) (sym ended ∙ h.was)
 
 pub returns : goal.returns

@@ -1,14 +1,16 @@
 -- What the steps of the gathering give, where the sheet is what the commands before say.
 use Rattle.std.specs.Prelude.{ℕ, ◌≤◌, ◌≡◌, Bool, cond, List, [], ◌∷◌, ◌++◌, length}
-use Rattle.std.specs.Prelude.{Result, Ok, Err}
+use Rattle.std.specs.Prelude.{Result, Ok, Err, IfErr}
 use Rattle.base.specs.declared.Refusal.{Refusal}
 use Rattle.base.specs.Refusals.{refusal_at, no_signal, too_many}
+use Rattle.base.specs.Cases.{refused_case}
 use Rattle.sheet.specs.declared.Command.{Command}
 use Rattle.sheet.specs.declared.Command.TheVariants.{End, Sizes, Row, DontCare, Gate, Output, Limit}
 use Rattle.sheet.specs.declared.Sheet.{Sheet}
 use Rattle.sheet.specs.Limits.{max_inputs}
 use Rattle.sheet.specs.Commands.{is_empty, is_sizes, inputs_of}
 use Rattle.sheet.specs.Gathered.{gathered}
+use Rattle.sheet.specs.Cases.{SheetReply, sheet_reply}
 use Rattle.sheet.specs.Judged.{judged, ending, Reading, holds, refused}
 
 -- the pattern that a command names; 0 where it names none
@@ -46,3 +48,10 @@ Adds sheet c at r = (before : List Command) → sheet ≡ gathered before → is
 abbrev pub Ends : Sheet → ℕ → ℕ → Result Sheet Refusal → Type 0
 Ends sheet to len r =
     (before : List Command) (s : List ℕ) → sheet ≡ gathered before → inputs_of before ≤ max_inputs → len ≡ length s → r ≡ gathered_reply (ending s to before)
+
+-- a refusal writes nothing: it is told with the sheet that sizes of 0 alone make
+abbrev pub blank_reply : Refusal → SheetReply
+blank_reply f = record { sheet = gathered (Sizes 0 0 ∷ []); answer = refused_case f }
+
+abbrev pub TellsBlank : Result Sheet Refusal → Type 0
+TellsBlank r = IfErr r (λ f. sheet_reply r ≡ blank_reply f)
