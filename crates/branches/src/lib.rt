@@ -11,7 +11,7 @@ ghost use Rattle.branch_bound.specs.Boards.{board_of};
 ghost use Rattle.parts.specs.Inner.Boards.{lent_kind, lent_inputs, lent_wires};
 ghost use Rattle.visits.specs.Inner.States.{SameRest, Ran};
 ghost use Rattle.branches.specs.Inner.Parts.{Visitable, Splittable};
-ghost use Rattle.branches.specs.Inner.Split.{sets_before, masks_before, Driven};
+ghost use Rattle.branches.specs.Inner.Split.{Standing, Driven};
 
 use halves::remaking::{again, cut_at, lost_wires};
 use halves::tables::{begin_at, driven_on, restore, saved};
@@ -25,7 +25,7 @@ use table::picks::LENT;
 use visits::conflicts::first_open;
 use visits::states::{charge, keep, leave};
 
-// What a split reads of its pattern before either part is made: the pattern, its set and its row of the masks as they were, and the bits that the tables drive there.
+// What a split reads of its pattern before either part is made: the pattern, its set and its row of the masks as they stand, and the bits that the tables drive there.
 #[derive(Clone, Copy)]
 struct Pattern {
     p: u8,
@@ -68,12 +68,10 @@ pub fn visit(
     if u64::from(sum_of(cells)) < state.cells {
         split(e, sets, masks, state, low, cells, at, j, 1);
     }
-    put_row(masks, p, at.row);
-    sets[p as usize] = at.set;
 }
 
-// One part of a split, wire j at b: its masks are cut, the picks that no longer fit are made again, and it is visited where its cells stay below the best. The set and the row
-// of the pattern are left as they come. Put in line in both places: as a function of its own it is slower.
+// One part of a split, wire j at b: its masks are cut, the picks that no longer fit are made again, and it is visited where its cells stay below the best. Then the row and the
+// set of the pattern are put back. Put in line in both places: as a function of its own it is slower.
 #[cycle(split_visit)]
 #[inline(always)]
 fn split(
@@ -87,9 +85,9 @@ fn split(
     j: u8,
     b: u8,
 )
-    requires { Splittable e.now (sets_before sets.old at) (masks_before masks.old at) state.old low cells at.p j × Driven e.now (sets_before sets.old at) at × (b < 2) }
-    ensures { (sets_before sets.new at ≡ sets_before sets.old at) × (masks_before masks.new at ≡ masks_before masks.old at) × SameRest state.old state.new
-        × Ran (search_part (board_of (lent_kind e.now) (lent_inputs e.now) (lent_wires e.now)) state.old.budget (keep (of_sets (sets_before sets.old at)) at.p j b)) state.old state.new }
+    requires { Splittable e.now sets.old masks.old state.old low cells at.p j × Standing sets.old masks.old at × Driven e.now sets.old at × (b < 2) }
+    ensures { (sets.new ≡ sets.old) × (masks.new ≡ masks.old) × SameRest state.old state.new
+        × Ran (search_part (board_of (lent_kind e.now) (lent_inputs e.now) (lent_wires e.now)) state.old.budget (keep (of_sets sets.old) at.p j b)) state.old state.new }
 {
     let wide = is_wide(e[BOARD_PLACE] as u8);
     let rest = saved(wide, state);
@@ -102,4 +100,6 @@ fn split(
         visit(e, sets, masks, state, found.low, found.cells, from);
     }
     restore(wide, state, rest);
+    put_row(masks, at.p, at.row);
+    sets[at.p as usize] = at.set;
 }

@@ -3,15 +3,16 @@
 // left as it was.
 #![tactic(auto)]
 
+ghost use Rattle.std.specs.Prelude.{◌≤◌, length};
 ghost use Rattle.base.specs.Cases.{written_case};
 ghost use Rattle.quote.specs.Cases.{quote_reply, audited_case};
 ghost use Rattle.joined.specs.Cases.{joint_reply};
-ghost use Rattle.report.specs.Lines.{Printed, longest_report, longest_copy_line, lines_of, joint_lines, audit_line, copy_line};
+ghost use Rattle.report.specs.Lines.{Printed, longest_report, longest_word, longest_copy_line, lines_of, refusal_line, joint_lines, audit_line, copy_line};
 
 use base::Refusal;
 use clean::LONGEST_COPY;
 use diagram::LONGEST_WRITTEN;
-use joined::JointRefusal;
+use joined::{JointRefusal, unnamed};
 use line_parts::{put_refusal_line, put_shown_line};
 use lines::{put_judged, put_result};
 use quote::{AuditRefusal, Audited, Quoted};
@@ -54,12 +55,20 @@ pub fn report(q: Result<Quoted, Refusal>, stage: &[u8], out: &mut [u8]) -> usize
 pub fn report_joint(q: Result<Quoted, JointRefusal>, stage: &[u8], out: &mut [u8]) -> usize
     ensures { Printed longest_report (joint_lines (joint_reply q) stage.now) out.old out.new result }
 {
-    let mut page = Page::new(out);
     match q {
-        Ok(quoted) => put_result(&mut page, quoted, stage),
-        Err(JointRefusal::First(refusal)) => put_refusal_line(&mut page, b"first ", refusal),
-        Err(JointRefusal::Second(refusal)) => put_refusal_line(&mut page, b"second ", refusal),
+        Ok(_) => report(unnamed(q), stage, out),
+        Err(JointRefusal::First(refusal)) => report_refused(b"first ", refusal, out),
+        Err(JointRefusal::Second(refusal)) => report_refused(b"second ", refusal, out),
     }
+}
+
+// The line of a refusal, after the word for what is refused.
+fn report_refused(whose: &[u8], refusal: Refusal, out: &mut [u8]) -> usize
+    requires { length whose.now ≤ longest_word }
+    ensures { Printed longest_report (refusal_line whose.now refusal.number refusal.place) out.old out.new result }
+{
+    let mut page = Page::new(out);
+    put_refusal_line(&mut page, whose, refusal);
     page.place
 }
 
