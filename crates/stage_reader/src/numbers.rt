@@ -14,6 +14,7 @@ use crate::tables::select;
 use base::Refusal;
 use diagram::{FIRST_NUMBER, MOST_ENTRIES};
 use sheet::limits::count_out;
+use stage::SELECTOR_BYTES;
 use std::marker::Model;
 use table::tables::full_table;
 
@@ -35,13 +36,13 @@ impl Entry {
         ensures { MatchResult result (λ e. (at + selector_bytes ≤ length s.now) × (as_entry e ≡ entry_there s.now at))
             (λ f. (length s.now < at + selector_bytes) × (f ≡ refusal_at cut_short at)) }
     {
-        let input = operand(s, at, at)?;
-        let on_zero = operand(s, at + 1, at)?;
-        let on_one = operand(s, at + 2, at)?;
+        if s.len().saturating_sub(at) < SELECTOR_BYTES {
+            return Err(Refusal::at(Refusal::CUT_SHORT, at));
+        }
         Ok(Entry {
-            input,
-            on_zero,
-            on_one,
+            input: s[at],
+            on_zero: s[at + 1],
+            on_one: s[at + 2],
         })
     }
 
