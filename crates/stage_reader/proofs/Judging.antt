@@ -6,7 +6,7 @@ use Rattle.base.specs.Refusals.{out_of_range, no_signal, not_ascending}
 use Rattle.sheet.specs.Limits.{count_out}
 use Rattle.diagram.specs.Diagram.{next_number}
 use Rattle.diagram.specs.Read.{entry_refusal}
-use Rattle.stage_reader.specs.Inner.Numbers.{as_entry, no_number, entries_so_far, Told}
+use Rattle.stage_reader.specs.Inner.Numbers.{as_entry, no_entry, entries_so_far, Told}
 use Rattle.stage_reader.specs.declared.numbers.Entry.{Entry as EntryRead}
 use Rattle.stage_reader.specs.declared.numbers.Numbers.TheInside.{Inside}
 use Rattle.stage_reader.proofs.Numbering.{own_number}
@@ -26,10 +26,10 @@ module _ (x : Inside) (told : Told x) (e : EntryRead) where
 
     module _ (zero_there : e.on_zero < 2 + x.count) (one_there : e.on_one < 2 + x.count) where
       abbrev pub zero_input : ℕ
-      zero_input = (get_or x.all e.on_zero no_number).entry.input
+      zero_input = (get_or x.entries e.on_zero no_entry).input
 
       abbrev pub one_input : ℕ
-      one_input = (get_or x.all e.on_one no_number).entry.input
+      one_input = (get_or x.entries e.on_one no_entry).input
 
       lower : judgement ≡ cond (leb zero_input e.input || leb one_input e.input) not_ascending 0
       unfolding entry_refusal

@@ -18,16 +18,13 @@ use Rattle.stage.proofs.TreeTables.{table_of, table_lt}
 use Rattle.diagram.specs.Diagram.{Entry, diagram, next_number, input_at, follow_entry, FitsAfter, EntriesFit, most_entries, entry_price, entries_cells}
 use Rattle.diagram.specs.Diagrams.{diagram_drawing}
 use Rattle.diagram.proofs.Entries.{tree_of, follow_tree, diagram_ordered}
-use Rattle.stage_reader.specs.Inner.Numbers.{most_numbers, as_entry, no_number, entries_in, entries_so_far, Tells, TellsEach, Told}
+use Rattle.stage_reader.specs.Inner.Listed.{Listed}
+use Rattle.stage_reader.specs.Inner.Numbers.{most_numbers, as_entry, no_entry, entries_in, listed_in, entries_so_far, Tells, TellsEach, Told}
 use Rattle.stage_reader.specs.Inner.Tables.{select_of}
 use Rattle.stage_reader.specs.declared.numbers.Entry.{Entry as EntryRead}
-use Rattle.stage_reader.specs.declared.numbers.Number.{Number}
 use Rattle.stage_reader.specs.declared.numbers.Numbers.TheInside.{Inside}
 use Rattle.stage_reader.proofs.Selecting.{table_zero, table_one, table_select}
 use Rattle.stage_reader.proofs.Counts.{entries_few}
-
-abbrev pub number : ℕ → EntryRead → Number
-number t e = record { table = t; entry = e }
 
 -- what a number drives is what its tree drives
 number_table : (n : ℕ) (es : List Entry) (x : ℕ) → drawn_table diagram_drawing n (diagram es x) ≡ table_of n (tree_of es x)
@@ -36,24 +33,29 @@ number_table n es x =
     sum_cong (2 ^ n) (λ p. follow_entry n p es x * 2 ^ p) (λ p. follow n p (tree_of es x) * 2 ^ p) (λ p _. ap (λ v. v * 2 ^ p) (follow_tree n p es x))
 
 -- the constants, before any entry
-pub constants_tell : (n t : ℕ) (e : EntryRead) → e.input ≡ n + 1 → t ≡ full n → TellsEach n [] (set (replicate most_numbers (number 0 e)) 1 (number t e))
+pub constants_tell : (n t : ℕ) (e : EntryRead) → e.input ≡ n + 1 → t ≡ full n
+    → TellsEach n [] (set (replicate most_numbers 0) 1 t) (set (set (replicate most_numbers no_entry) 0 e) 1 e)
 unfolding input_at tree_of
 constants_tell n t e i f zero l = record { table = sym (number_table n [] 0 ∙ table_zero n); input = i ∙ omega arith }
 constants_tell n t e i f (suc zero) l = record { table = f ∙ table_one n ∙ sym (number_table n [] 1); input = i ∙ omega arith }
 constants_tell n t e i f (suc (suc x)) l = absurd (omega arith)
 
--- the entries are as many as are counted, and a number behind them changes none
-pub entries_length : (all : List Number) (k : ℕ) → length (entries_in all k) ≡ k
+-- the entries are as many as are counted, and one behind them changes none
+entries_length : (all : List EntryRead) (k : ℕ) → length (entries_in all k) ≡ k
 unfolding entries_in
 entries_length all zero = refl
 entries_length all (suc k) = ap suc (entries_length all k)
 
-entries_kept : (all : List Number) (at : ℕ) (v : Number) (k : ℕ) → k + 2 ≤ at → entries_in (set all at v) k ≡ entries_in all k
+entries_kept : (all : List EntryRead) (at : ℕ) (v : EntryRead) (k : ℕ) → k + 2 ≤ at → entries_in (set all at v) k ≡ entries_in all k
 unfolding entries_in
 entries_kept all at v zero h = refl
 entries_kept all at v (suc k) h =
     let other : k + 2 ≡ at → ⊥ = λ e. absurd (omega arith) in
-    ap₂ ◌∷◌ (ap (λ (w : Number). as_entry w.entry) (get_or-set_other all at (k + 2) v no_number other)) (entries_kept all at v k (omega arith))
+    ap₂ ◌∷◌ (ap as_entry (get_or-set_other all at (k + 2) v no_entry other)) (entries_kept all at v k (omega arith))
+
+-- where fewer are told than a wire can have, fewer are counted
+pub room_left : (x : Inside) (l : Listed) → listed_in x ≡ l → length l.entries < most_entries → x.count < most_entries
+room_left x l is few = omega (arith, few, entries_length x.entries x.count, ap (λ (k : Listed). length k.entries) is)
 
 -- the entry that follows: its own number, and every other
 module _ (n : ℕ) (es : List Entry) (e : Entry) where
@@ -76,34 +78,41 @@ module _ (n : ℕ) (es : List Entry) (e : Entry) where
 -- the numbers as they are told
 module _ (x : Inside) (told : Told x) where
   pub own_number : next_number (entries_so_far x) ≡ 2 + x.count
-  own_number = omega (arith, entries_length x.all x.count)
+  own_number = omega (arith, entries_length x.entries x.count)
 
   pub cells_most : x.cells ≤ x.count
-  cells_most = omega (arith, told.counted, entries_few (entries_so_far x), entries_length x.all x.count)
+  cells_most = omega (arith, told.counted, entries_few (entries_so_far x), entries_length x.entries x.count)
 
   number_ordered : (k : ℕ) → k < next_number (entries_so_far x) → Ordered x.n 0 (tree_of (entries_so_far x) k)
   number_ordered k l =
-      let length_is = entries_length x.all x.count in
+      let length_is = entries_length x.entries x.count in
       diagram_ordered x.n (diagram (entries_so_far x) k) (record { few = omega (arith, told.few); fit = told.fit; top_there = omega arith })
 
-  pub number_fits : (k : ℕ) → k < next_number (entries_so_far x) → (get_or x.all k no_number).table < 2 ^ (2 ^ x.n)
+  pub number_fits : (k : ℕ) → k < next_number (entries_so_far x) → get_or x.tables k 0 < 2 ^ (2 ^ x.n)
   number_fits k l =
       rw ((told.tell k l).table ∙ number_table x.n (entries_so_far x) k) (table_lt x.n 0 (tree_of (entries_so_far x) k) (number_ordered k l))
 
   -- one entry more
-  module _ (e : EntryRead) (t : ℕ) (fits : FitsAfter x.n (entries_so_far x) (as_entry e)) (room : x.count < most_entries) (long : length x.all ≡ most_numbers)
-      (drives : t ≡ select_of x.n e.input (get_or x.all e.on_zero no_number).table (get_or x.all e.on_one no_number).table) where
-    abbrev pub more : List Number
-    more = set x.all (2 + x.count) (number t e)
+  module _ (e : EntryRead) (t : ℕ) (fits : FitsAfter x.n (entries_so_far x) (as_entry e)) (room : x.count < most_entries)
+      (tables_long : length x.tables ≡ most_numbers) (long : length x.entries ≡ most_numbers)
+      (drives : t ≡ select_of x.n e.input (get_or x.tables e.on_zero 0) (get_or x.tables e.on_one 0)) where
+    abbrev pub more_tables : List ℕ
+    more_tables = set x.tables (2 + x.count) t
 
-    latest : get_or more (2 + x.count) no_number ≡ number t e
-    latest = get_or-set_same x.all (2 + x.count) (number t e) no_number (omega arith)
+    abbrev pub more : List EntryRead
+    more = set x.entries (2 + x.count) e
+
+    own_table : get_or more_tables (2 + x.count) 0 ≡ t
+    own_table = get_or-set_same x.tables (2 + x.count) t 0 (omega arith)
+
+    latest : get_or more (2 + x.count) no_entry ≡ e
+    latest = get_or-set_same x.entries (2 + x.count) e no_entry (omega arith)
 
     pub entries_more : entries_in more (x.count + 1) ≡ as_entry e ∷ entries_so_far x
     unfolding entries_in
     entries_more =
         let own : x.count + 2 ≡ 2 + x.count = omega arith in
-        rw (add-one x.count, own, latest) (ap (λ es. as_entry e ∷ es) (entries_kept x.all (2 + x.count) (number t e) x.count (omega arith)))
+        rw (add-one x.count, own, latest) (ap (λ es. as_entry e ∷ es) (entries_kept x.entries (2 + x.count) e x.count (omega arith)))
 
     latest_table : t ≡ drawn_table diagram_drawing x.n (diagram (as_entry e ∷ entries_so_far x) (next_number (entries_so_far x)))
     latest_table =
@@ -118,27 +127,27 @@ module _ (x : Inside) (told : Told x) where
         ∙ ap (table_of x.n) (sym (latest_tree x.n es (as_entry e)))
         ∙ sym (number_table x.n (as_entry e ∷ es) (next_number es))
 
-    tell_more : TellsEach x.n (as_entry e ∷ entries_so_far x) more
+    tell_more : TellsEach x.n (as_entry e ∷ entries_so_far x) more_tables more
     tell_more k h =
         let n = x.n in
         let es = entries_so_far x in
         ⊎_elim
         (λ (same : k ≡ next_number es).
-        let own : Tells n (as_entry e ∷ es) (next_number es) (get_or more (2 + x.count) no_number) =
-        rw latest (record { table = latest_table; input = sym (latest_input n es (as_entry e)) }) in
-        rw same (subst (λ (j : ℕ). Tells n (as_entry e ∷ es) (next_number es) (get_or more j no_number)) (sym own_number) own))
+        let own : Tells n (as_entry e ∷ es) (next_number es) (get_or more_tables (2 + x.count) 0) (get_or more (2 + x.count) no_entry) =
+        rw (own_table, latest) (record { table = latest_table; input = sym (latest_input n es (as_entry e)) }) in
+        rw same (subst (λ (j : ℕ). Tells n (as_entry e ∷ es) (next_number es) (get_or more_tables j 0) (get_or more j no_entry)) (sym own_number) own))
         (λ lower.
         let other : k ≡ next_number es → ⊥ = λ d. omega (arith, d, lower) in
         let past : k ≡ 2 + x.count → ⊥ = λ d. omega (arith, d, lower, own_number) in
         let v = told.tell k lower in
-        rw (get_or-set_other x.all (2 + x.count) k (number t e) no_number past)
+        rw (get_or-set_other x.tables (2 + x.count) k t 0 past, get_or-set_other x.entries (2 + x.count) k e no_entry past)
         (record {
           table = v.table ∙ number_table n es k ∙ ap (table_of n) (sym (earlier_tree n es (as_entry e) k other)) ∙ sym (number_table n (as_entry e ∷ es) k);
           input = v.input ∙ sym (earlier_input n es (as_entry e) k other);
         }))
         (below_suc {k = next_number es} (omega arith))
 
-    pub told_more : (price : ℕ) → price ≡ entry_price (as_entry e) → Told (record { n = x.n; count = x.count + 1; cells = x.cells + price; all = more })
+    pub told_more : (price : ℕ) → price ≡ entry_price (as_entry e) → Told (record { n = x.n; count = x.count + 1; cells = x.cells + price; tables = more_tables; entries = more })
     unfolding EntriesFit entries_cells
     told_more price p =
         record {

@@ -14,6 +14,7 @@ use crate::tables::select;
 use base::Refusal;
 use diagram::{FIRST_NUMBER, MOST_ENTRIES};
 use sheet::limits::count_out;
+use stage::SELECTOR_BYTES;
 use std::marker::Model;
 use table::tables::full_table;
 
@@ -35,13 +36,13 @@ impl Entry {
         ensures { MatchResult result (λ e. (at + selector_bytes ≤ length s.now) × (as_entry e ≡ entry_there s.now at))
             (λ f. (length s.now < at + selector_bytes) × (f ≡ refusal_at cut_short at)) }
     {
-        let input = operand(s, at, at)?;
-        let on_zero = operand(s, at + 1, at)?;
-        let on_one = operand(s, at + 2, at)?;
+        if s.len().saturating_sub(at) < SELECTOR_BYTES {
+            return Err(Refusal::at(Refusal::CUT_SHORT, at));
+        }
         Ok(Entry {
-            input,
-            on_zero,
-            on_one,
+            input: s[at],
+            on_zero: s[at + 1],
+            on_one: s[at + 2],
         })
     }
 
@@ -56,20 +57,15 @@ impl Entry {
     }
 }
 
-// An entry with the table that it drives. A constant has a table as well, but no entry: it tests no input, and so stands for one after all inputs.
-#[derive(Clone, Copy)]
-struct Number {
-    table: u64,
-    entry: Entry,
-}
-
-// The numbers of a wire of n inputs so far: those of the two constants and of the entries that were read, with the cells of these.
+// The numbers of a wire of n inputs so far: those of the two constants and of the entries that were read, with the cells of these. At a number stand the table
+// that it drives and its entry. Tables and entries are two arrays, since blanks are then zeros, and are cleared in one stroke for each wire.
 #[derive(Drop)]
 pub struct Numbers {
     n: u8,
     count: u8,
     cells: u16,
-    all: [Number; NUMBERS],
+    tables: [u64; NUMBERS],
+    entries: [Entry; NUMBERS],
 }
 
 // Clauses see the entries.
@@ -90,24 +86,32 @@ impl Numbers {
     ghost use Rattle.stage_reader.specs.Inner.Numbers.{as_entry};
     ghost use Rattle.stage_reader.specs.Inner.Wires.{wire_reply, step_of};
 
-    // The numbers of the constants.
+    // The numbers of the constants. A constant has a table but no entry: it tests no input, and so stands for one after all inputs.
     pub fn constants(n: u8) -> Numbers
         requires { n ≤ max_inputs }
         ensures { result ≡ listed n [] }
     {
-        let entry = Entry {
+        let mut tables = [0u64; NUMBERS];
+        tables[1] = full_table(n);
+        let blank = Entry {
+            input: 0,
+            on_zero: 0,
+            on_one: 0,
+        };
+        let mut entries = [blank; NUMBERS];
+        let after_all = Entry {
             input: n + 1,
             on_zero: 0,
             on_one: 0,
         };
-        let mut all = [Number { table: 0, entry }; NUMBERS];
-        let table = full_table(n);
-        all[1] = Number { table, entry };
+        entries[0] = after_all;
+        entries[1] = after_all;
         Numbers {
             n,
             count: 0,
             cells: 0,
-            all,
+            tables,
+            entries,
         }
     }
 
@@ -122,9 +126,9 @@ impl Numbers {
         if own <= entry.on_zero || own <= entry.on_one {
             return Err(Refusal::at(Refusal::NO_SIGNAL, at));
         }
-        let zero = self.all[entry.on_zero as usize];
-        let one = self.all[entry.on_one as usize];
-        if zero.entry.input <= entry.input || one.entry.input <= entry.input {
+        let zero = self.entries[entry.on_zero as usize];
+        let one = self.entries[entry.on_one as usize];
+        if zero.input <= entry.input || one.input <= entry.input {
             return Err(Refusal::at(Refusal::NOT_ASCENDING, at));
         }
         Ok(())
@@ -135,11 +139,12 @@ impl Numbers {
         requires { (length self.old.entries < most_entries) × FitsAfter self.old.inputs self.old.entries (as_entry entry) }
         ensures { self.new ≡ listed self.old.inputs (as_entry entry ∷ self.old.entries) }
     {
-        let off = self.all[entry.on_zero as usize].table;
-        let on = self.all[entry.on_one as usize].table;
+        let off = self.tables[entry.on_zero as usize];
+        let on = self.tables[entry.on_one as usize];
         let table = select(self.n, entry.input, off, on);
         let own = FIRST_NUMBER + self.count;
-        self.all[own as usize] = Number { table, entry };
+        self.tables[own as usize] = table;
+        self.entries[own as usize] = entry;
         self.count += 1;
         let price = entry.price();
         self.cells += price;
@@ -154,7 +159,7 @@ impl Numbers {
             return Err(Refusal::at(Refusal::NO_SIGNAL, at));
         }
         Ok(Wire {
-            table: self.all[top as usize].table,
+            table: self.tables[top as usize],
             cells: self.cells,
             next: at + 1,
         })

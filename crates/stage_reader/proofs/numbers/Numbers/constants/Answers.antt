@@ -13,7 +13,7 @@ invariant_of-result c =
       small = c.requires;
       few = omega arith;
       fit = tt;
-      tell = constants_tell a.n c.full_table-table.result _ refl c.full_table-table.ensures;
+      tell = constants_tell a.n c.full_table.result _ refl c.full_table.ensures;
       counted = refl;
     }
 
