@@ -1,12 +1,15 @@
 -- What is gathered, field by field, in terms of the commands.
 use Prim.Native.Nat.{ℕ, ◌<◌, ◌≤◌, ◌^◌}
-use mathlib.Core.Path.{◌≡◌, refl, ◌∙◌}
+use mathlib.Core.Path.{◌≡◌, refl, sym, ◌∙◌}
 use mathlib.Core.Bool.{Bool, true, false, cond, not, ◌||◌}
 use mathlib.Core.List.{List, [], ◌∷◌}
 use native.Mathlib.Omega.{arith}
 use lib.Dec.{eqb}
 use Rattle.sheet.specs.Limits.{max_inputs, max_patterns, max_gates, max_outputs}
 use lib.ListN.{length, get_or}
+use Rattle.std.specs.Prelude.{Err}
+use Rattle.base.specs.declared.Refusal.{Refusal}
+use Rattle.sheet.specs.Cases.{sheet_reply}
 use Rattle.sheet.specs.declared.Command.{Command}
 use Rattle.sheet.specs.declared.Command.TheVariants.{Sizes}
 use Rattle.sheet.specs.Commands.{no_gate, collect, inputs_of, wires_of, is_marked, is_dont_care, has_row, gates_of, outputs_of, rows_on, dont_cares_on}
@@ -18,6 +21,10 @@ use Rattle.sheet.proofs.Sizes.{pattern_place}
 pub nothing : gathered (Sizes 0 0 ∷ []) ≡ gathered []
 unfolding gathered tabulate meet collect
 nothing = refl
+
+-- a refusal hands back a sheet of no sizes
+pub refused_blank : (f : Refusal) → (sheet_reply (Err f)).sheet ≡ gathered (Sizes 0 0 ∷ [])
+refused_blank f = sym nothing
 
 module _ (cs : List Command) where
   pub inputs_field : (gathered cs).n ≡ inputs_of cs
