@@ -36,7 +36,7 @@ impl Entry {
         ensures { MatchResult result (λ e. (at + selector_bytes ≤ length s.now) × (as_entry e ≡ entry_there s.now at))
             (λ f. (length s.now < at + selector_bytes) × (f ≡ refusal_at cut_short at)) }
     {
-        if s.len().saturating_sub(at) < SELECTOR_BYTES {
+        if s.len() < SELECTOR_BYTES || s.len() - SELECTOR_BYTES < at {
             return Err(Refusal::at(Refusal::CUT_SHORT, at));
         }
         Ok(Entry {
