@@ -1,11 +1,9 @@
 -- Laws of listed nodes as they lie in an array.
-use Rattle.std.proofs.Common.{◌≡◌, ℕ, ◌+◌, ◌^◌, ◌<◌, ◌≤◌, Bool, true, false, cond, not, ◌||◌, eqb, List, [], ◌∷◌, ◌++◌, map, reverse, length, get_or, take, refl, ap, ◌∙◌, arith, add-one}
+use Rattle.std.proofs.Common.{◌≡◌, ℕ, ◌+◌, ◌<◌, Bool, true, false, cond, not, ◌||◌, eqb, List, [], ◌∷◌, ◌++◌, map, reverse, length, get_or, take, refl, ap, ◌∙◌, arith, add-one}
 use mathlib.Core.List.{reverse-append}
-use lib.Pow.{pow_mono}
 use lib.Seq.{take-suc}
 use borrow.Author.Tests.{ne_eqb}
 use Rattle.std.proofs.lemmas.List.{length-map, length-reverse}
-use Rattle.sheet.specs.Limits.{max_shared_inputs}
 use Rattle.nodes.specs.Nodes.{Node, same, has}
 use Rattle.diagram.specs.Written.{node_number}
 use Rattle.stage_writer.specs.Inner.Listed.{as_node, no_node, nodes_of}
@@ -20,10 +18,6 @@ nodes_push ks k = ap (map as_node) (reverse-append ks (k ∷ []))
 
 pub nodes_more : (ks : List NodeKept) (i : ℕ) → i < length ks → nodes_of (take (i + 1) ks) ≡ as_node (get_or ks i no_node) ∷ nodes_of (take i ks)
 nodes_more ks i h = rw (add-one i, take-suc ks i no_node h) (nodes_push (take i ks) (get_or ks i no_node))
-
--- where none is listed the nodes of a table have room
-pub empty_room : (n : ℕ) (ks : List Node) → n ≤ max_shared_inputs → ks ≡ [] → length ks + 2 ^ n ≤ 2 ^ max_shared_inputs
-empty_room n ks h none = rw none (omega (arith, pow_mono {i = n} {j = max_shared_inputs} h))
 
 -- a node is listed if it has a number
 pub has_number : (ks : List Node) (k : Node) → has ks k ≡ not (eqb (node_number ks k) 0)

@@ -17,8 +17,7 @@ pub fn entry_count(n: u8, t: u64) -> u8
     requires { n ≤ max_shared_inputs }
     ensures { (result ≡ length (listing n t [])) × (result ≤ most_nodes) }
 {
-    let mut listing = Listing::empty();
-    listing.list(n, t);
+    let listing = Listing::of_table(n, t);
     listing.nodes().len() as u8
 }
 
@@ -51,8 +50,7 @@ pub fn put_diagram_wire(buffer: &mut [u8], at: usize, n: u8, j: u8, t: u64) -> u
     requires { (n ≤ max_shared_inputs) × (t < 2 ^ (2 ^ n)) × (at + length (diagram_wire_bytes j (reduced_diagram n t)) ≤ longest_written) }
     ensures { Put buffer.old at (diagram_wire_bytes j (reduced_diagram n t)) buffer.new result }
 {
-    let mut listing = Listing::empty();
-    listing.list(n, t);
+    let listing = Listing::of_table(n, t);
     let nodes = listing.nodes();
     let entries_at = put_bytes(buffer, at, &[0x26, j, nodes.len() as u8]);
     let top_at = put_entries(buffer, entries_at, nodes, n);

@@ -68,7 +68,7 @@ impl Model for Listing {
 }
 
 impl Listing {
-    pub fn empty() -> Listing
+    fn empty() -> Listing
         ensures { result ≡ [] }
     {
         let blank = Node { after: 0, table: 0 };
@@ -76,6 +76,16 @@ impl Listing {
             nodes: [blank; MOST_NODES],
             count: 0,
         }
+    }
+
+    // All nodes of a table of n inputs.
+    pub fn of_table(n: u8, t: u64) -> Listing
+        requires { n ≤ max_shared_inputs }
+        ensures { result ≡ listing n t [] }
+    {
+        let mut all = Listing::empty();
+        all.list(n, t);
+        all
     }
 
     // The nodes in their order.
@@ -96,7 +106,7 @@ impl Listing {
 
     // Lists the nodes of a table of w inputs that are not listed yet: fewer than the table has patterns. The half for 0 comes first, and the table itself after
     // both halves. Where it is listed its halves are too, so nothing is left to do.
-    pub fn list(&mut self, w: u8, t: u64)
+    fn list(&mut self, w: u8, t: u64)
         requires { (w ≤ max_shared_inputs) × (length self.old + 2 ^ w ≤ 2 ^ max_shared_inputs) }
         ensures { (self.new ≡ listing w t self.old) × (length self.new < length self.old + 2 ^ w) }
     {

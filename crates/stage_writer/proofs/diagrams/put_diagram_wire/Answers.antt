@@ -2,26 +2,21 @@
 use Rattle.std.proofs.Common.{◌≡◌, [], refl, ◌∙◌, arith}
 use Rattle.nodes.specs.Nodes.{listing}
 use Rattle.stage_writer.specs.Inner.Listed.{nodes_of}
-use Rattle.stage_writer.proofs.Nodes.{empty_room}
 use Rattle.stage_writer.proofs.Entries.{entries_bytes_lem, listed_nodes, wire_bytes_lem, diagram_stored}
 use Rattle.stage_writer.proofs.diagrams.put_diagram_wire.Goals as goal
-
--- the listing is empty, so that all nodes of a table have room in it
-pub list-requires : goal.list-requires
-list-requires c = (c.requires.0, empty_room _ _ c.requires.0 c.empty-listing.ensures)
 
 -- there is room for the head and for the entries
 pub put_bytes-entries_at-requires : goal.put_bytes-entries_at-requires
 put_bytes-entries_at-requires c =
     let a = c.args in
-    let nodes = c.nodes-nodes.ensures.0 ∙ rw c.empty-listing.ensures at c.list.ensures.0 in
+    let nodes = c.nodes-nodes.ensures.0 ∙ c.of_table-listing.ensures in
     omega (arith, wire_bytes_lem a.n a.t a.j c.nodes-nodes.result.now nodes)
 
 pub put_entries-top_at-requires : goal.put_entries-top_at-requires
 put_entries-top_at-requires c =
     let a = c.args in
     let ks = c.nodes-nodes.result.now in
-    let nodes : nodes_of ks ≡ listing a.n a.t [] = c.nodes-nodes.ensures.0 ∙ rw c.empty-listing.ensures at c.list.ensures.0 in (
+    let nodes : nodes_of ks ≡ listing a.n a.t [] = c.nodes-nodes.ensures.0 ∙ c.of_table-listing.ensures in (
       c.nodes-nodes.ensures.1,
       c.requires.0,
       listed_nodes a.n a.t ks c.requires.1 nodes,
@@ -32,7 +27,7 @@ pub put_bytes-requires : goal.put_bytes-requires
 put_bytes-requires c =
     let a = c.args in
     let ks = c.nodes-nodes.result.now in
-    let nodes : nodes_of ks ≡ listing a.n a.t [] = c.nodes-nodes.ensures.0 ∙ rw c.empty-listing.ensures at c.list.ensures.0 in
+    let nodes : nodes_of ks ≡ listing a.n a.t [] = c.nodes-nodes.ensures.0 ∙ c.of_table-listing.ensures in
     omega (
       arith,
       c.put_entries-top_at.ensures.past,
@@ -45,5 +40,5 @@ pub returns : goal.returns
 returns c =
     let a = c.args in
     let ks = c.nodes-nodes.result.now in
-    let nodes : nodes_of ks ≡ listing a.n a.t [] = c.nodes-nodes.ensures.0 ∙ rw c.empty-listing.ensures at c.list.ensures.0 in
+    let nodes : nodes_of ks ≡ listing a.n a.t [] = c.nodes-nodes.ensures.0 ∙ c.of_table-listing.ensures in
     diagram_stored a.n a.t a.j ks _ _ nodes refl c.put_bytes-entries_at.ensures c.put_entries-top_at.ensures c.number_of-top.ensures c.put_bytes.ensures
