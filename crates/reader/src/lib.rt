@@ -35,8 +35,6 @@ fn is_end(c: Command) -> bool
 }
 
 // A command was gathered: on with the next one, unless it was the end.
-// This and `take_turn` are put in line: as functions of their own they hand the sheet on by copies, and a long sheet is read more slowly by half.
-#[inline(always)]
 fn lead_on(sheet: Sheet, c: Command, next: Reader, len: usize) -> Result<Turn, Refusal>
     ensures { Follows sheet c next len result }
 {
@@ -54,7 +52,6 @@ fn lead_on(sheet: Sheet, c: Command, next: Reader, len: usize) -> Result<Turn, R
 }
 
 // One command, read and judged.
-#[inline(always)]
 fn take_turn(sheet: Sheet, reader: Reader, s: &[u8]) -> Result<Turn, Refusal>
     requires { reader.n ≤ max_inputs }
     ensures { Turns s.now sheet reader result }
