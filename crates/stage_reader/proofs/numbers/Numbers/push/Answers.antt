@@ -11,8 +11,13 @@ pub select-table-requires : goal.select-table-requires
 select-table-requires c =
     let x = c.self.inside in
     let t = c.self.invariant in
-    let fits : FitsAfter x.n (entries_so_far x) (as_entry c.args.entry) = rw (← c.self.view_is) at c.requires.1 in
-    (fits.least, fits.most, t.small, number_fits x t _ fits.zero_lower, number_fits x t _ fits.one_lower)
+    let fits : FitsAfter x.n (entries_so_far x) (as_entry c.args.entry) = rw (← c.self.view_is) at c.requires.1 in (
+      fits.least,
+      fits.most,
+      t.small,
+      number_fits x t _ (omega (arith, fits.zero_lower, fits.one_lower)),
+      number_fits x t _ (omega (arith, fits.zero_lower, fits.one_lower)),
+    )
 
 pub bounds-self-inside-own : goal.bounds-self-inside-own
 bounds-self-inside-own c = omega (arith, room_left c.self.inside _ c.self.view_is c.requires.0)
