@@ -15,14 +15,17 @@ few v p l e =
 half_is : (v p : ℕ) → v < max_inputs → p ≡ 2 ^ v → (1 * 2 ^ p) % 2 ^ max_patterns ≡ 2 ^ (2 ^ v)
 half_is v p l e = one_shifted p max_patterns (few v p l e) ∙ ap (λ k. 2 ^ k) e
 
+some_power : (k p : ℕ) → k ≡ 2 ^ p → 0 < k
+some_power k p e = rw e (pow_pos p)
+
 pub overflow_shl-half : goal.overflow_shl-half
 overflow_shl-half c = few c.args.v c.patterns_of.result c.requires (c.patterns_of.ensures.2 (omega arith))
 
 pub nonzero_rem-result : goal.nonzero_rem-result
-nonzero_rem-result c = rw (half_is c.args.v c.patterns_of.result c.requires (c.patterns_of.ensures.2 (omega arith))) (pow_pos (2 ^ c.args.v))
+nonzero_rem-result c = some_power _ (2 ^ c.args.v) (half_is c.args.v c.patterns_of.result c.requires (c.patterns_of.ensures.2 (omega arith)))
 
 pub nonzero_div-result : goal.nonzero_div-result
-nonzero_div-result c = rw (half_is c.args.v c.patterns_of.result c.requires (c.patterns_of.ensures.2 (omega arith))) (pow_pos (2 ^ c.args.v))
+nonzero_div-result c = some_power _ (2 ^ c.args.v) (half_is c.args.v c.patterns_of.result c.requires (c.patterns_of.ensures.2 (omega arith)))
 
 pub returns : goal.returns
 unfolding low high
