@@ -1,6 +1,6 @@
 -- The case of a joint quote's mark, or of the refusal in its place, tells which it is; and what is told of a joint quote, or of the refusal in its place, tells that.
 use Prim.Native.Nat.{ℕ}
-use mathlib.Core.Path.{◌≡◌, refl}
+use mathlib.Core.Path.{◌≡◌, refl, sym, ◌∙◌}
 use mathlib.Core.Bool.{cond}
 use lib.Dec.{eqb}
 use Rattle.std.specs.Prelude.{Result, Ok, Err}
@@ -53,3 +53,15 @@ joint_undo (Err (Second f)) = refl
 
 pub joint_one : (a b : Result Quoted JointRefusal) → joint_reply a ≡ joint_reply b → a ≡ b
 joint_one = told_one joint_reply joint_back joint_undo
+
+-- and its mark alone, or the refusal in its place, is told by the mark of what is told
+abbrev pub joint_mark : Result Quoted JointRefusal → Result Mark JointRefusal
+joint_mark (Ok q) = Ok q.mark
+joint_mark (Err f) = Err f
+
+joint_marked_told : (a : Result Quoted JointRefusal) → (joint_reply a).mark ≡ joint_marked (joint_mark a)
+joint_marked_told (Ok q) = refl
+joint_marked_told (Err f) = refl
+
+pub joint_reply_mark_one : (a b : Result Quoted JointRefusal) → (joint_reply a).mark ≡ (joint_reply b).mark → joint_mark a ≡ joint_mark b
+joint_reply_mark_one a b e = joint_mark_one (joint_mark a) (joint_mark b) (sym (joint_marked_told a) ∙ e ∙ joint_marked_told b)

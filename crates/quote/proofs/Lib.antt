@@ -9,3 +9,4 @@ pub mod Auditing
 pub mod Agreeing
 pub mod Cases
 pub mod Rows
+pub mod Verdicts

@@ -54,6 +54,17 @@ fn put_quoted(page: &mut Page, quoted: Quoted, buffer: &[u8])
     put_shown(page, buffer, quoted.length, LONGEST_WRITTEN);
 }
 
+// The reply of a quote.
+fn put_quote_reply(page: &mut Page, reply: Result<Quoted, Refusal>, buffer: &[u8])
+    requires { HasRoom longest_reply page.old }
+    ensures { AddsAtMost longest_reply page.old page.new }
+{
+    match reply {
+        Ok(quoted) => put_quoted(page, quoted, buffer),
+        Err(refusal) => put_refused(page, b"", refusal, buffer),
+    }
+}
+
 // The bytes of a buffer that is to be lent, told by a number of two bytes.
 fn room_at(record: &[u8], at: usize) -> usize
     requires { at + 2 ≤ last_place }
@@ -72,10 +83,8 @@ fn put_quote(page: &mut Page, kind: BoardKind, record: &[u8])
     let sheet = part(record, 9, length_at(record, 7));
     let mut space = [FILL; MOST_ROOM];
     let buffer: &mut [u8] = &mut space[..room];
-    match quote::quote_on(kind, sheet, budget, buffer) {
-        Ok(quoted) => put_quoted(page, quoted, buffer),
-        Err(refusal) => put_refused(page, b"", refusal, buffer),
-    }
+    let reply = quote::quote_on(kind, sheet, budget, buffer);
+    put_quote_reply(page, reply, buffer);
 }
 
 // The line of a stage that was judged: the word of the judgement, and the stage's cells.
@@ -204,8 +213,9 @@ fn put_joined(page: &mut Page, record: &[u8])
     let second = part(record, 11 + first_length, length_at(record, 9));
     let mut space = [FILL; MOST_ROOM];
     let buffer: &mut [u8] = &mut space[..room];
-    match joined::quote_joined(first, second, budget, buffer) {
-        Ok(quoted) => put_quoted(page, quoted, buffer),
+    let reply = joined::quote_joined(first, second, budget, buffer);
+    match reply {
+        Ok(_) => put_quote_reply(page, joined::unnamed(reply), buffer),
         Err(JointRefusal::First(refusal)) => put_refused(page, b"first ", refusal, buffer),
         Err(JointRefusal::Second(refusal)) => put_refused(page, b"second ", refusal, buffer),
     }
